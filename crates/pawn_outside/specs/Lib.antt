@@ -1,0 +1,7 @@
+pub mod Answers
+pub mod Held
+pub mod MemoryFiles
+pub mod MemorySink
+pub mod Rose
+pub mod Schedule
+pub mod Taken

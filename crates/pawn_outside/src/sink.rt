@@ -1,0 +1,36 @@
+ghost use Rattle.std.specs.Prelude.{◌≡◌, ◌≤◌, ◌+◌, ℕ, List, length};
+
+/// What a write answers.
+#[derive(Clone, Copy, Debug, PartialEq, Eq)]
+pub enum WriteAnswer {
+    /// All the bytes were taken.
+    Taken,
+    /// The sink failed, and its count of faults rose. It may have taken a prefix of the bytes.
+    Failed,
+}
+
+/// What takes the bytes that a program writes.
+pub trait Sink {
+    ghost use Rattle.std.specs.declared.option.Option.{Option};
+    ghost use Rattle.pawn_outside.specs.Answers.{IsWrite};
+    ghost use Rattle.pawn_outside.specs.Rose.{Rose};
+
+    /// The bytes taken so far, where the object tells them.
+    ghost taken: { Self → Option (List ℕ) };
+
+    /// How often the sink failed. It never falls, and stands still at the greatest u64.
+    ghost faults: { Self → ℕ };
+
+    /// The next so many bytes will be taken, in however many writes.
+    ghost has_room: { Self → ℕ → Type 0 };
+
+    /// Writes bytes behind those taken.
+    fn write(&mut self, bytes: &[u8]) -> WriteAnswer
+        ensures answer { IsWrite (taken self.old) bytes.now result (taken self.new) }
+
+        // Failed comes only where the count rose, and never where there is room.
+        ensures later { faults self.old ≤ faults self.new }
+        ensures cause { result ≡ WriteAnswer.Failed → Rose (faults self.old) (faults self.new) }
+        ensures unfailing { (rest : ℕ) → has_room self.old (length bytes.now + rest) →
+            has_room self.new rest × (result ≡ WriteAnswer.Taken) };
+}
