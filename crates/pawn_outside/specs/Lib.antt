@@ -3,5 +3,6 @@ pub mod Held
 pub mod MemoryFiles
 pub mod MemorySink
 pub mod Rose
+pub mod Said
 pub mod Schedule
 pub mod Taken

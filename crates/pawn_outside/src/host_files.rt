@@ -1,18 +1,31 @@
+ghost use Rattle.std.specs.Prelude.{◌≡◌};
+
 use super::files::{Files, PutAnswer, ReadAnswer};
 use pawn_base::Bytes;
 use std::alloc::Global;
 use std::io::{ErrorKind, Read};
+use std::marker::Model;
 use std::{fs, io};
 
-/// The files of the host. It tells nothing of what they hold.
+/// The files of the host. It tells nothing of what they hold: contracts see the count of its faults.
 #[derive(Drop)]
 pub struct HostFiles<'a, R> {
     rt: &'a R,
     faults: u64,
 }
 
+impl<'a, R> Model for HostFiles<'a, R> {
+    ghost use Rattle.std.specs.Prelude.{ℕ};
+
+    ghost Value = { ℕ };
+
+    ghost view = { λ files. files.faults };
+}
+
 impl<'a, R> HostFiles<'a, R> {
-    pub fn new(rt: &'a R) -> HostFiles<'a, R> {
+    pub fn new(rt: &'a R) -> HostFiles<'a, R>
+        ensures { result ≡ 0 }
+    {
         HostFiles { rt, faults: 0 }
     }
 }
@@ -32,7 +45,7 @@ impl<R: std::rt::Files> Files for HostFiles<'_, R> {
 
     ghost held = { λ _. None };
 
-    ghost faults = { λ files. files.faults };
+    ghost faults = { λ files. files };
 
     ghost never_fails = { λ _. ⊥ };
 

@@ -4,6 +4,7 @@
 //! the trusted edge.
 #![tactic(auto)]
 
+mod fault;
 mod files;
 mod host_files;
 mod host_sink;
@@ -15,10 +16,11 @@ mod sink;
 #[cfg(test)]
 mod tests;
 
+pub use fault::SinkFault;
 pub use files::{Files, PutAnswer, ReadAnswer};
 pub use host_files::HostFiles;
 pub use host_sink::HostSink;
-pub use lines::{SinkFault, say};
+pub use lines::say;
 pub use memory_files::MemoryFiles;
 pub use memory_sink::MemorySink;
 pub use pawn_base::{Bytes, Memory};
