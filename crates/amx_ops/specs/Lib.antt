@@ -1,0 +1,10 @@
+pub mod Amx
+pub mod Cuts
+pub mod Instructions
+pub mod Moves
+pub mod Runs
+pub mod State
+pub mod Step
+pub mod Trace
+pub mod Valid
+pub mod Writable

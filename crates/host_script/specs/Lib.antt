@@ -1,0 +1,4 @@
+pub mod NativeCall
+pub mod Ranges
+pub mod Script
+pub mod Text

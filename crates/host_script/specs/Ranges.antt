@@ -1,0 +1,40 @@
+-- Scripts that keep their form: each number, length and count in its range.
+use Rattle.std.specs.Prelude.{◌≢◌, ◌<◌, ◌≤◌, ◌^◌, ◌≤ℤ◌, ℕ, ℤ, pos, FitsSigned, All, IfSome, List, length, map, nat_eq}
+use Rattle.std.specs.Int.{w32}
+use Rattle.std.specs.List.{IsDistinct}
+use Rattle.std.specs.Cmp.Lexicographic.{pointwise}
+use Rattle.host_script.specs.declared.script.Script.{Script}
+use Rattle.host_script.specs.declared.script.Native.{Native}
+use Rattle.host_script.specs.declared.script.Form.{Form}
+use Rattle.host_script.specs.declared.script.Form.TheVariants.{Cell, Ref, Text, Cells}
+use Rattle.host_script.specs.declared.script.Write.{Write}
+use Rattle.host_script.specs.declared.script.Answer.{Answer}
+use Rattle.host_script.specs.declared.script.Answer.TheVariants.{Given, Error}
+
+abbrev pub IsForm : Form → Type 0
+IsForm Cell = Unit {0}
+IsForm Ref = Unit {0}
+IsForm Text = Unit {0}
+IsForm (Cells count) = (1 ≤ count) × (count ≤ 4096)
+
+pub record IsNative (native : Native) : Type 0 where
+  pub name : (1 ≤ length native.name) × (length native.name ≤ 31)
+  pub count : length native.forms ≤ 64
+  pub forms : All IsForm native.forms
+  pub rest : IfSome native.rest IsForm
+  pub result : IfSome native.result (FitsSigned w32)
+
+pub record IsWrite (write : Write) : Type 0 where
+  pub arg : write.arg < 2 ^ 31
+  pub cells : All (FitsSigned w32) write.cells
+
+-- errors from 2 to 127 but the sleep
+abbrev pub IsAnswer : Answer → Type 0
+IsAnswer (Given result writes) = FitsSigned w32 result × All IsWrite writes
+IsAnswer (Error code) = (pos 2 ≤ℤ code) × (code ≤ℤ pos 127) × (code ≢ pos 12)
+
+pub record IsScript (script : Script) : Type 0 where
+  pub natives : All IsNative script.natives
+  pub once : IsDistinct (pointwise nat_eq) (map (λ (native : Native). native.name) script.natives)
+  pub answers : All IsAnswer script.answers
+  pub count : length script.answers ≤ 65536
