@@ -4,7 +4,7 @@ use Rattle.host_script.specs.Script.{plain}
 use Rattle.host_script.specs.declared.event.Seen.TheVariants.{Cell}
 use Rattle.host_script.specs.declared.event.Event.TheVariants as event
 use Rattle.host_script.specs.declared.event.End.TheVariants as end
-use Rattle.amx_ops.specs.Amx.{Amx}
+use Rattle.amx_ops.specs.declared.amx.Amx.{Amx}
 use Rattle.amx_ops.specs.Runs.{Steps, Over_by, segment}
 use Rattle.amx_ops.specs.Trace.{trace_from}
 

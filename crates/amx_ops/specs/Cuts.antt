@@ -1,7 +1,7 @@
 -- A trace over bounds is one iteration, cut at each sleep and at each bound that is used up.
 use Rattle.std.specs.Prelude.{◌≡◌, ◌+◌, ◌≤◌, ℕ, List}
 use Rattle.host_script.specs.declared.script.Script.{Script}
-use Rattle.amx_ops.specs.Amx.{Amx}
+use Rattle.amx_ops.specs.declared.amx.Amx.{Amx}
 use Rattle.amx_ops.specs.Runs.{Moved, Over, iterate, Stop, Steps, Asleep, Over_by, Traced, joined}
 use Rattle.amx_ops.specs.Moves.{Config, move}
 

@@ -1,17 +1,11 @@
 -- The instruction table, and what a row of whole instructions is (Implementer's Guide, "Instruction
 -- reference"). Addresses are in bytes, four to a cell of code.
-use Rattle.std.specs.Prelude.{◌≡◌, ◌+◌, ◌*◌, ℕ, zero, suc, ℤ, pos, negsuc, List, [], ◌∷◌, Bool, false, ◌==◌, Option, None, Some, is_some, codes, find, drop, length, option_map, sum_by}
+use Rattle.std.specs.Prelude.{◌≡◌, ◌+◌, ◌-◌, ℕ, zero, suc, ℤ, pos, negsuc, List, [], ◌∷◌, Bool, false, ◌==◌, Option, None, Some, is_some, codes, find, length, option_map, sum_by}
 use Rattle.amx_ops.specs.declared.op.Op.{Op}
 use Rattle.amx_ops.specs.declared.op.Op.TheVariants as op
-
--- what stands behind an instruction's number
-pub data Operand : Type 0 where
-  Nothing : Operand
-  AnyCell : Operand
-  -- a multiple of 4
-  Multiple : Operand
-  -- a place in the native table
-  NativeNumber : Operand
+use Rattle.amx_ops.specs.declared.instruction.Instruction.{Instruction}
+use Rattle.amx_ops.specs.declared.instruction.Operand.{Operand}
+use Rattle.amx_ops.specs.declared.instruction.Operand.TheVariants.{Nothing, AnyCell, Multiple, NativeNumber}
 
 pub record Row : Type 0 where
   pub number : ℕ
@@ -35,38 +29,35 @@ table =
     ∷ row 123 op.SysreqC (codes "SYSREQ.C") NativeNumber
     ∷ []
 
--- an instruction with the cells that it takes
-pub record Instruction : Type 0 where
-  pub op : Op
-  pub kind : Operand
-  pub operand : ℤ
-  pub size : ℕ
-
 abbrev pub is_number : ℕ → ℤ → Bool
 is_number n (pos m) = n == m
 is_number n (negsuc m) = false
 
-abbrev pub alone : Row → Instruction
-alone row = record { op = row.op; kind = row.operand; operand = pos 0; size = 1 }
+-- the row of a number: the operation, and what stands behind it
+abbrev pub row_of : ℤ → Option (Op × Operand)
+row_of number = option_map (λ it. (it.op, it.operand)) (find (λ it. is_number it.number number) table)
 
-abbrev pub with_cell : Row → List ℤ → Option Instruction
-with_cell row [] = None
-with_cell row (v ∷ cells) = Some (record { op = row.op; kind = row.operand; operand = v; size = 2 })
+abbrev pub alone : Op → Operand → Instruction
+alone operation kind = record { op = operation; kind = kind; operand = pos 0; size = 1 }
 
-abbrev pub read_by : Operand → Row → List ℤ → Option Instruction
-read_by Nothing row cells = Some (alone row)
-read_by AnyCell row cells = with_cell row cells
-read_by Multiple row cells = with_cell row cells
-read_by NativeNumber row cells = with_cell row cells
+abbrev pub with_cell : Op → Operand → List ℤ → Option Instruction
+with_cell operation kind [] = None
+with_cell operation kind (v ∷ cells) = Some (record { op = operation; kind = kind; operand = v; size = 2 })
 
-abbrev pub read_row : Option Row → List ℤ → Option Instruction
+abbrev pub read_by : Op → Operand → List ℤ → Option Instruction
+read_by operation Nothing cells = Some (alone operation Nothing)
+read_by operation AnyCell cells = with_cell operation AnyCell cells
+read_by operation Multiple cells = with_cell operation Multiple cells
+read_by operation NativeNumber cells = with_cell operation NativeNumber cells
+
+abbrev pub read_row : Option (Op × Operand) → List ℤ → Option Instruction
 read_row None cells = None
-read_row (Some row) cells = read_by row.operand row cells
+read_row (Some row) cells = read_by row.0 row.1 cells
 
 -- the whole instruction at the front of some cells
 abbrev pub front : List ℤ → Option Instruction
 front [] = None
-front (cell ∷ cells) = read_row (find (λ row. is_number row.number cell) table) cells
+front (cell ∷ cells) = read_row (row_of cell) cells
 
 -- an instruction at its address
 pub record Placed : Type 0 where
@@ -77,13 +68,15 @@ abbrev pub placed_by : ℕ → Option Instruction → (Instruction → List Plac
 placed_by at None others = []
 placed_by at (Some i) others = record { at = at; instruction = i } ∷ others i
 
--- the instructions one behind another, as far as each is whole; no more than there are cells
+-- the instructions one behind another, as far as each is whole. Addresses count on cell by cell; so many
+-- cells belong to the instruction before and are passed over
 abbrev pub placed_from : ℕ → ℕ → List ℤ → List Placed
-placed_from zero at cells = []
-placed_from (suc most) at cells = placed_by at (front cells) (λ i. placed_from most (at + 4 * i.size) (drop i.size cells))
+placed_from at passed [] = []
+placed_from at (suc passed) (cell ∷ cells) = placed_from (at + 4) passed cells
+placed_from at zero (cell ∷ cells) = placed_by at (front (cell ∷ cells)) (λ i. placed_from (at + 4) (i.size - 1) cells)
 
 abbrev pub placed : List ℤ → List Placed
-placed code = placed_from (length code) 0 code
+placed code = placed_from 0 0 code
 
 -- the instruction that starts at an address
 abbrev pub fetched : List ℤ → ℕ → Option Instruction

@@ -1,4 +1,3 @@
-pub mod Amx
 pub mod Cuts
 pub mod Instructions
 pub mod Moves

@@ -12,7 +12,8 @@ use Rattle.host_script.specs.declared.event.End.{End}
 use Rattle.host_script.specs.declared.event.End.TheVariants as end
 use Rattle.host_script.specs.NativeCall.{Trap, Lost, Fault, Sight, Sees, Blind, Sought, Put, Called, Ends_there, Answers, native_error, native_call}
 use Rattle.host_script.specs.Script.{characters}
-use Rattle.amx_ops.specs.Amx.{Amx, Record}
+use Rattle.amx_ops.specs.declared.amx.Amx.{Amx}
+use Rattle.amx_ops.specs.declared.amx.Record.{Record}
 use Rattle.amx_ops.specs.Instructions.{is_number}
 use Rattle.amx_ops.specs.State.{State, Turned, Goes, Errs, Halts, Asks, stp, cell_at}
 use Rattle.amx_ops.specs.Step.{step}
@@ -100,10 +101,13 @@ halted_by v false true d s c = run.Ends (end.Exit s.pri s.alt) (record c { state
 halted_by v false false true s c = run.Sleeps (shown (event.Slept s.pri s.alt) (record c { state = s }))
 halted_by v false false false s c = run.Ends (end.Error v) (record c { state = s })
 
+abbrev pub halted : ℤ → State → Config → Moved Config End
+halted v s c = halted_by v (is_number 0 v) (is_number 1 v) (is_number 12 v) s c
+
 abbrev pub moved : Amx → Script → Config → Turned → Moved Config End
 moved amx script c (Goes s) = run.Goes (record c { state = s })
 moved amx script c (Errs code) = run.Ends (end.Error code) c
-moved amx script c (Halts v s) = halted_by v (is_number 0 v) (is_number 1 v) (is_number 12 v) s c
+moved amx script c (Halts v s) = halted v s c
 moved amx script c (Asks n s) = asked script (name_of amx.natives n) (arguments s) s c
 
 abbrev pub move : Amx → Script → Config → Moved Config End

@@ -46,4 +46,4 @@ with_margin s go = if nat_le (s.hea + 64) s.stk then go s else Errs (pos 3)
 
 -- the cells between heap and stack are 0
 abbrev pub swept : State → State
-swept s = record s { cells = take (s.hea / 4) s.cells ++ (replicate ((s.stk - s.hea) / 4) (pos 0) ++ drop (s.stk / 4) s.cells) }
+swept s = record s { cells = take (s.hea / 4) s.cells ++ (replicate (s.stk / 4 - s.hea / 4) (pos 0) ++ drop (s.stk / 4) s.cells) }

@@ -4,7 +4,8 @@ use Rattle.std.specs.Prelude.{◌+◌, ◌*◌, ◌%◌, ℕ, ℤ, pos, negsuc, 
 use Rattle.pawn_cells.specs.Cells.{bits_of, cell_of}
 use Rattle.amx_ops.specs.declared.op.Op.{Op}
 use Rattle.amx_ops.specs.declared.op.Op.TheVariants.{ConstPri, PushC, Stack, Proc, Retn, ZeroPri, ZeroAlt, Halt, SysreqC}
-use Rattle.amx_ops.specs.Instructions.{Instruction, fetched, is_start, is_number}
+use Rattle.amx_ops.specs.declared.instruction.Instruction.{Instruction}
+use Rattle.amx_ops.specs.Instructions.{fetched, is_start, is_number}
 use Rattle.amx_ops.specs.State.{State, Turned, Goes, Errs, Halts, Asks, stp, push, pop, with_margin, swept}
 
 abbrev pub at_next : ℕ → State → Turned
@@ -32,18 +33,31 @@ returned code frm cip count s =
     else Errs (pos 7))
     else Errs (pos 5)
 
+-- a frame begins
+abbrev pub enter : ℕ → State → Turned
+enter next s = push s (cell_of s.frm) (λ t. with_margin t (λ u. at_next next (record u { frm = u.stk })))
+
+-- a frame ends
+abbrev pub leave : List ℤ → State → Turned
+leave code s = pop s (λ frm t. pop t (λ cip u. pop u (λ count w. returned code (bits_of frm) (bits_of cip) (bits_of count) w)))
+
+abbrev pub halt : ℤ → ℕ → State → Turned
+halt v next s = Halts v (record (halted (is_number 12 v) s) { cip = next })
+
+abbrev pub ask : ℤ → ℕ → State → Turned
+ask v next s = Asks (bits_of v) (record s { cip = next })
+
 -- an operation with its operand, and the address of the next instruction
 abbrev pub act : List ℤ → Op → ℤ → ℕ → State → Turned
 act code ConstPri v next s = at_next next (record s { pri = v })
 act code PushC v next s = push s v (at_next next)
 act code Stack v next s = moved_to (pos s.stk +ℤ v) next s
-act code Proc v next s = push s (cell_of s.frm) (λ t. with_margin t (λ u. at_next next (record u { frm = u.stk })))
-act code Retn v next s =
-    pop s (λ frm t. pop t (λ cip u. pop u (λ count w. returned code (bits_of frm) (bits_of cip) (bits_of count) w)))
+act code Proc v next s = enter next s
+act code Retn v next s = leave code s
 act code ZeroPri v next s = at_next next (record s { pri = pos 0 })
 act code ZeroAlt v next s = at_next next (record s { alt = pos 0 })
-act code Halt v next s = Halts v (record (halted (is_number 12 v) s) { cip = next })
-act code SysreqC v next s = Asks (bits_of v) (record s { cip = next })
+act code Halt v next s = halt v next s
+act code SysreqC v next s = ask v next s
 
 -- error 6: no instruction starts here
 abbrev pub act_on : List ℤ → Option Instruction → State → Turned

@@ -4,7 +4,7 @@ use Rattle.pawn_cells.specs.Cells.{bits_of}
 use Rattle.host_script.specs.declared.script.Script.{Script}
 use Rattle.host_script.specs.declared.event.End.{End}
 use Rattle.host_script.specs.declared.event.End.TheVariants as end
-use Rattle.amx_ops.specs.Amx.{Amx}
+use Rattle.amx_ops.specs.declared.amx.Amx.{Amx}
 use Rattle.amx_ops.specs.State.{State}
 use Rattle.amx_ops.specs.Runs.{Traced, Over_by, joined}
 use Rattle.amx_ops.specs.Moves.{Config, move}

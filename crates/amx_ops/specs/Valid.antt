@@ -1,7 +1,9 @@
 -- Valid code: what the verifier accepts, and what the machine is asked for.
 use Rattle.std.specs.Prelude.{◌≡◌, ◌⊎◌, ◌<◌, ◌%◌, ℕ, ℤ, pos, negsuc, List, All, IsTrue}
 use Rattle.pawn_cells.specs.Cells.{bits_of}
-use Rattle.amx_ops.specs.Instructions.{Operand, Nothing, AnyCell, Multiple, NativeNumber, Placed, placed, IsWhole, is_start}
+use Rattle.amx_ops.specs.declared.instruction.Operand.{Operand}
+use Rattle.amx_ops.specs.declared.instruction.Operand.TheVariants.{Nothing, AnyCell, Multiple, NativeNumber}
+use Rattle.amx_ops.specs.Instructions.{Placed, placed, IsWhole, is_start}
 
 abbrev pub IsBelow : ℤ → ℕ → Type 0
 IsBelow (pos n) m = n < m

@@ -6,7 +6,7 @@ use Rattle.host_script.specs.declared.script.Native.{Native}
 use Rattle.host_script.specs.Ranges.{IsScript}
 use Rattle.pawn_program.specs.Program.{Program, Public, Function}
 use Rattle.pawn_meaning.specs.Told.{meaning}
-use Rattle.amx_ops.specs.Amx.{Amx}
+use Rattle.amx_ops.specs.declared.amx.Amx.{Amx}
 use Rattle.amx_ops.specs.Writable.{cells_of, memory_limit}
 use Rattle.amx_ops.specs.Trace.{Entry, Main, address_of, trace_from}
 use Rattle.amx_ops.specs.Trace as trace

@@ -4,8 +4,10 @@ use Rattle.pawn_cells.specs.Cells.{cell_of}
 use Rattle.pawn_program.specs.Program.{Program, Public, Tag}
 use Rattle.pawn_meaning.specs.Weight.{weight}
 use Rattle.amx_ops.specs.declared.op.Op.TheVariants.{Halt}
-use Rattle.amx_ops.specs.Amx.{Amx, Record}
-use Rattle.amx_ops.specs.Instructions.{Placed, Instruction, placed}
+use Rattle.amx_ops.specs.declared.amx.Amx.{Amx}
+use Rattle.amx_ops.specs.declared.amx.Record.{Record}
+use Rattle.amx_ops.specs.declared.instruction.Instruction.{Instruction}
+use Rattle.amx_ops.specs.Instructions.{Placed, placed}
 use Rattle.amx_ops.specs.Valid.{IsValid}
 use Rattle.amx_ops.specs.Writable.{IsWritable}
 

@@ -1,9 +1,8 @@
 -- One call of a native, for the meaning of a source and for the machine alike. A side brings how it
 -- sees an argument of a form and where a place lies; all else is here, in this order: the number of
 -- arguments, all of them seen, the answer, its error, its writes tested, the writes and the event.
-use Rattle.std.specs.Prelude.{ℕ, zero, suc, ℤ, pos, List, [], ◌∷◌, Option, None, Some, length, map, slice_get, nat_le, if◌then◌else◌}
+use Rattle.std.specs.Prelude.{ℕ, ℤ, pos, List, [], ◌∷◌, Option, None, Some, length, map, slice_get, nat_le, if◌then◌else◌}
 use Rattle.host_script.specs.declared.script.Script.{Script}
-use Rattle.host_script.specs.declared.script.Native.{Native}
 use Rattle.host_script.specs.declared.script.Form.{Form}
 use Rattle.host_script.specs.declared.script.Answer.{Answer}
 use Rattle.host_script.specs.declared.script.Answer.TheVariants.{Given, Error}

@@ -1,5 +1,5 @@
 -- Scripts that keep their form: each number, length and count in its range.
-use Rattle.std.specs.Prelude.{◌≢◌, ◌<◌, ◌≤◌, ◌^◌, ◌≤ℤ◌, ℕ, ℤ, pos, FitsSigned, All, IfSome, List, length, map, nat_eq}
+use Rattle.std.specs.Prelude.{◌≢◌, ◌<◌, ◌≤◌, ◌^◌, ◌≤ℤ◌, pos, FitsSigned, All, IfSome, length, map, nat_eq}
 use Rattle.std.specs.Int.{w32}
 use Rattle.std.specs.List.{IsDistinct}
 use Rattle.std.specs.Cmp.Lexicographic.{pointwise}

@@ -18,7 +18,7 @@ program_of natives stmt = record {
   tags = [];
   publics = [];
   entry = Some 0;
-  dynamic = pos 4096
+  dynamic = pos 4096;
 }
 
 -- an empty main is done with 0, and its own need is its peak
@@ -35,7 +35,7 @@ native_then_exit : meaning (program_of (codes "p" ∷ []) call_then_exit) plain 
       entries = record { event = event.Native (codes "p") (Cell (pos 7) ∷ []) (pos 0); turns = 0; peak = 6 } ∷ [];
       last = Ended (end.Exit (pos 3) (pos 0));
       turns = 0;
-      peak = 6
+      peak = 6;
     }
 native_then_exit = refl
 

@@ -32,7 +32,7 @@ pub later_on : {w x y : World} → Later w x → Later x y → Later w y
 later_on {w} {x} {y} a b = record {
   new = a.new ++ b.new;
   entries = b.entries ∙ ap (λ es. es ++ b.new) a.entries ∙ append_assoc w.entries a.new b.new;
-  rises = rises_on _ _ a.new b.new _ _ _ _ a.rises b.rises
+  rises = rises_on _ _ a.new b.new _ _ _ _ a.rises b.rises;
 }
 
 -- the same entries, with turns and peak that didn't fall
@@ -94,7 +94,7 @@ pub said_later : (event : Event) (w : World) → Later w (said event w)
 said_later event w = record {
   new = record { event = event; turns = w.turns; peak = w.peak } ∷ [];
   entries = refl;
-  rises = (omega arith, omega arith, (omega arith, omega arith))
+  rises = (omega arith, omega arith, (omega arith, omega arith));
 }
 
 pub writes_keep : (puts : List (Put Place)) (w : World) → with_writes puts w ≡ w

@@ -57,7 +57,7 @@ module _ (t m : ℕ) (least : t ≤ m) where
   after_up {k = k} {c = c} {d = d} {go = go} {go' = go'} first rest = record {
     at = λ w left. below_after k w (c w) (d w) go go' left (first.low.at w) rest (first.at w left);
     low = after_grows first.low (λ a. (rest a).low);
-    high = after_grows first.high (λ a. (rest a).high)
+    high = after_grows first.high (λ a. (rest a).high);
   }
 
   -- ---- the steps
@@ -92,7 +92,7 @@ module _ (t m : ℕ) (least : t ≤ m) where
   native_up script name held = record {
     at = λ w left. called_below (native_call script (see w) name held w.position) w left.within;
     low = native_grows script name held;
-    high = native_grows script name held
+    high = native_grows script name held;
   }
 
   -- a turn, and what follows with one less to begin
@@ -112,7 +112,7 @@ module _ (t m : ℕ) (least : t ≤ m) where
   turn_up {k = k} go go' up low high = record {
     at = λ w left. turned_low k go go' w left up high _ refl _ refl;
     low = after_grows (turn_grows t) (λ d. by_done (λ x. Grows (go x)) low d);
-    high = after_grows (turn_grows m) (λ d. by_done (λ x. Grows (go' x)) high d)
+    high = after_grows (turn_grows m) (λ d. by_done (λ x. Grows (go' x)) high d);
   }
 
   -- ---- the nodes, one line each
@@ -128,8 +128,10 @@ module _ (t m : ℕ) (least : t ≤ m) where
       value_up : (e : Expr) → Up k (value low fewer e) (value high fewer' e)
       value_up (Const v) = give_up v
       value_up (Native n args) = after_up (arguments_up args) (λ held. native_up script (name_of program n) held)
+
       argument_up : (a : Arg) → Up k (argument low fewer a) (argument high fewer' a)
       argument_up (node.Value e) = after_up (value_up e) (λ v. give_up (Value v))
+
       arguments_up : (args : Args) → Up k (arguments low fewer args) (arguments high fewer' args)
       arguments_up no_args = give_up []
       arguments_up (then_arg a args) = after_up (arguments_up args) (λ others. after_up (argument_up a) (λ first. give_up (first ∷ others)))
@@ -145,6 +147,7 @@ module _ (t m : ℕ) (least : t ≤ m) where
       run_up (Block stmts) = run_all_up stmts
       run_up (Do e) = after_up (value_up e) (λ v. give_up Through)
       run_up (Exit e tag) = after_up (value_up e) (λ v. stop_up (end.Exit v (cell_of tag)))
+
       pub run_all_up : (stmts : Stmts) → Up k (run_all low fewer stmts) (run_all high fewer' stmts)
       run_all_up no_stmts = give_up Through
       run_all_up (then_stmt s stmts) = after_up (run_up s) (λ way. pass_up way (run_all_up stmts))
@@ -152,7 +155,7 @@ module _ (t m : ℕ) (least : t ≤ m) where
     pub call_up : (run run' : Stmt → Run Way) → ((s : Stmt) → Up k (run s) (run' s)) → (function : Function) → Up k (call run function) (call run' function)
     call_up run run' up function =
         with_need_up (need function) (after_up (ask_up (body_by function function.dispatch)) (λ chosen.
-          after_up (or_stop_up chosen (end.Error (pos 13))) (λ body. after_up (up body.stmt) (λ way. give_up (value_of way)))))
+        after_up (or_stop_up chosen (end.Error (pos 13))) (λ body. after_up (up body.stmt) (λ way. give_up (value_of way)))))
 
   -- ---- the whole
 

@@ -45,10 +45,12 @@ module _ (scene : Scene) (fewer : Fewer) where
     value (Native n args) = do
       held ← arguments args
       call_native scene.script (name_of scene.program n) held
+
     pub argument : Arg → Run Held
     argument (node.Value e) = do
       v ← value e
       give (Value v)
+
     pub arguments : Args → Run (List Held)
     arguments no_args = give []
     arguments (then_arg a args) = do
@@ -65,6 +67,7 @@ module _ (scene : Scene) (fewer : Fewer) where
     run (Exit e tag) = do
       v ← value e
       stop (end.Exit v (cell_of tag))
+
     pub run_all : Stmts → Run Way
     run_all no_stmts = give Through
     run_all (then_stmt s stmts) = do

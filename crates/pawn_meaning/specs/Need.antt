@@ -17,8 +17,10 @@ abbrev mutual
   pub load : Expr → ℕ
   load (Const v) = 0
   load (Native n args) = 2 * count_of args + 1 + args_load args
+
   pub arg_load : Arg → ℕ
   arg_load (Value e) = load e
+
   pub args_load : Args → ℕ
   args_load no_args = 0
   args_load (then_arg a args) = max (arg_load a) (args_load args)
@@ -28,6 +30,7 @@ abbrev mutual
   stmt_load (Block stmts) = stmts_load stmts
   stmt_load (Do e) = load e
   stmt_load (Exit e tag) = load e
+
   pub stmts_load : Stmts → ℕ
   stmts_load no_stmts = 0
   stmts_load (then_stmt s stmts) = max (stmt_load s) (stmts_load stmts)
@@ -38,6 +41,7 @@ abbrev mutual
   locals (Block stmts) = inner_locals stmts
   locals (Do e) = 0
   locals (Exit e tag) = 0
+
   -- of the blocks that stand in a list of statements
   pub inner_locals : Stmts → ℕ
   inner_locals no_stmts = 0

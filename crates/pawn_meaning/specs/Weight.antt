@@ -7,8 +7,10 @@ abbrev mutual
   pub expr_weight : Expr → ℕ
   expr_weight (Const v) = 40
   expr_weight (Native n args) = 40 + args_weight args
+
   pub arg_weight : Arg → ℕ
   arg_weight (Value e) = 40 + expr_weight e
+
   pub args_weight : Args → ℕ
   args_weight no_args = 0
   args_weight (then_arg a args) = arg_weight a + args_weight args
@@ -18,6 +20,7 @@ abbrev mutual
   stmt_weight (Block stmts) = 40 + stmts_weight stmts
   stmt_weight (Do e) = 40 + expr_weight e
   stmt_weight (Exit e tag) = 40 + expr_weight e
+
   pub stmts_weight : Stmts → ℕ
   stmts_weight no_stmts = 0
   stmts_weight (then_stmt s stmts) = stmt_weight s + stmts_weight stmts

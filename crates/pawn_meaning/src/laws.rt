@@ -5,12 +5,10 @@ ghost use Rattle.pawn_meaning.specs.Extends.{LaterTurnsExtend, TurnsNeverFall};
 #[tactic(auto, using(crate::proofs::LaterTurns::later_turns_extend_lem))]
 pub fn later_turns_extend()
     ensures { LaterTurnsExtend }
-{
-}
+{}
 
 /// Along the events of a meaning, and to its end, turns and peaks never fall.
 #[tactic(auto, using(crate::proofs::LaterTurns::turns_never_fall_lem))]
 pub fn turns_never_fall()
     ensures { TurnsNeverFall }
-{
-}
+{}

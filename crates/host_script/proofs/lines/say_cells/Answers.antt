@@ -1,4 +1,4 @@
-use Rattle.std.proofs.Common.{◌++◌, ◌∷◌, ◌∙◌, ◌≡◌, [], ℤ, pos, FitsSigned, rules, sym, ap, append_assoc, append-nil, take, drop, get_or, suc, w32}
+use Rattle.std.proofs.Common.{◌++◌, ◌∷◌, ◌∙◌, ◌≡◌, [], pos, FitsSigned, rules, sym, ap, append_assoc, append-nil, take, drop, get_or, suc, w32}
 use Rattle.std.specs.Fmt.{signed_decimal}
 use Rattle.std.proofs.lemmas.Int.{to_z-of_z}
 use Rattle.std.proofs.lemmas.Result.{err_from_is_err_and}
