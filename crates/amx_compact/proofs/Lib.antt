@@ -1,0 +1,4 @@
+mod SpelledLemmas
+mod RangeLemmas
+mod ReadLemmas
+mod ShortestLemmas
