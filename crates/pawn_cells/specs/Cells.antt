@@ -8,10 +8,11 @@ use Rattle.std.specs.Ordering.{int_eq}
 abbrev pub IsCell : ℤ → Type 0
 IsCell z = FitsSigned w32 z
 
--- the least and the greatest cell, `cellmin` and `cellmax`
+-- the least cell, `cellmin`
 abbrev pub least_cell : ℤ
 least_cell = negsuc 0x7FFF_FFFF
 
+-- the greatest cell, `cellmax`
 abbrev pub greatest_cell : ℤ
 greatest_cell = pos 0x7FFF_FFFF
 
@@ -35,15 +36,19 @@ wrapped_sum m n = (m + n) % 2 ^ 32
 
 -- ---- arithmetic
 
+-- the sum, wrapped
 abbrev pub add : ℤ → ℤ → ℤ
 add a b = wrap (a +ℤ b)
 
+-- the difference, wrapped
 abbrev pub sub : ℤ → ℤ → ℤ
 sub a b = wrap (a -ℤ b)
 
+-- the product, wrapped
 abbrev pub mul : ℤ → ℤ → ℤ
 mul a b = wrap (a *ℤ b)
 
+-- the negative, wrapped
 abbrev pub neg : ℤ → ℤ
 neg a = wrap (neg_ℤ a)
 
@@ -65,10 +70,11 @@ floor_div a d = wrap (floor_quotient a d)
 abbrev pub floor_rem : ℤ → ℤ → ℤ
 floor_rem a d = a -ℤ (floor_quotient a d *ℤ d)
 
--- the same two of numbers without sign
+-- the quotient of numbers without sign
 abbrev pub unsigned_div : ℤ → ℤ → ℤ
 unsigned_div a d = cell_of (bits_of a / bits_of d)
 
+-- and the remainder
 abbrev pub unsigned_rem : ℤ → ℤ → ℤ
 unsigned_rem a d = cell_of (bits_of a % bits_of d)
 
@@ -78,12 +84,15 @@ IsRemainder r d = ((pos 0 ≤ℤ r) × (r <ℤ d)) ⊎ ((d <ℤ r) × (r ≤ℤ 
 
 -- ---- bits
 
+-- the bits that are set in both
 abbrev pub and : ℤ → ℤ → ℤ
 and a b = int_bit_and w32 a b
 
+-- the bits that are set in one or both
 abbrev pub or : ℤ → ℤ → ℤ
 or a b = int_bit_or w32 a b
 
+-- the bits that are set in one and not in both
 abbrev pub xor : ℤ → ℤ → ℤ
 xor a b = int_bit_xor w32 a b
 
@@ -95,36 +104,41 @@ invert a = int_bit_not w32 a
 abbrev pub shift_count : ℤ → ℕ
 shift_count b = bits_of b % 32
 
--- bits shifted out are lost, and zeros come in
+-- to the left: bits shifted out are lost, and zeros come in
 abbrev pub shl : ℤ → ℤ → ℤ
 shl a b = int_shl w32 a (shift_count b)
 
--- copies of the sign come in: the quotient by a power of 2, rounded down
+-- to the right, copies of the sign coming in: the quotient by a power of 2, rounded down
 abbrev pub shr : ℤ → ℤ → ℤ
 shr a b = int_shr a (shift_count b)
 
--- zeros come in
+-- to the right, zeros coming in
 abbrev pub ushr : ℤ → ℤ → ℤ
 ushr a b = cell_of (bits_of a / 2 ^ shift_count b)
 
 -- ---- tests
 
+-- below, as whole numbers
 abbrev pub less : ℤ → ℤ → Bool
 less a b = int_lt a b
 
+-- not above, as whole numbers
 abbrev pub less_eq : ℤ → ℤ → Bool
 less_eq a b = int_le a b
 
+-- the same cell
 abbrev pub equal : ℤ → ℤ → Bool
 equal a b = int_eq a b
 
--- the same of numbers without sign
+-- below, as numbers without sign
 abbrev pub unsigned_less : ℤ → ℤ → Bool
 unsigned_less a b = nat_lt (bits_of a) (bits_of b)
 
+-- not above, as numbers without sign
 abbrev pub unsigned_less_eq : ℤ → ℤ → Bool
 unsigned_less_eq a b = nat_le (bits_of a) (bits_of b)
 
+-- the cell is 0
 abbrev pub is_zero : ℤ → Bool
 is_zero (pos zero) = true
 is_zero (pos (suc n)) = false
