@@ -1,0 +1,10 @@
+use super::piece::Piece;
+use pawn_base::{Bytes, List};
+
+/// What a definition puts in the place of its key and tail.
+#[derive(Debug, Drop)]
+pub struct Rule {
+    pub tail: List<Piece>,
+    /// Its literals are told apart where it is used.
+    pub text: Bytes,
+}

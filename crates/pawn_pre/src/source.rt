@@ -1,0 +1,94 @@
+ghost use Rattle.std.specs.Prelude.{◌≡◌, ◌≤◌, Some, IfOk};
+ghost use Rattle.pawn_outside.specs.Held.{Held};
+ghost use Rattle.pawn_outside.specs.Rose.{Rose};
+ghost use Rattle.pawn_pre.specs.Answers.{Answers, EndsIn};
+ghost use Rattle.pawn_pre.specs.Bounds.{IsBounded, IsSoundPage};
+ghost use Rattle.pawn_pre.specs.Condition.{IsValue};
+ghost use Rattle.pawn_pre.specs.ConditionMachine.{value_of};
+ghost use Rattle.pawn_pre.specs.Values.{Value};
+ghost use Rattle.pawn_pre.specs.Walks.{HasOneOutcome};
+
+use super::fault::PreFault;
+use super::line::Lines;
+use super::walk::{FILE_LIMIT, Walk};
+use pawn_base::{Bytes, Memory};
+use pawn_outside::{Files, ReadAnswer};
+use std::alloc::Global;
+
+/// Settles line after line until no file is open.
+fn drive<F: Files>(alloc: Global, walk: Walk, files: &mut F) -> Result<Lines, PreFault>
+    ensures same { F.held files.new ≡ F.held files.old }
+    ensures ends { (map : Held) → F.held files.old ≡ Some map →
+        EndsIn value_of map walk result }
+    ensures bounds { IsSoundPage walk → IfOk result IsBounded }
+    ensures later { F.faults files.old ≤ F.faults files.new }
+    ensures cause { result ≡ Err PreFault.Files →
+        Rose (F.faults files.old) (F.faults files.new) }
+{
+    let mut walk = walk;
+    for _turn in 0..u64::MAX {
+        match walk.turn(alloc, files) {
+            Ok(true) => continue,
+            Ok(false) => return Ok(walk.finish()),
+            Err(fault) => return Err(fault),
+        }
+    }
+    Err(PreFault::Memory)
+}
+
+/// The lines of a source, over the files that it includes.
+fn read_lines<F: Files>(alloc: Global, name: &str, files: &mut F) -> Result<Lines, PreFault>
+    ensures same { F.held files.new ≡ F.held files.old }
+    ensures answers { (map : Held) → F.held files.old ≡ Some map →
+        Answers value_of map name.now result }
+    ensures bounds { IfOk result IsBounded }
+    ensures later { F.faults files.old ≤ F.faults files.new }
+    ensures cause { result ≡ Err PreFault.Files →
+        Rose (F.faults files.old) (F.faults files.new) }
+{
+    match files.read(alloc, name, FILE_LIMIT) {
+        ReadAnswer::Got(bytes) => match Walk::begin(alloc, name, bytes.as_slice()) {
+            Ok(walk) => drive(alloc, walk, files),
+            Err(Memory) => Err(PreFault::Memory),
+        },
+        ReadAnswer::Missing => Err(PreFault::NoSource),
+        ReadAnswer::TooLarge => match Bytes::from_slice(alloc, name.as_bytes()) {
+            Ok(name) => Err(PreFault::TooLarge(name)),
+            Err(Memory) => Err(PreFault::Memory),
+        },
+        ReadAnswer::Failed => Err(PreFault::Files),
+        ReadAnswer::Memory => Err(PreFault::Memory),
+    }
+}
+
+/// The lines of a source, over the files that it includes: lines are cut and joined, comments
+/// blanked, directives carried out and definitions substituted (Language Guide, "Preprocessor").
+///
+/// # Errors
+///
+/// `Source` with the first fault in the order of lines: 1 an unknown directive, 2 an unbalanced
+/// conditional, 3 a missing include, 4 `#error`, 5 a false `#assert`, 6 a bad pattern, 7 more than
+/// 1,000 substitutions in a line, 8 an include at depth 17, 9 a line of more than 4,095 bytes, 10
+/// more than 1,048,576 bytes in all, 11 a bad condition, 12 an open comment. `NoSource` where the
+/// source isn't held, `TooLarge` where a file has more than 16,777,216 bytes, `Files` where the
+/// files failed, `Memory` for want of memory.
+pub fn preprocess<F: Files>(alloc: Global, name: &str, files: &mut F) -> Result<Lines, PreFault>
+    ensures same { F.held files.new ≡ F.held files.old }
+
+    // The answer is what the source comes to, where the files tell what they hold.
+    ensures answers { (map : Held) (value : Value) → F.held files.old ≡ Some map →
+        IsValue value → Answers value map name.now result }
+
+    // A source comes to one outcome.
+    ensures only { (map : Held) (value : Value) → HasOneOutcome value map name.now }
+
+    // Whatever the files tell, all lines have at most 1,048,576 bytes and stand in files named.
+    ensures bounds { IfOk result IsBounded }
+
+    // Files comes only where the count of faults rose.
+    ensures later { F.faults files.old ≤ F.faults files.new }
+    ensures cause { result ≡ Err PreFault.Files →
+        Rose (F.faults files.old) (F.faults files.new) }
+{
+    read_lines(alloc, name, files)
+}

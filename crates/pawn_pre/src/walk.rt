@@ -1,0 +1,312 @@
+ghost use Rattle.std.specs.Prelude.{◌≡◌, ◌≢◌, ◌≤◌, length, Some, OnOk, IfOk, IsTrue};
+ghost use Rattle.std.specs.Str.{IsAscii};
+ghost use Rattle.pawn_outside.specs.Held.{Held};
+ghost use Rattle.pawn_outside.specs.Rose.{Rose};
+ghost use Rattle.pawn_outside.specs.Answers.{IsRead};
+ghost use Rattle.pawn_pre.specs.Walks as walks;
+ghost use Rattle.pawn_pre.specs.Bounds.{IsSoundPage, Leaves};
+ghost use Rattle.pawn_pre.specs.Answers.{Says, IsFault, IsMissing, IsTold};
+ghost use Rattle.pawn_pre.specs.ConditionMachine.{value_of};
+
+use super::directive::{Word, directive};
+use super::fault::PreFault;
+use super::file::read_rows;
+use super::include::{Named, include_name};
+use super::level::Level;
+use super::line::Lines;
+use super::refusal::Refusal;
+use super::work::Work;
+use pawn_base::{Bytes, List, Memory};
+use pawn_cells::Place;
+use pawn_outside::{Files, ReadAnswer};
+use std::alloc::Global;
+use std::collections::VecDeque;
+use std::marker::Model;
+use std::{mem, str};
+
+/// The most bytes of a file.
+pub const FILE_LIMIT: u64 = 16_777_216;
+
+/// The files that are open, and what is settled.
+#[derive(Drop)]
+pub struct Walk {
+    names: List<Bytes>,
+    below: VecDeque<Level>,
+    work: Work,
+}
+
+impl Model for Walk {
+    ghost use Rattle.std.specs.Coded.{codes};
+    ghost use Rattle.pawn_pre.specs.contracts.work.Work as settled;
+    ghost use Rattle.pawn_pre.specs.Walks.{Page};
+
+    ghost Value = { Page };
+
+    ghost coded = { Prim.hlevel (codes, settled.the_row.coded) };
+
+    ghost view = { λ walk. record {
+      names = walk.names;
+      below = walk.below.items;
+      work = walk.work;
+    } };
+}
+
+/// Reads a file whose name is plain text.
+fn read_named<F: Files>(alloc: Global, files: &mut F, name: &[u8]) -> ReadAnswer
+    requires { IsAscii name.now }
+    ensures same { F.held files.new ≡ F.held files.old }
+    ensures answer { IsRead (F.held files.old) name.now 16777216 result }
+    ensures later { F.faults files.old ≤ F.faults files.new }
+    ensures cause { result ≡ ReadAnswer.Failed →
+        Rose (F.faults files.old) (F.faults files.new) }
+{
+    match str::from_utf8(name) {
+        Ok(text) => files.read(alloc, text, FILE_LIMIT),
+        Err(_) => ReadAnswer::Missing,
+    }
+}
+
+impl Walk {
+    /// The source, before its first line.
+    pub fn begin(alloc: Global, name: &str, bytes: &[u8]) -> Result<Walk, Memory>
+        requires { length bytes.now ≤ 16777216 }
+        ensures { IfOk result (λ walk. walk ≡ walks.first_page name.now bytes.now) }
+    {
+        let mut names = List::new(alloc);
+        names.push(Bytes::from_slice(alloc, name.as_bytes())?)?;
+        let top = Level::new(alloc, 0, read_rows(alloc, bytes)?);
+        Ok(Walk {
+            names,
+            below: VecDeque::new(alloc),
+            work: Work::new(alloc, top),
+        })
+    }
+
+    /// What is kept.
+    pub fn finish(self) -> Lines
+        ensures { result ≡ walks.lines_of self }
+    {
+        let Walk {
+            names,
+            below: _below,
+            work,
+        } = self;
+        let Work {
+            lines,
+            size: _size,
+            rules: _rules,
+            settings,
+            top: _top,
+        } = work;
+        Lines {
+            lines,
+            files: names,
+            dynamic: settings.dynamic,
+        }
+    }
+
+    /// A fault at a place, with the name of its file.
+    fn fault(&self, alloc: Global, kind: u8, place: Place) -> PreFault
+        ensures { IsFault
+            (walks.Fault kind place (walks.name_of self.now.names place.file)) result }
+    {
+        let bytes = match self.names.as_slice().get(place.file as usize) {
+            Some(name) => name.as_slice(),
+            None => &[],
+        };
+        match Bytes::from_slice(alloc, bytes) {
+            Ok(name) => PreFault::Source { kind, place, name },
+            Err(Memory) => PreFault::Memory,
+        }
+    }
+
+    /// Closes a file of which no line is left.
+    #[tactic(auto, unfolding(crate::specs::Walks::at_end))]
+    fn end_file(&mut self, alloc: Global) -> Result<bool, PreFault>
+        ensures says { Says (walks.at_end self.old) result self.new }
+        ensures bounds { IsSoundPage self.old → Leaves result self.new }
+        ensures cause { result ≢ Err PreFault.Files }
+    {
+        let place = Place {
+            file: self.work.top.file(),
+            line: self.work.top.last(),
+        };
+        if self.work.top.is_unclosed() {
+            return Err(self.fault(alloc, 12, place));
+        }
+        if self.work.top.innermost().is_some() {
+            return Err(self.fault(alloc, 2, place));
+        }
+        match self.below.pop_front() {
+            Some(level) => {
+                self.work.top = level;
+                Ok(true)
+            }
+            None => Ok(false),
+        }
+    }
+
+    fn is_begun(&self, name: &[u8]) -> bool
+        ensures { result ≡ walks.is_begun self.now name.now }
+    {
+        self.names
+            .as_slice()
+            .iter()
+            .any(|known| name == known.as_slice())
+    }
+
+    /// Opens a file.
+    fn enter(&mut self, alloc: Global, name: Bytes, bytes: &[u8]) -> Result<(), Memory>
+        requires { length bytes.now ≤ 16777216 }
+        ensures { OnOk result (self.new ≡ walks.entered self.old name bytes.now) }
+    {
+        let number = self.names.len() as u64;
+        let level = Level::new(alloc, number, read_rows(alloc, bytes)?);
+        let outer = mem::replace(&mut self.work.top, level);
+        match self.below.push_front(outer) {
+            Ok(()) => self.names.push(name),
+            Err(_) => Err(Memory),
+        }
+    }
+
+    /// A file that isn't there.
+    fn missing(&self, alloc: Global, optional: bool, place: Place) -> Result<bool, PreFault>
+        ensures { IsMissing optional self.now place result }
+    {
+        if optional {
+            Ok(true)
+        } else {
+            Err(self.fault(alloc, 3, place))
+        }
+    }
+
+    /// Asks for a file, and opens it.
+    fn ask<F: Files>(
+        &mut self,
+        alloc: Global,
+        files: &mut F,
+        line: u32,
+        optional: bool,
+        named: Named,
+    ) -> Result<bool, PreFault>
+        requires { IsTrue named.valid → IsAscii named.name }
+        ensures same { F.held files.new ≡ F.held files.old }
+        ensures says { (map : Held) → F.held files.old ≡ Some map →
+            Says (walks.asked map self.old line optional named) result self.new }
+        ensures bounds { IsSoundPage self.old → Leaves result self.new }
+        ensures later { F.faults files.old ≤ F.faults files.new }
+        ensures cause { result ≡ Err PreFault.Files →
+            Rose (F.faults files.old) (F.faults files.new) }
+    {
+        let place = Place {
+            file: self.work.top.file(),
+            line,
+        };
+        if !named.valid {
+            return self.missing(alloc, optional, place);
+        }
+        match read_named(alloc, files, named.name.as_slice()) {
+            ReadAnswer::Got(bytes) => match self.enter(alloc, named.name, bytes.as_slice()) {
+                Ok(()) => Ok(true),
+                Err(Memory) => Err(PreFault::Memory),
+            },
+            ReadAnswer::Missing => self.missing(alloc, optional, place),
+            ReadAnswer::TooLarge => Err(PreFault::TooLarge(named.name)),
+            ReadAnswer::Failed => Err(PreFault::Files),
+            ReadAnswer::Memory => Err(PreFault::Memory),
+        }
+    }
+
+    /// Includes a file.
+    #[tactic(auto, unfolding(crate::specs::Walks::include))]
+    fn include<F: Files>(
+        &mut self,
+        alloc: Global,
+        files: &mut F,
+        line: u32,
+        optional: bool,
+        rest: &[u8],
+    ) -> Result<bool, PreFault>
+        ensures same { F.held files.new ≡ F.held files.old }
+        ensures says { (map : Held) → F.held files.old ≡ Some map →
+            Says (walks.include map self.old line optional rest.now) result self.new }
+        ensures bounds { IsSoundPage self.old → Leaves result self.new }
+        ensures later { F.faults files.old ≤ F.faults files.new }
+        ensures cause { result ≡ Err PreFault.Files →
+            Rose (F.faults files.old) (F.faults files.new) }
+    {
+        if !self.work.is_in_chosen() {
+            return Ok(true);
+        }
+        let named = match include_name(alloc, rest) {
+            Ok(named) => named,
+            Err(Memory) => return Err(PreFault::Memory),
+        };
+        if self.is_begun(named.name.as_slice()) {
+            return Ok(true);
+        }
+        if self.below.len() > 15 {
+            let place = Place {
+                file: self.work.top.file(),
+                line,
+            };
+            return Err(self.fault(alloc, 8, place));
+        }
+        self.ask(alloc, files, line, optional, named)
+    }
+
+    /// What became of the work of a line.
+    fn told(&self, alloc: Global, place: Place, done: Result<(), Refusal>) -> Result<bool, PreFault>
+        ensures { IsTold self.now place done result }
+    {
+        match done {
+            Ok(()) => Ok(true),
+            Err(Refusal::Fault(kind)) => Err(self.fault(alloc, kind, place)),
+            Err(Refusal::Memory) => Err(PreFault::Memory),
+        }
+    }
+
+    /// Settles the next line, or the end of a file: false where no file is open any more.
+    #[tactic(auto, unfolding(crate::specs::Walks::step))]
+    pub fn turn<F: Files>(&mut self, alloc: Global, files: &mut F) -> Result<bool, PreFault>
+        ensures same { F.held files.new ≡ F.held files.old }
+        ensures says { (map : Held) → F.held files.old ≡ Some map →
+            Says (walks.step value_of map self.old) result self.new }
+        ensures bounds { IsSoundPage self.old → Leaves result self.new }
+        ensures later { F.faults files.old ≤ F.faults files.new }
+        ensures cause { result ≡ Err PreFault.Files →
+            Rose (F.faults files.old) (F.faults files.new) }
+    {
+        let Some(row) = self.work.top.take_row() else {
+            return self.end_file(alloc);
+        };
+        let place = Place {
+            file: self.work.top.file(),
+            line: row.number,
+        };
+        match directive(row.bytes.as_slice()) {
+            None => {
+                let done = self.work.keep(alloc, row.number, row.bytes.as_slice());
+                self.told(alloc, place, done)
+            }
+            Some(parts) => match parts.word {
+                Word::Include => self.include(alloc, files, row.number, false, parts.rest),
+                Word::TryInclude => self.include(alloc, files, row.number, true, parts.rest),
+                Word::Define
+                | Word::Undef
+                | Word::If
+                | Word::ElseIf
+                | Word::Else
+                | Word::Endif
+                | Word::Error
+                | Word::Assert
+                | Word::Endinput
+                | Word::Pragma
+                | Word::Unknown => {
+                    let done = self.work.act(alloc, parts.word, parts.rest);
+                    self.told(alloc, place, done)
+                }
+            },
+        }
+    }
+}
