@@ -1,0 +1,10 @@
+pub mod ClassLaws
+pub mod DigitLaws
+pub mod FormLaws
+pub mod LineLaws
+pub mod LiteralLaws
+pub mod NumberLaws
+pub mod OneLaws
+pub mod SignLaws
+pub mod SortLaws
+pub mod TableLaws

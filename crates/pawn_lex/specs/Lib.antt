@@ -1,0 +1,10 @@
+pub mod Answers
+pub mod Class
+pub mod Fault
+pub mod Forms
+pub mod Keys
+pub mod Lines
+pub mod Literal
+pub mod Number
+pub mod Reading
+pub mod Signs
