@@ -1,0 +1,10 @@
+pub mod AdvanceLaws
+pub mod CodeLaws
+pub mod EmptyLaws
+pub mod EndsLaws
+pub mod FinishLaws
+pub mod GrowLaws
+pub mod LoopLaws
+pub mod MarkLaws
+pub mod PrepareLaws
+pub mod WordLaws

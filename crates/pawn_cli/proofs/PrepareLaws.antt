@@ -1,0 +1,74 @@
+-- The steps of a compilation, put together.
+use Rattle.std.specs.FinMap.{get, insert, remove, same_map, get-remove, get-insert, nat_cmp-IsAntisymmetric, slice_cmp-IsAntisymmetric}
+use Rattle.std.specs.Ordering.{nat_cmp, eq_by_cmp}
+use Rattle.std.specs.Cmp.Lexicographic.{slice_cmp, nat_list_cmp_total}
+use Rattle.std.proofs.Common.{Bool, true, false, cond, ◌≡◌, ◌∙◌, ℕ, pos, List, Option, None, Some, Result, Ok, Err, refl, sym, ap, subst}
+use Rattle.pawn_outside.specs.Held.{Held, Tells, with_put, without}
+use Rattle.amx_ops.specs.declared.amx.Amx.{Amx}
+use Rattle.amx_ops.specs.State.{State}
+use Rattle.amx_ops.specs.Trace.{started}
+use Rattle.amx_format.specs.File.{IsFile}
+use Rattle.amx_format.proofs.Determines.{file_determines}
+use Rattle.gen_straight.specs.Code.{file_of}
+use Rattle.pawn_cli.specs.declared.stop.StopEarly.{StopEarly}
+use Rattle.pawn_cli.specs.declared.stop.StopEarly.TheVariants.{Refused, NoFile, TooLarge, FileFault, NoMemory}
+use Rattle.pawn_cli.specs.Source.{empty_program}
+use Rattle.pawn_cli.specs.Command.{Command}
+use Rattle.pawn_cli.specs.Compiled.{HasFile}
+use Rattle.pawn_cli.specs.Put.{IsBytesOf, IsStarted}
+use Rattle.pawn_cli.specs.Ready.{IsPrepared}
+use Rattle.pawn_cli.specs.Reply.{Met, Reads}
+use Rattle.pawn_cli.proofs.EmptyLaws.{file_is}
+
+-- a put changes no other file
+same_by : (b : Bool) (o : Option (List ℕ)) (bytes : List ℕ) → cond b None (cond b (Some bytes) o) ≡ cond b None o
+same_by true o bytes = refl
+same_by false o bytes = refl
+
+pub without-with_put : (held : Option Held) (name bytes : List ℕ) → without (with_put held name bytes) name ≡ without held name
+without-with_put None name bytes = refl
+without-with_put (Some map) name bytes = ap Some (same_map nat_list_cmp_total (slice_cmp-IsAntisymmetric nat_cmp-IsAntisymmetric) (remove (insert map name bytes) name) (remove map name) (λ q.
+    get-remove nat_list_cmp_total (insert map name bytes) name q
+    ∙ ap (λ o. cond (eq_by_cmp (slice_cmp nat_cmp) q name) None o) (get-insert nat_list_cmp_total map name bytes q)
+    ∙ same_by (eq_by_cmp (slice_cmp nat_cmp) q name) (get map q) bytes
+    ∙ sym (get-remove nat_list_cmp_total map name q)))
+
+-- what was read is the file of the source
+pub read_is : {bytes : List ℕ} (given : (source : List ℕ) × IsBytesOf source bytes) (read : Amx) → IsFile bytes read → read ≡ file_of empty_program
+read_is {bytes} given read file = file_determines bytes read given.1.amx file given.1.file ∙ file_is given.1.compiled
+
+pub starts : {bytes : List ℕ} (given : (source : List ℕ) × IsBytesOf source bytes) (read ready amx : Amx) (state : State) → IsFile bytes read → ready ≡ read → amx ≡ ready
+    → state ≡ (started amx amx.room (pos 8)).state → IsFile bytes ready × (state ≡ (started ready 4096 ready.entry).state)
+starts {bytes} given read ready amx state file same lent e =
+    let is : ready ≡ file_of empty_program = same ∙ read_is given read file in (
+      subst (IsFile bytes) (sym same) file,
+      e ∙ ap (λ (it : Amx). (started it it.room (pos 8)).state) (lent ∙ is) ∙ ap (λ (it : Amx). (started it 4096 it.entry).state) (sym is),
+    )
+
+pub prepared : {T : Type 0} (amx : T → Amx) (state : T → State) (command : Command) (met : Met) (source bytes : List ℕ) (result : Result T StopEarly)
+    → Reads command met source → IsBytesOf source bytes → met.after ≡ with_put met.held command.amx bytes → IsStarted amx state bytes result
+    → IsPrepared amx state command met result
+prepared amx state command met source bytes (Ok ready) reads given puts started = record {
+  source = source;
+  reads = reads;
+  compiled = subst (HasFile source) (file_determines bytes given.amx (amx ready) given.file started.0) given.compiled;
+  bytes = bytes;
+  file = started.0;
+  puts = puts;
+  starts = started.1;
+}
+prepared amx state command met source bytes (Err NoMemory) reads given puts started = (refl, ap (λ held. without held command.amx) puts ∙ without-with_put met.held command.amx bytes)
+prepared amx state command met source bytes (Err FileFault) reads given puts started = absurd started
+prepared amx state command met source bytes (Err NoFile) reads given puts started = absurd started
+prepared amx state command met source bytes (Err TooLarge) reads given puts started = absurd started
+prepared amx state command met source bytes (Err Refused) reads given puts started = absurd started
+
+-- as the code meets the steps
+pub prepared_by : {T : Type 0} (amx : T → Amx) (state : T → State) (command : Command) (held mid after : Option Held) (faults faults_after : ℕ) (source lent bytes put_ started_ : List ℕ) (result : Result T StopEarly)
+    → mid ≡ held → Tells held command.source (Some source) → lent ≡ source → IsBytesOf lent bytes → put_ ≡ bytes → after ≡ with_put mid command.amx put_ → started_ ≡ bytes → IsStarted amx state started_ result
+    → IsPrepared amx state command (record { held = held; after = after; faults = faults; faults_after = faults_after }) result
+prepared_by amx state command held mid after faults faults_after source lent bytes put_ started_ result same tells is given is_put puts is_started start =
+    prepared amx state command (record { held = held; after = after; faults = faults; faults_after = faults_after }) source bytes result tells
+    (subst (λ s. IsBytesOf s bytes) is given)
+    (puts ∙ ap (λ h. with_put h command.amx put_) same ∙ ap (with_put held command.amx) is_put)
+    (subst (λ b. IsStarted amx state b result) is_started start)

@@ -1,0 +1,31 @@
+use Rattle.std.proofs.Common.{◌≡◌, ◌∙◌, ◌/◌, length, drop, ap, sym, arith, None}
+use Rattle.amx_ops.specs.Instructions.{front, fetched}
+use Rattle.pawn_cli.proofs.MarkLaws.{length-marks, marked, fetched-at_mark, fetched-between, fetched-past_marks}
+use Rattle.pawn_cli.proofs.verified.Verified.fetch.Goals as goal
+use Rattle.pawn_cli.proofs.verified.Verified.fetch.Goals.{else-address-eq0-via-then-address-eq0+then-place-len+else-index, else-address-eq0-via-then-address-eq0+else-place-len, else-address-eq0-via-else-address-eq0}
+
+pub split_at-requires : goal.split_at-requires
+split_at-requires c =
+    omega (arith, length-marks 0 c.self.inside.amx.code, ap length c.self.invariant.marked, ap length c.as_slice.ensures.cells)
+
+pub returns-then-index-clause-value : goal.returns-then-index-clause-value
+returns-then-index-clause-value c =
+    let inside = c.self.inside in
+    let a = c.args.address in
+    let at = fetched-at_mark inside.amx.code inside.starts.items a c.index.result.now c.self.invariant.marked c.if-address-eq0.true (omega arith) c.index.ensures in
+    let here : front c.split_at.result.1.now ≡ front (drop (a / 4) inside.amx.code) = ap front (c.split_at.ensures.back ∙ ap (drop (a / 4)) c.as_slice.ensures.cells) in
+    c.read.ensures.value ∙ here ∙ sym (ap (λ code. fetched code.code a) (sym c.self.view_is) ∙ at ∙ ap (λ b. marked b (front (drop (a / 4) inside.amx.code))) c.if-index.true)
+
+pub returns-else-address-eq0-clause-value : goal.returns-else-address-eq0-clause-value
+returns-else-address-eq0-clause-value c =
+    let inside = c.self.inside in
+    let a = c.args.address in
+    let none : fetched inside.amx.code a ≡ None =
+    elim c.else-address-eq0.branch [
+      | else-address-eq0-via-then-address-eq0+then-place-len+else-index w ↦
+          fetched-at_mark inside.amx.code inside.starts.items a w.index.result.now c.self.invariant.marked w.if-address-eq0.true (omega arith) w.index.ensures
+          ∙ ap (λ b. marked b (front (drop (a / 4) inside.amx.code))) w.if-index.false
+      | else-address-eq0-via-then-address-eq0+else-place-len w ↦ fetched-past_marks inside.amx.code inside.starts.items a c.self.invariant.marked (omega arith)
+      | else-address-eq0-via-else-address-eq0 w ↦ fetched-between inside.amx.code a w.if-address-eq0.false
+    ] in
+    sym (ap (λ code. fetched code.code a) (sym c.self.view_is) ∙ none)

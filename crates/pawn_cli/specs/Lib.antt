@@ -1,0 +1,16 @@
+pub mod Advance
+pub mod Code
+pub mod Command
+pub mod Compiled
+pub mod Ends
+pub mod Marks
+pub mod Put
+pub mod Ran
+pub mod Ready
+pub mod Reply
+pub mod RunText
+pub mod Sound
+pub mod Source
+pub mod Status
+pub mod Stopped
+pub mod Turns
