@@ -2,7 +2,7 @@
 use Rattle.std.specs.FinMap.{get, insert, remove, same_map, get-remove, get-insert, nat_cmp-IsAntisymmetric, slice_cmp-IsAntisymmetric}
 use Rattle.std.specs.Ordering.{nat_cmp, eq_by_cmp}
 use Rattle.std.specs.Cmp.Lexicographic.{slice_cmp, nat_list_cmp_total}
-use Rattle.std.proofs.Common.{Bool, true, false, cond, ◌≡◌, ◌∙◌, ℕ, pos, List, Option, None, Some, Result, Ok, Err, refl, sym, ap, subst}
+use Rattle.std.proofs.Common.{Bool, true, false, cond, ◌≤◌, length, ◌≡◌, ◌∙◌, ℕ, pos, List, Option, None, Some, Result, Ok, Err, refl, sym, ap, subst}
 use Rattle.pawn_outside.specs.Held.{Held, Tells, with_put, without}
 use Rattle.amx_ops.specs.declared.amx.Amx.{Amx}
 use Rattle.amx_ops.specs.State.{State}
@@ -17,7 +17,7 @@ use Rattle.pawn_cli.specs.Command.{Command}
 use Rattle.pawn_cli.specs.Compiled.{HasFile}
 use Rattle.pawn_cli.specs.Put.{IsBytesOf, IsStarted}
 use Rattle.pawn_cli.specs.Ready.{IsPrepared}
-use Rattle.pawn_cli.specs.Reply.{Met, Reads}
+use Rattle.pawn_cli.specs.Reply.{Met, Reads, source_limit}
 use Rattle.pawn_cli.proofs.EmptyLaws.{file_is}
 
 -- a put changes no other file
@@ -65,7 +65,7 @@ prepared amx state command met source bytes (Err Refused) reads given puts start
 
 -- as the code meets the steps
 pub prepared_by : {T : Type 0} (amx : T → Amx) (state : T → State) (command : Command) (held mid after : Option Held) (faults faults_after : ℕ) (source lent bytes put_ started_ : List ℕ) (result : Result T StopEarly)
-    → mid ≡ held → Tells held command.source (Some source) → lent ≡ source → IsBytesOf lent bytes → put_ ≡ bytes → after ≡ with_put mid command.amx put_ → started_ ≡ bytes → IsStarted amx state started_ result
+    → mid ≡ held → Tells held command.source (Some source) × (length source ≤ source_limit) → lent ≡ source → IsBytesOf lent bytes → put_ ≡ bytes → after ≡ with_put mid command.amx put_ → started_ ≡ bytes → IsStarted amx state started_ result
     → IsPrepared amx state command (record { held = held; after = after; faults = faults; faults_after = faults_after }) result
 prepared_by amx state command held mid after faults faults_after source lent bytes put_ started_ result same tells is given is_put puts is_started start =
     prepared amx state command (record { held = held; after = after; faults = faults; faults_after = faults_after }) source bytes result tells

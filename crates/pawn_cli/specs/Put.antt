@@ -1,5 +1,5 @@
 -- The steps of a compilation: a source is read, its file's bytes are made and put, and a machine starts.
-use Rattle.std.specs.Prelude.{◌≡◌, ◌<◌, ℕ, List, Option, None, Some, Result, Ok, Err, length}
+use Rattle.std.specs.Prelude.{◌≡◌, ◌≤◌, ◌<◌, ℕ, List, Option, None, Some, Result, Ok, Err, length}
 use Rattle.pawn_outside.specs.Held.{Held, Tells, HoldsThat, with_put, without}
 use Rattle.pawn_outside.specs.Rose.{Rose}
 use Rattle.pawn_program.specs.Program.{Program}
@@ -15,7 +15,7 @@ use Rattle.pawn_cli.specs.Source.{Means}
 
 -- a source by its name, with the counts of faults before and after
 abbrev pub IsReadFrom : Option Held → List ℕ → ℕ → ℕ → Result (List ℕ) StopEarly → Type 0
-IsReadFrom held name faults after (Ok source) = Tells held name (Some source)
+IsReadFrom held name faults after (Ok source) = Tells held name (Some source) × (length source ≤ source_limit)
 IsReadFrom held name faults after (Err NoFile) = Tells held name None
 IsReadFrom held name faults after (Err TooLarge) = HoldsThat held name (λ bytes. source_limit < length bytes)
 IsReadFrom held name faults after (Err FileFault) = Rose faults after

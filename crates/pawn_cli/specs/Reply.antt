@@ -1,5 +1,5 @@
 -- What a command replies: its line or lines, and the files behind it.
-use Rattle.std.specs.Prelude.{◌≡◌, ◌<◌, ◌++◌, ℕ, List, [], Option, None, Some, codes, length}
+use Rattle.std.specs.Prelude.{◌≡◌, ◌<◌, ◌≤◌, ◌++◌, ℕ, List, [], Option, None, Some, codes, length}
 use Rattle.pawn_outside.specs.Held.{Held, Tells, HoldsThat, with_put, without}
 use Rattle.pawn_outside.specs.Rose.{Rose}
 use Rattle.host_script.specs.declared.event.End.{End}
@@ -53,9 +53,9 @@ abbrev pub Keeps : Option Command → Met → Type 0
 Keeps None met = met.after ≡ met.held
 Keeps (Some command) met = without met.after command.amx ≡ without met.held command.amx
 
--- the source's bytes, as far as the files tell
+-- the source's bytes, as far as the files tell, within the limit
 abbrev pub Reads : Command → Met → List ℕ → Type 0
-Reads command met source = Tells met.held command.source (Some source)
+Reads command met source = Tells met.held command.source (Some source) × (length source ≤ source_limit)
 
 -- a compiled source, and the file that was put
 pub record IsOk (command : Command) (met : Met) (text : List ℕ) : Type 0 where
