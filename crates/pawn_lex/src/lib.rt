@@ -24,3 +24,4 @@ pub use pawn_base::{Bytes, List, Memory};
 pub use pawn_cells::Place;
 pub use pawn_pre::{Line, Lines};
 pub use sign::Sign;
+pub use table::key_of;
