@@ -12,7 +12,7 @@ use Rattle.amx_ops.specs.declared.amx.Amx.{Amx}
 use Rattle.amx_ops.specs.Instructions.{fetched}
 use Rattle.amx_ops.specs.State.{State}
 use Rattle.amx_ops.specs.Moves.{Config, move, look, answered, asked, name_of}
-use Rattle.gen_straight.specs.Code.{sysreq_c}
+use Rattle.gen_straight.specs.declared.instruction.Instruction.TheVariants.{SysreqC}
 use Rattle.gen_straight.proofs.Lie.{read_as}
 use Rattle.gen_straight.proofs.Sim.{Does, stays, goes_one, ends_one, gives, stops, grown}
 use Rattle.gen_straight.proofs.Natives.{values, Near, native_near}
@@ -76,14 +76,14 @@ module _ (amx : Amx) (script : Script) (cells room : ℕ) (frm : ℕ) (ns : List
     (vs stack : List ℤ) (count : ℕ) (p : ℕ) (w : World) (c : Config)
     (a : At room frm ns (pos count ∷ (vs ++ stack)) p w c) where
   pub sysreq_does : (n : ℕ) (name : List ℕ) → name_of amx.natives n ≡ name → count ≡ 4 * length vs
-      → fetched amx.code p ≡ Some (read_as (sysreq_c n))
+      → fetched amx.code p ≡ Some (read_as (SysreqC n))
       → Does (move amx script) cells room 1 w.turns c (call_native script name (values vs) w)
       (With room frm ns (pos count ∷ (vs ++ stack)) (p + 8))
   sysreq_does n name e h f =
       let s : State = record c.state { cip = p + 8 } in
       let m : Mem (pos count ∷ (vs ++ stack)) s =
       mem_as (pos count ∷ (vs ++ stack)) c.state s refl refl refl a.mem in
-      let goes = move_is amx script c p (sysreq_c n) a.at f
+      let goes = move_is amx script c p (SysreqC n) a.at f
       ∙ ap (λ o. asked script (name_of amx.natives n) o s c) (arguments_are vs stack count s m h)
       ∙ ap (λ l. answered (native_call script (look s) l vs c.position) s c) e
       ∙ ap (λ k. answered (native_call script (look s) name vs k) s c) a.position in

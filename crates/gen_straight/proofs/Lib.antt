@@ -17,3 +17,5 @@ pub mod Stands
 pub mod Statements
 pub mod Steps
 pub mod Whole
+pub mod EmitLaws
+pub mod FitsLaws

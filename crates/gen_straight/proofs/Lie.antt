@@ -4,19 +4,21 @@ use Rattle.amx_ops.specs.declared.op.Op.TheVariants as op
 use Rattle.amx_ops.specs.declared.instruction.Instruction as machine
 use Rattle.amx_ops.specs.declared.instruction.Operand.TheVariants.{Nothing, AnyCell, Multiple, NativeNumber}
 use Rattle.amx_ops.specs.Instructions.{Placed, placed_from, fetched}
-use Rattle.gen_straight.specs.Code.{Instruction, const_pri, push_c, stack, proc, retn, zero_pri, zero_alt, halt, sysreq_c, cells_of}
+use Rattle.gen_straight.specs.declared.instruction.Instruction.{Instruction}
+use Rattle.gen_straight.specs.declared.instruction.Instruction.TheVariants.{ConstPri, PushC, Stack, Proc, Retn, ZeroPri, ZeroAlt, Halt, SysreqC}
+use Rattle.gen_straight.specs.Code.{cells_of}
 
 -- an instruction as the machine reads it
 abbrev pub read_as : Instruction → machine.Instruction
-read_as (const_pri v) = record { op = op.ConstPri; kind = AnyCell; operand = v; size = 2 }
-read_as (push_c v) = record { op = op.PushC; kind = AnyCell; operand = v; size = 2 }
-read_as (stack v) = record { op = op.Stack; kind = Multiple; operand = v; size = 2 }
-read_as proc = record { op = op.Proc; kind = Nothing; operand = pos 0; size = 1 }
-read_as retn = record { op = op.Retn; kind = Nothing; operand = pos 0; size = 1 }
-read_as zero_pri = record { op = op.ZeroPri; kind = Nothing; operand = pos 0; size = 1 }
-read_as zero_alt = record { op = op.ZeroAlt; kind = Nothing; operand = pos 0; size = 1 }
-read_as (halt v) = record { op = op.Halt; kind = AnyCell; operand = v; size = 2 }
-read_as (sysreq_c n) = record { op = op.SysreqC; kind = NativeNumber; operand = pos n; size = 2 }
+read_as (ConstPri v) = record { op = op.ConstPri; kind = AnyCell; operand = v; size = 2 }
+read_as (PushC v) = record { op = op.PushC; kind = AnyCell; operand = v; size = 2 }
+read_as (Stack v) = record { op = op.Stack; kind = Multiple; operand = v; size = 2 }
+read_as Proc = record { op = op.Proc; kind = Nothing; operand = pos 0; size = 1 }
+read_as Retn = record { op = op.Retn; kind = Nothing; operand = pos 0; size = 1 }
+read_as ZeroPri = record { op = op.ZeroPri; kind = Nothing; operand = pos 0; size = 1 }
+read_as ZeroAlt = record { op = op.ZeroAlt; kind = Nothing; operand = pos 0; size = 1 }
+read_as (Halt v) = record { op = op.Halt; kind = AnyCell; operand = v; size = 2 }
+read_as (SysreqC n) = record { op = op.SysreqC; kind = NativeNumber; operand = pos n; size = 2 }
 
 -- the address behind an instruction at an address
 abbrev pub next : ℕ → Instruction → ℕ
@@ -42,29 +44,29 @@ two p it rest is e = let q : p + 4 + 4 ≡ p + 8 = omega arith in rw q (ap (λ o
 -- reading the cells of instructions gives these
 pub placed_is : (p : ℕ) (is : List Instruction) → placed_from p 0 (cells_of is) ≡ placed_all p is
 placed_is p [] = refl
-placed_is p (const_pri v ∷ is) =
-    two p (placed_at p (const_pri v)) (cells_of is) is (placed_is (p + 8) is)
-placed_is p (push_c v ∷ is) = two p (placed_at p (push_c v)) (cells_of is) is (placed_is (p + 8) is)
-placed_is p (stack v ∷ is) = two p (placed_at p (stack v)) (cells_of is) is (placed_is (p + 8) is)
-placed_is p (proc ∷ is) = ap (λ others. placed_at p proc ∷ others) (placed_is (p + 4) is)
-placed_is p (retn ∷ is) = ap (λ others. placed_at p retn ∷ others) (placed_is (p + 4) is)
-placed_is p (zero_pri ∷ is) = ap (λ others. placed_at p zero_pri ∷ others) (placed_is (p + 4) is)
-placed_is p (zero_alt ∷ is) = ap (λ others. placed_at p zero_alt ∷ others) (placed_is (p + 4) is)
-placed_is p (halt v ∷ is) = two p (placed_at p (halt v)) (cells_of is) is (placed_is (p + 8) is)
-placed_is p (sysreq_c n ∷ is) =
-    two p (placed_at p (sysreq_c n)) (cells_of is) is (placed_is (p + 8) is)
+placed_is p (ConstPri v ∷ is) =
+    two p (placed_at p (ConstPri v)) (cells_of is) is (placed_is (p + 8) is)
+placed_is p (PushC v ∷ is) = two p (placed_at p (PushC v)) (cells_of is) is (placed_is (p + 8) is)
+placed_is p (Stack v ∷ is) = two p (placed_at p (Stack v)) (cells_of is) is (placed_is (p + 8) is)
+placed_is p (Proc ∷ is) = ap (λ others. placed_at p Proc ∷ others) (placed_is (p + 4) is)
+placed_is p (Retn ∷ is) = ap (λ others. placed_at p Retn ∷ others) (placed_is (p + 4) is)
+placed_is p (ZeroPri ∷ is) = ap (λ others. placed_at p ZeroPri ∷ others) (placed_is (p + 4) is)
+placed_is p (ZeroAlt ∷ is) = ap (λ others. placed_at p ZeroAlt ∷ others) (placed_is (p + 4) is)
+placed_is p (Halt v ∷ is) = two p (placed_at p (Halt v)) (cells_of is) is (placed_is (p + 8) is)
+placed_is p (SysreqC n ∷ is) =
+    two p (placed_at p (SysreqC n)) (cells_of is) is (placed_is (p + 8) is)
 
 -- an instruction takes at least a cell
 pub takes : (i : Instruction) → 1 ≤ (read_as i).size
-takes (const_pri v) = omega arith
-takes (push_c v) = omega arith
-takes (stack v) = omega arith
-takes proc = omega arith
-takes retn = omega arith
-takes zero_pri = omega arith
-takes zero_alt = omega arith
-takes (halt v) = omega arith
-takes (sysreq_c n) = omega arith
+takes (ConstPri v) = omega arith
+takes (PushC v) = omega arith
+takes (Stack v) = omega arith
+takes Proc = omega arith
+takes Retn = omega arith
+takes ZeroPri = omega arith
+takes ZeroAlt = omega arith
+takes (Halt v) = omega arith
+takes (SysreqC n) = omega arith
 
 pub past_least : (p : ℕ) (is : List Instruction) → p ≤ past p is
 past_least p [] = omega arith

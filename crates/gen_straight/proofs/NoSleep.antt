@@ -5,34 +5,36 @@ use Rattle.pawn_program.specs.Program as node
 use Rattle.pawn_meaning.specs.Need.{count_of}
 use Rattle.amx_ops.specs.Instructions.{placed, is_number}
 use Rattle.gen_straight.specs.Straight.{IsStraight}
-use Rattle.gen_straight.specs.Code.{Instruction, const_pri, push_c, proc, retn, zero_pri, zero_alt, halt, sysreq_c, cells_of, args_code, call_code, expr_code, stmt_code, stmts_code, program_code}
-use Rattle.gen_straight.specs.Code as code
+use Rattle.gen_straight.specs.declared.instruction.Instruction.{Instruction}
+use Rattle.gen_straight.specs.declared.instruction.Instruction.TheVariants.{ConstPri, PushC, Proc, Retn, ZeroPri, ZeroAlt, Halt, SysreqC}
+use Rattle.gen_straight.specs.Code.{cells_of, args_code, call_code, expr_code, stmt_code, stmts_code, program_code}
+use Rattle.gen_straight.specs.declared.instruction.Instruction.TheVariants as code
 use Rattle.gen_straight.proofs.Lie.{read_as, next, placed_all}
 use Rattle.gen_straight.proofs.Awake.{IsAwake, AllAwake}
 use Rattle.gen_straight.proofs.Whole.{main_code}
 use Rattle.gen_straight.proofs.Shape.{placed_main}
 
 abbrev NoSleep : Instruction → Type 0
-NoSleep (halt v) = is_number 12 v ≡ false
-NoSleep (const_pri v) = Unit {0}
-NoSleep (push_c v) = Unit {0}
-NoSleep (code.stack v) = Unit {0}
-NoSleep proc = Unit {0}
-NoSleep retn = Unit {0}
-NoSleep zero_pri = Unit {0}
-NoSleep zero_alt = Unit {0}
-NoSleep (sysreq_c n) = Unit {0}
+NoSleep (Halt v) = is_number 12 v ≡ false
+NoSleep (ConstPri v) = Unit {0}
+NoSleep (PushC v) = Unit {0}
+NoSleep (code.Stack v) = Unit {0}
+NoSleep Proc = Unit {0}
+NoSleep Retn = Unit {0}
+NoSleep ZeroPri = Unit {0}
+NoSleep ZeroAlt = Unit {0}
+NoSleep (SysreqC n) = Unit {0}
 
 awake : (i : Instruction) → NoSleep i → IsAwake (read_as i)
-awake (halt v) h e = h
-awake (const_pri v) h e = cc
-awake (push_c v) h e = cc
-awake (code.stack v) h e = cc
-awake proc h e = cc
-awake retn h e = cc
-awake zero_pri h e = cc
-awake zero_alt h e = cc
-awake (sysreq_c n) h e = cc
+awake (Halt v) h e = h
+awake (ConstPri v) h e = cc
+awake (PushC v) h e = cc
+awake (code.Stack v) h e = cc
+awake Proc h e = cc
+awake Retn h e = cc
+awake ZeroPri h e = cc
+awake ZeroAlt h e = cc
+awake (SysreqC n) h e = cc
 
 abbrev NoSleeps : List Instruction → Type 0
 NoSleeps [] = Unit {0}
@@ -49,7 +51,7 @@ none_on (i ∷ is) js a b = (a.0, none_on is js a.1 b)
 args_none : (args : Args) → NoSleeps (args_code args)
 args_none no_args = tt
 args_none (then_arg (node.Value (Const v)) args) =
-    none_on (args_code args) (push_c v ∷ []) (args_none args) (tt, tt)
+    none_on (args_code args) (PushC v ∷ []) (args_none args) (tt, tt)
 args_none (then_arg (node.Value (Native n others)) args) =
     none_on (args_code args) [] (args_none args) tt
 
@@ -63,7 +65,7 @@ mutual
   stmt_none (Block stmts) = stmts_none stmts
   stmt_none (Do e) = expr_none e
   stmt_none (Exit e tag) =
-      none_on (expr_code e) (zero_alt ∷ halt (pos 1) ∷ []) (expr_none e) (tt, (refl, tt))
+      none_on (expr_code e) (ZeroAlt ∷ Halt (pos 1) ∷ []) (expr_none e) (tt, (refl, tt))
 
   stmts_none : (stmts : Stmts) → NoSleeps (stmts_code stmts)
   stmts_none no_stmts = tt
@@ -78,7 +80,7 @@ main_awake program straight =
       refl,
       (
         tt,
-        none_on (stmts_code straight.stmts) (zero_pri ∷ retn ∷ [])
+        none_on (stmts_code straight.stmts) (ZeroPri ∷ Retn ∷ [])
             (stmts_none straight.stmts) (tt, (tt, tt)),
       ),
     ))

@@ -23,7 +23,8 @@ use Rattle.amx_ops.proofs.CutLaws.{joined_cut}
 use Rattle.amx_ops.specs.Moves.{Config, move}
 use Rattle.amx_ops.specs.Trace.{started}
 use Rattle.gen_straight.specs.Straight.{AreConstants, IsConstant, IsStraight, IsStraightCall, IsStraightStmt, AreStraight, main_of}
-use Rattle.gen_straight.specs.Code.{push_c, args_code, call_code, expr_code, stmt_code, stmts_code, zero_pri, retn, file_of}
+use Rattle.gen_straight.specs.declared.instruction.Instruction.TheVariants.{PushC, ZeroPri, Retn}
+use Rattle.gen_straight.specs.Code.{args_code, call_code, expr_code, stmt_code, stmts_code, file_of}
 use Rattle.gen_straight.specs.Theorems.{statements, all_statements, HasFewArgs, CallsWithFew, AllCallWithFew, IsEnd, StraightProgramsEnd}
 use Rattle.gen_straight.proofs.Awake.{move_up, never_asleep}
 use Rattle.gen_straight.proofs.Iterations.{over_end, over_config, over_past, both_over}
@@ -53,7 +54,7 @@ constants_load (then_arg (node.Value (Native n others)) args) h = elim h.0 [ ]
 constants_code : (args : Args) → AreConstants args → length (args_code args) ≡ count_of args
 constants_code no_args h = refl
 constants_code (then_arg (node.Value (Const v)) args) h =
-    length-append (args_code args) (push_c v ∷ []) ∙ omega (arith, constants_code args h.1)
+    length-append (args_code args) (PushC v ∷ []) ∙ omega (arith, constants_code args h.1)
 constants_code (then_arg (node.Value (Native n others)) args) h = elim h.0 [ ]
 
 -- a statement's load, and its instructions
@@ -294,7 +295,7 @@ straight_programs_end_lem program straight room count few =
     omega (
       arith,
       length-append (stmts_code straight.stmts)
-          (zero_pri ∷ retn ∷ []),
+          (ZeroPri ∷ Retn ∷ []),
       little.instructions_most,
       count,
     ) in

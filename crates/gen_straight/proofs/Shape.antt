@@ -15,8 +15,10 @@ use Rattle.amx_ops.specs.Valid.{IsValidOperand, IsValid}
 use Rattle.amx_ops.specs.Writable.{names_size, IsWritableName, IsWritable}
 use Rattle.gen_agrees.specs.Shape.{names, last_of, HasShape}
 use Rattle.gen_straight.specs.Straight.{AreConstants, IsConstant, IsStraightCall, IsStraightStmt, AreStraight, IsStraight}
-use Rattle.gen_straight.specs.Code.{Instruction, push_c, proc, retn, zero_pri, zero_alt, halt, cells, cells_of, args_code, call_code, expr_code, stmt_code, stmts_code, native_record, room_of, program_code, file_of}
-use Rattle.gen_straight.specs.Code as code
+use Rattle.gen_straight.specs.declared.instruction.Instruction.{Instruction}
+use Rattle.gen_straight.specs.declared.instruction.Instruction.TheVariants.{PushC, Proc, Retn, ZeroPri, ZeroAlt, Halt}
+use Rattle.gen_straight.specs.Code.{cells, cells_of, args_code, call_code, expr_code, stmt_code, stmts_code, native_record, room_of, program_code, file_of}
+use Rattle.gen_straight.specs.declared.instruction.Instruction.TheVariants as code
 use Rattle.gen_straight.proofs.Lie.{read_as, next, past, placed_at, placed_all, placed_is, takes}
 use Rattle.gen_straight.proofs.Whole.{main_code, code_is, all_lie}
 
@@ -28,15 +30,15 @@ cells-append is js =
     ap length (flat_map-append cells is js) ∙ length-append (cells_of is) (cells_of js)
 
 size_of : (i : Instruction) → length (cells i) ≡ (read_as i).size
-size_of (code.const_pri v) = refl
-size_of (push_c v) = refl
-size_of (code.stack v) = refl
-size_of proc = refl
-size_of retn = refl
-size_of zero_pri = refl
-size_of zero_alt = refl
-size_of (halt v) = refl
-size_of (code.sysreq_c n) = refl
+size_of (code.ConstPri v) = refl
+size_of (PushC v) = refl
+size_of (code.Stack v) = refl
+size_of Proc = refl
+size_of Retn = refl
+size_of ZeroPri = refl
+size_of ZeroAlt = refl
+size_of (Halt v) = refl
+size_of (code.SysreqC n) = refl
 
 pub cells_least : (is : List Instruction) → length is ≤ length (cells_of is)
 cells_least [] = omega arith
@@ -47,7 +49,7 @@ args_cells : (args : Args) → AreConstants args
     → length (cells_of (args_code args)) ≤ args_weight args
 args_cells no_args h = omega arith
 args_cells (then_arg (node.Value (Const v)) args) h =
-    omega (arith, args_cells args h.1, cells-append (args_code args) (push_c v ∷ []))
+    omega (arith, args_cells args h.1, cells-append (args_code args) (PushC v ∷ []))
 args_cells (then_arg (node.Value (Native n others)) args) h = elim h.0 [ ]
 
 call_cells : (natives : ℕ) (e : Expr) → IsStraightCall natives e
@@ -94,7 +96,7 @@ code_cells program straight =
       stmts_cells
           (length program.natives) straight.stmts straight.straight,
       cells-append
-          (stmts_code straight.stmts) (zero_pri ∷ retn ∷ []),
+          (stmts_code straight.stmts) (ZeroPri ∷ Retn ∷ []),
     )
 
 -- ---- valid code
@@ -129,7 +131,7 @@ good_on natives (i ∷ is) js a b = (a.0, good_on natives is js a.1 b)
 good_args : (natives : ℕ) (args : Args) → AreConstants args → IsGood natives (args_code args)
 good_args natives no_args h = tt
 good_args natives (then_arg (node.Value (Const v)) args) h =
-    good_on natives (args_code args) (push_c v ∷ []) (good_args natives args h.1) (tt, tt)
+    good_on natives (args_code args) (PushC v ∷ []) (good_args natives args h.1) (tt, tt)
 good_args natives (then_arg (node.Value (Native n others)) args) h = elim h.0 [ ]
 
 good_call : (natives : ℕ) (e : Expr) → IsStraightCall natives e → IsGood natives (expr_code e)
@@ -163,7 +165,7 @@ good_main natives stmts h = (
   tt,
   (
     tt,
-    good_on natives (stmts_code stmts) (zero_pri ∷ retn ∷ [])
+    good_on natives (stmts_code stmts) (ZeroPri ∷ Retn ∷ [])
         (good_stmts natives stmts h) (tt, (tt, tt)),
   ),
 )
@@ -203,12 +205,12 @@ last_one p (j ∷ k ∷ is) i = last_one (next p j) (k ∷ is) i
 last_is_retn : (program : Program) (straight : IsStraight program)
     → last_of (placed (file_of program).code) ≡ Some
     (placed_at
-    (past 0 (halt (pos 0) ∷ proc ∷ (stmts_code straight.stmts ++ zero_pri ∷ []))) retn)
+    (past 0 (Halt (pos 0) ∷ Proc ∷ (stmts_code straight.stmts ++ ZeroPri ∷ []))) Retn)
 last_is_retn program straight =
     ap last_of (placed_main program straight)
-    ∙ ap (λ is. last_of (placed_all 0 (halt (pos 0) ∷ proc ∷ is)))
-    (sym (append_assoc (stmts_code straight.stmts) (zero_pri ∷ []) (retn ∷ [])))
-    ∙ last_one 0 (halt (pos 0) ∷ proc ∷ (stmts_code straight.stmts ++ zero_pri ∷ [])) retn
+    ∙ ap (λ is. last_of (placed_all 0 (Halt (pos 0) ∷ Proc ∷ is)))
+    (sym (append_assoc (stmts_code straight.stmts) (ZeroPri ∷ []) (Retn ∷ [])))
+    ∙ last_one 0 (Halt (pos 0) ∷ Proc ∷ (stmts_code straight.stmts ++ ZeroPri ∷ [])) Retn
 
 retn_is_no_halt : op.Retn ≡ op.Halt → ⊥
 retn_is_no_halt e = cc

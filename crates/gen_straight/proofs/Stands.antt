@@ -13,7 +13,7 @@ use Rattle.amx_ops.specs.State.{State, Turned, Errs, stp, cell_at, push, pop, wi
 use Rattle.amx_ops.specs.Step.{act, act_on}
 use Rattle.amx_ops.specs.Runs as run
 use Rattle.amx_ops.specs.Moves.{Config, moved, move}
-use Rattle.gen_straight.specs.Code.{Instruction}
+use Rattle.gen_straight.specs.declared.instruction.Instruction.{Instruction}
 use Rattle.gen_straight.proofs.Lie.{read_as}
 
 -- the cells from the stack's low end on are these

@@ -16,7 +16,8 @@ use Rattle.amx_ops.specs.declared.amx.Amx.{Amx}
 use Rattle.amx_ops.specs.Moves.{Config, move}
 use Rattle.amx_ops.specs.Moves as moves
 use Rattle.gen_straight.specs.Straight.{AreConstants, IsStraightCall, IsConstant, IsStraightStmt, AreStraight}
-use Rattle.gen_straight.specs.Code.{push_c, zero_alt, halt, args_code, call_code, expr_code, stmt_code, stmts_code}
+use Rattle.gen_straight.specs.declared.instruction.Instruction.TheVariants.{PushC, ZeroAlt, Halt}
+use Rattle.gen_straight.specs.Code.{args_code, call_code, expr_code, stmt_code, stmts_code}
 use Rattle.gen_straight.proofs.Lie.{past, past-append, Lies, lies_first, lies_rest}
 use Rattle.gen_straight.proofs.Sim.{Does, stays, gives, stops, reach_after, in_turn, after_it, size_is}
 use Rattle.gen_straight.proofs.Natives.{values}
@@ -83,16 +84,16 @@ module _ (program : Program) (script : Script) (limit : ℕ) (fewer : Fewer) whe
         size_is (move amx script) cells room (omega (
           arith,
           length-append (args_code args)
-              (push_c v ∷ []),
+              (PushC v ∷ []),
         ))
         (args_does {d = 1 + d} o args p w c l h.1 a
-        (lies_first amx.code p (args_code args) (push_c v ∷ []) lies) (omega (arith, deep))
+        (lies_first amx.code p (args_code args) (PushC v ∷ []) lies) (omega (arith, deep))
         (λ t b. push_does amx script cells room frm ns (constants args ++ stack)
         (past p (args_code args)) w t b o l v
-        (lies_rest amx.code p (args_code args) (push_c v ∷ []) lies).0
+        (lies_rest amx.code p (args_code args) (PushC v ∷ []) lies).0
         (omega (arith, deep, length-append (constants args) stack, count_is args h.1))
         (λ x e. next x (subst (λ q. At room frm ns (v ∷ (constants args ++ stack)) q w x)
-        (sym (past-append p (args_code args) (push_c v ∷ []))) e))))
+        (sym (past-append p (args_code args) (PushC v ∷ []))) e))))
 
     -- a call of a native with constants
     call_does : (n : ℕ) (args : Args) (p : ℕ) (w : World) (c : Config) → AreConstants args
@@ -153,10 +154,10 @@ module _ (program : Program) (script : Script) (limit : ℕ) (fewer : Fewer) whe
 
     exit_does_so : (e : Expr) (tag p : ℕ) (w : World) (c : Config) → IsConstant e → tag ≡ 0
         → At room frm ns stack p w c
-        → Lies amx.code p (expr_code e ++ (zero_alt ∷ halt (pos 1) ∷ []))
-        → Does (move amx script) cells room (length (expr_code e ++ (zero_alt ∷ halt
+        → Lies amx.code p (expr_code e ++ (ZeroAlt ∷ Halt (pos 1) ∷ []))
+        → Does (move amx script) cells room (length (expr_code e ++ (ZeroAlt ∷ Halt
         (pos 1) ∷ []))) w.turns c (run scene fewer (Exit e tag) w)
-        (Passed room frm ns stack (past p (expr_code e ++ (zero_alt ∷ halt (pos 1) ∷ []))))
+        (Passed room frm ns stack (past p (expr_code e ++ (ZeroAlt ∷ Halt (pos 1) ∷ []))))
     exit_does_so (Native n args) tag p w c h e a lies = elim h [ ]
     exit_does_so (Const v) tag p w c h e a lies =
         let first = const_pri_does amx script cells room frm ns stack p w c a v lies.0 in

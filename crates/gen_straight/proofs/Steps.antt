@@ -13,8 +13,8 @@ use Rattle.amx_ops.specs.State.{State, Goes, stp, pop, with_margin}
 use Rattle.amx_ops.specs.Step.{at_next, moved_to, returned, leave}
 use Rattle.amx_ops.specs.Runs as run
 use Rattle.amx_ops.specs.Moves.{Config, moved, move, arguments}
-use Rattle.gen_straight.specs.Code.{const_pri, push_c, proc, retn, zero_pri, zero_alt, halt, sysreq_c}
-use Rattle.gen_straight.specs.Code as code
+use Rattle.gen_straight.specs.declared.instruction.Instruction.TheVariants.{ConstPri, PushC, Proc, Retn, ZeroPri, ZeroAlt, Halt, SysreqC}
+use Rattle.gen_straight.specs.declared.instruction.Instruction.TheVariants as code
 use Rattle.gen_straight.proofs.Lie.{read_as}
 use Rattle.gen_straight.proofs.Orders.{either}
 use Rattle.gen_straight.proofs.Sim.{Running, Closed, Reach, Does, goes_one, ends_one, reach_after, step_then, short_here}
@@ -62,78 +62,78 @@ moved_stk stk q s = record s { alt = cell_of s.stk; stk = stk; cip = q }
 
 module _ (amx : Amx) (script : Script) (cells room : ℕ) (frm : ℕ) (ns : List ℕ) (stack : List ℤ)
     (p : ℕ) (w : World) (c : Config) (a : At room frm ns stack p w c) where
-  pub const_pri_does : (v : ℤ) → fetched amx.code p ≡ Some (read_as (const_pri v))
+  pub const_pri_does : (v : ℤ) → fetched amx.code p ≡ Some (read_as (ConstPri v))
       → Reach (move amx script) cells room 1 w.turns c w Running
       (With room frm ns stack (p + 8) v w)
   const_pri_does v f =
       let s : State = record c.state { pri = v; cip = p + 8 } in
       goes_one (move amx script) cells room c (record c { state = s }) w
-      (move_is amx script c p (const_pri v) a.at f) a.said
+      (move_is amx script c p (ConstPri v) a.at f) a.said
       (record {
         stands = at_as room frm ns stack p (p + 8) w c s a refl refl refl refl refl;
         value = refl;
       })
 
-  pub zero_pri_does : fetched amx.code p ≡ Some (read_as zero_pri)
+  pub zero_pri_does : fetched amx.code p ≡ Some (read_as ZeroPri)
       → Reach (move amx script) cells room 1 w.turns c w Running
       (With room frm ns stack (p + 4) (pos 0) w)
   zero_pri_does f =
       let s : State = record c.state { pri = pos 0; cip = p + 4 } in
       goes_one (move amx script) cells room c (record c { state = s }) w
-      (move_is amx script c p zero_pri a.at f) a.said
+      (move_is amx script c p ZeroPri a.at f) a.said
       (record {
         stands = at_as room frm ns stack p (p + 4) w c s a refl refl refl refl refl;
         value = refl;
       })
 
   -- an exit with a value in PRI
-  pub exit_does : (v : ℤ) → c.state.pri ≡ v → fetched amx.code p ≡ Some (read_as zero_alt)
-      → fetched amx.code (p + 4) ≡ Some (read_as (halt (pos 1)))
+  pub exit_does : (v : ℤ) → c.state.pri ≡ v → fetched amx.code p ≡ Some (read_as ZeroAlt)
+      → fetched amx.code (p + 4) ≡ Some (read_as (Halt (pos 1)))
       → Reach (move amx script) cells room 2 w.turns c w (Closed (Exit v (pos 0))) (λ t. Unit {0})
   exit_does v e f g =
       let s : State = record c.state { alt = pos 0; cip = p + 4 } in
       let t : State = record c.state { alt = pos 0; cip = p + 4 + 8 } in
       let d : Config = record c { state = s } in
       let ends : move amx script d ≡ run.Ends (Exit c.state.pri (pos 0)) (record c { state = t })
-      = move_is amx script d (p + 4) (halt (pos 1)) refl g in
+      = move_is amx script d (p + 4) (Halt (pos 1)) refl g in
       let last : move amx script d ≡ run.Ends (Exit v (pos 0)) (record c { state = t }) =
       ends ∙ ap (λ x. run.Ends (Exit x (pos 0)) (record c { state = t })) e in
       let first : Reach (move amx script) cells room 1 w.turns c w Running
       (λ x. move amx script x ≡ run.Ends (Exit v (pos 0)) (record c { state = t })) =
       goes_one (move amx script) cells room c d w
-      (move_is amx script c p zero_alt a.at f) a.said last in
+      (move_is amx script c p ZeroAlt a.at f) a.said last in
       reach_after (move amx script) cells room first
       (ends_one (move amx script) cells room first.config (record c { state = t }) w
       (Exit v (pos 0)) first.holds a.said)
 
   -- HALT 0
-  pub done_does : (v : ℤ) → c.state.pri ≡ v → fetched amx.code p ≡ Some (read_as (halt (pos 0)))
+  pub done_does : (v : ℤ) → c.state.pri ≡ v → fetched amx.code p ≡ Some (read_as (Halt (pos 0)))
       → Reach (move amx script) cells room 1 w.turns c w (Closed (Done v)) (λ t. Unit {0})
   done_does v e f =
       let s : State = record c.state { cip = p + 8 } in
       ends_one (move amx script) cells room c (record c { state = s }) w (Done v)
-      (move_is amx script c p (halt (pos 0)) a.at f
+      (move_is amx script c p (Halt (pos 0)) a.at f
       ∙ ap (λ x. run.Ends (Done x) (record c { state = s })) e) a.said
 
   -- ---- with the stack
 
   module _ {A : Type 0} {d : ℕ} {Q : A → World → Config → Type 0} (o : Outcome A)
       (l : Later w (world_of o)) where
-    push_by : (v : ℤ) (n : ℕ) → a.mem.free ≡ n → fetched amx.code p ≡ Some (read_as (push_c v))
+    push_by : (v : ℤ) (n : ℕ) → a.mem.free ≡ n → fetched amx.code p ≡ Some (read_as (PushC v))
         → length stack ≤ sum ns + 15
         → ((t : Config) → At room frm ns (v ∷ stack) (p + 8) w t
         → Does (move amx script) cells room d w.turns t o Q)
         → Does (move amx script) cells room (1 + d) w.turns c o Q
     push_by v zero e f h next =
         short_here (move amx script) cells room d c c w o
-        (move_is amx script c p (push_c v) a.at f
+        (move_is amx script c p (PushC v) a.at f
         ∙ ap (moved amx script c) (push_errs stack c.state v (at_next (p + 8)) a.mem e))
         a.said (omega (arith, a.mem.size, a.cells_are, a.high)) l
     push_by v (suc n) e f h next =
         let s : State = record (pushed_on c.state v) { cip = p + 8 } in
         let least : 1 ≤ a.mem.free = omega (arith, e) in
         step_then (move amx script) cells room w c (record c { state = s })
-        (move_is amx script c p (push_c v) a.at f
+        (move_is amx script c p (PushC v) a.at f
         ∙ ap (moved amx script c) (push_goes stack c.state v (at_next (p + 8)) a.mem least))
         a.said
         (next (record c { state = s }) (record {
@@ -149,7 +149,7 @@ module _ (amx : Amx) (script : Script) (cells room : ℕ) (frm : ℕ) (ns : List
           at = refl;
         }))
 
-    pub push_does : (v : ℤ) → fetched amx.code p ≡ Some (read_as (push_c v))
+    pub push_does : (v : ℤ) → fetched amx.code p ≡ Some (read_as (PushC v))
         → length stack ≤ sum ns + 15
         → ((t : Config) → At room frm ns (v ∷ stack) (p + 8) w t
         → Does (move amx script) cells room d w.turns t o Q)
@@ -158,14 +158,14 @@ module _ (amx : Amx) (script : Script) (cells room : ℕ) (frm : ℕ) (ns : List
 
     -- ---- frames
 
-    proc_by : (n : ℕ) → a.mem.free ≡ n → fetched amx.code p ≡ Some (read_as proc)
+    proc_by : (n : ℕ) → a.mem.free ≡ n → fetched amx.code p ≡ Some (read_as Proc)
         → length stack + 1 ≤ sum ns
         → ((f : ℕ) (t : Config) → At room f ns (cell_of frm ∷ stack) (p + 4) w t
         → Does (move amx script) cells room d w.turns t o Q)
         → Does (move amx script) cells room (1 + d) w.turns c o Q
     proc_by zero e f h next =
         short_here (move amx script) cells room d c c w o
-        (move_is amx script c p proc a.at f ∙ ap (moved amx script c)
+        (move_is amx script c p Proc a.at f ∙ ap (moved amx script c)
         (push_errs stack c.state (cell_of c.state.frm)
         (λ t. with_margin t (λ u. at_next (p + 4) (record u { frm = u.stk }))) a.mem e))
         a.said (omega (arith, a.mem.size, a.cells_are, a.high)) l
@@ -176,7 +176,7 @@ module _ (amx : Amx) (script : Script) (cells room : ℕ) (frm : ℕ) (ns : List
         pushed_mem stack c.state (cell_of c.state.frm) a.mem least in
         let same : length s.cells ≡ room =
         length-set c.state.cells ((c.state.stk - 4) / 4) (cell_of c.state.frm) ∙ a.cells_are in
-        let goes = move_is amx script c p proc a.at f
+        let goes = move_is amx script c p Proc a.at f
         ∙ ap (moved amx script c) (push_goes stack c.state (cell_of c.state.frm)
         (λ t. with_margin t (λ u. at_next (p + 4) (record u { frm = u.stk }))) a.mem least) in
         elim (either 16 m.free) [
@@ -206,7 +206,7 @@ module _ (amx : Amx) (script : Script) (cells room : ℕ) (frm : ℕ) (ns : List
               a.said (omega (arith, m.size, same, a.high, few)) l
         ]
 
-    pub proc_does : fetched amx.code p ≡ Some (read_as proc) → length stack + 1 ≤ sum ns
+    pub proc_does : fetched amx.code p ≡ Some (read_as Proc) → length stack + 1 ≤ sum ns
         → ((f : ℕ) (t : Config) → At room f ns (cell_of frm ∷ stack) (p + 4) w t
         → Does (move amx script) cells room d w.turns t o Q)
         → Does (move amx script) cells room (1 + d) w.turns c o Q
@@ -227,7 +227,7 @@ module _ (amx : Amx) (script : Script) (cells room : ℕ) (frm : ℕ) (ns : List
     (b : With room frm ns (xs ++ stack) p v w c) where
   pub drop_does : {A : Type 0} {d : ℕ} {Q : A → World → Config → Type 0} (o : Outcome A)
       → Later w (world_of o)
-      → (n : ℕ) → n ≡ 4 * length xs → fetched amx.code p ≡ Some (read_as (code.stack (pos n)))
+      → (n : ℕ) → n ≡ 4 * length xs → fetched amx.code p ≡ Some (read_as (code.Stack (pos n)))
       → length stack ≤ sum ns
       → ((t : Config) → With room frm ns stack (p + 8) v w t
       → Does (move amx script) cells room d w.turns t o Q)
@@ -241,7 +241,7 @@ module _ (amx : Amx) (script : Script) (cells room : ℕ) (frm : ℕ) (ns : List
       let m' : Mem stack s =
       mem_as stack (record c.state { stk = c.state.stk + n }) s refl refl refl m in
       let goes =
-      move_is amx script c p (code.stack (pos n)) a.at f
+      move_is amx script c p (code.Stack (pos n)) a.at f
       ∙ ap (moved amx script c) (moved_to_goes xs stack c.state n (p + 8) a.mem e) in
       elim (either 16 m'.free) [
         | inl enough ↦
@@ -296,7 +296,7 @@ leave_goes code f at stack s m e =
 module _ (amx : Amx) (script : Script) (cells room : ℕ) (frm : ℕ) (ns : List ℕ) (f at : ℕ)
     (stack : List ℤ) (p : ℕ) (v : ℤ) (w : World) (c : Config)
     (b : With room frm ns (pos f ∷ pos at ∷ pos 0 ∷ stack) p v w c) where
-  pub retn_does : fetched amx.code p ≡ Some (read_as retn) → is_start amx.code at ≡ true
+  pub retn_does : fetched amx.code p ≡ Some (read_as Retn) → is_start amx.code at ≡ true
       → Reach (move amx script) cells room 1 w.turns c w Running (With room f ns stack at v w)
   retn_does g e =
       let a = b.stands in
@@ -305,7 +305,7 @@ module _ (amx : Amx) (script : Script) (cells room : ℕ) (frm : ℕ) (ns : List
       let m2 = popped_mem (pos at) (pos 0 ∷ stack) (popped c.state) m1 in
       let m3 = popped_mem (pos 0) stack (popped (popped c.state)) m2 in
       goes_one (move amx script) cells room c (record c { state = s }) w
-      (move_is amx script c p retn a.at g ∙ ap (moved amx script c)
+      (move_is amx script c p Retn a.at g ∙ ap (moved amx script c)
       (leave_goes amx.code f at stack c.state a.mem e))
       a.said
       (record {

@@ -15,7 +15,9 @@ use Rattle.amx_ops.specs.Moves.{Config, move}
 use Rattle.amx_ops.specs.Moves as moves
 use Rattle.amx_ops.specs.Trace.{started}
 use Rattle.gen_straight.specs.Straight.{IsStraight, main_of}
-use Rattle.gen_straight.specs.Code.{Instruction, proc, retn, zero_pri, halt, stmts_code, program_code, native_record, file_of}
+use Rattle.gen_straight.specs.declared.instruction.Instruction.{Instruction}
+use Rattle.gen_straight.specs.declared.instruction.Instruction.TheVariants.{Proc, Retn, ZeroPri, Halt}
+use Rattle.gen_straight.specs.Code.{stmts_code, program_code, native_record, file_of}
 use Rattle.gen_straight.proofs.Lie.{past, Lies, lies, lies_first, lies_rest}
 use Rattle.gen_straight.proofs.Sim.{nothing, Does, stays, gives, stops, reach_after, in_turn, size_is}
 use Rattle.gen_straight.proofs.Stands.{At}
@@ -24,7 +26,7 @@ use Rattle.gen_straight.proofs.Statements.{Passed, stmts_grow, stmts_does}
 
 -- the code of a main of these statements
 abbrev pub main_code : Stmts → List Instruction
-main_code stmts = halt (pos 0) ∷ proc ∷ (stmts_code stmts ++ (zero_pri ∷ retn ∷ []))
+main_code stmts = Halt (pos 0) ∷ Proc ∷ (stmts_code stmts ++ (ZeroPri ∷ Retn ∷ []))
 
 pub code_is : (program : Program) (straight : IsStraight program)
     → program_code program ≡ main_code straight.stmts
@@ -105,7 +107,7 @@ module _ (program : Program) (straight : IsStraight program) (script : Script)
   -- the end of main
   ends : (f p : ℕ) (v : ℤ) (w : World) (c : Config)
       → Returns room f [] (pos 0 ∷ pos 0 ∷ pos 0 ∷ []) p v w c
-      → Lies (file_of program).code p (zero_pri ∷ retn ∷ [])
+      → Lies (file_of program).code p (ZeroPri ∷ Retn ∷ [])
       → Does mv cells room 3 w.turns c (Stops (end.Done v) w) nothing
   ends f p v w c b l =
       let r =
@@ -137,7 +139,7 @@ module _ (program : Program) (straight : IsStraight program) (script : Script)
       (λ v. stop_grows (end.Done v))).at begun in
       let count : ℕ = length (stmts_code stmts) in
       let size : 1 + (count + 0 + 0 + 3) ≡ length (main_code stmts) =
-      omega (arith, length-append (stmts_code stmts) (zero_pri ∷ retn ∷ [])) in
+      omega (arith, length-append (stmts_code stmts) (ZeroPri ∷ Retn ∷ [])) in
       size_is mv cells room size
       (proc_does (file_of program) script cells room 0 live (pos 0 ∷ pos 0 ∷ []) 8 begun
       (started (file_of program) room (pos 8)) first_at {d = count + 0 + 0 + 3}
@@ -150,7 +152,7 @@ module _ (program : Program) (straight : IsStraight program) (script : Script)
       (in_turn mv cells room body go1 (Passed room f live stack p) (λ way w. same_later w)
       (stmts_does program script limit fewer (file_of program) cells room
       (names_are program.natives) f live stack stmts 12 begun t straight.straight a
-      (lies_first (file_of program).code 12 (stmts_code stmts) (zero_pri ∷ retn ∷ [])
+      (lies_first (file_of program).code 12 (stmts_code stmts) (ZeroPri ∷ Retn ∷ [])
       (all_lie program straight).1.1) (omega arith))
       (λ way w x b. gives mv cells room (stays mv cells room x w b.stands.said
       (record { is_zero = ap value_of b.through; stands = b.stands }))))
@@ -161,4 +163,4 @@ module _ (program : Program) (straight : IsStraight program) (script : Script)
             (need main) stack p w x b.stands;
       }))))
       (λ v w x b. ends f p v w x b (lies_rest (file_of program).code 12 (stmts_code stmts)
-      (zero_pri ∷ retn ∷ []) (all_lie program straight).1.1))))
+      (ZeroPri ∷ Retn ∷ []) (all_lie program straight).1.1))))

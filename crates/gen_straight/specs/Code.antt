@@ -7,37 +7,27 @@ use Rattle.pawn_program.specs.Program.{Expr, Const, Native, Arg, Value, Args, no
 use Rattle.pawn_meaning.specs.Need.{count_of}
 use Rattle.amx_ops.specs.declared.amx.Amx.{Amx}
 use Rattle.amx_ops.specs.declared.amx.Record.{Record}
-
--- an instruction with its operand
-pub data Instruction : Type 0 where
-  const_pri : ℤ → Instruction
-  push_c : ℤ → Instruction
-  stack : ℤ → Instruction
-  proc : Instruction
-  retn : Instruction
-  zero_pri : Instruction
-  zero_alt : Instruction
-  halt : ℤ → Instruction
-  sysreq_c : ℕ → Instruction
+use Rattle.gen_straight.specs.declared.instruction.Instruction.{Instruction}
+use Rattle.gen_straight.specs.declared.instruction.Instruction.TheVariants.{ConstPri, PushC, Stack, Proc, Retn, ZeroPri, ZeroAlt, Halt, SysreqC}
 
 -- its number, and the operand behind it
 abbrev pub cells : Instruction → List ℤ
-cells (const_pri v) = pos 11 ∷ v ∷ []
-cells (push_c v) = pos 39 ∷ v ∷ []
-cells (stack v) = pos 44 ∷ v ∷ []
-cells proc = pos 46 ∷ []
-cells retn = pos 48 ∷ []
-cells zero_pri = pos 89 ∷ []
-cells zero_alt = pos 90 ∷ []
-cells (halt v) = pos 120 ∷ v ∷ []
-cells (sysreq_c n) = pos 123 ∷ pos n ∷ []
+cells (ConstPri v) = pos 11 ∷ v ∷ []
+cells (PushC v) = pos 39 ∷ v ∷ []
+cells (Stack v) = pos 44 ∷ v ∷ []
+cells Proc = pos 46 ∷ []
+cells Retn = pos 48 ∷ []
+cells ZeroPri = pos 89 ∷ []
+cells ZeroAlt = pos 90 ∷ []
+cells (Halt v) = pos 120 ∷ v ∷ []
+cells (SysreqC n) = pos 123 ∷ pos n ∷ []
 
 abbrev pub cells_of : List Instruction → List ℤ
 cells_of instructions = flat_map cells instructions
 
 -- pushes a constant; an argument that is a call has no code yet
 abbrev pub pushed : Expr → List Instruction
-pushed (Const v) = push_c v ∷ []
+pushed (Const v) = PushC v ∷ []
 pushed (Native n args) = []
 
 abbrev pub arg_code : Arg → List Instruction
@@ -49,11 +39,11 @@ args_code (then_arg a args) = args_code args ++ arg_code a
 
 -- what stands behind the arguments of a call, for so many arguments
 abbrev pub call_code : ℕ → ℕ → List Instruction
-call_code n count = push_c (pos (4 * count)) ∷ sysreq_c n ∷ stack (pos (4 * count + 4)) ∷ []
+call_code n count = PushC (pos (4 * count)) ∷ SysreqC n ∷ Stack (pos (4 * count + 4)) ∷ []
 
 -- the value comes to PRI
 abbrev pub expr_code : Expr → List Instruction
-expr_code (Const v) = const_pri v ∷ []
+expr_code (Const v) = ConstPri v ∷ []
 expr_code (Native n args) = args_code args ++ call_code n (count_of args)
 
 -- exits with a tag other than 0 have no code yet
@@ -61,7 +51,7 @@ abbrev mutual
   pub stmt_code : Stmt → List Instruction
   stmt_code (Block stmts) = stmts_code stmts
   stmt_code (Do e) = expr_code e
-  stmt_code (Exit e tag) = expr_code e ++ (zero_alt ∷ halt (pos 1) ∷ [])
+  stmt_code (Exit e tag) = expr_code e ++ (ZeroAlt ∷ Halt (pos 1) ∷ [])
 
   pub stmts_code : Stmts → List Instruction
   stmts_code no_stmts = []
@@ -69,14 +59,14 @@ abbrev mutual
 
 -- a body left through its end gives 0
 abbrev pub body_code : Body → List Instruction
-body_code body = proc ∷ stmt_code body.stmt ++ (zero_pri ∷ retn ∷ [])
+body_code body = Proc ∷ stmt_code body.stmt ++ (ZeroPri ∷ Retn ∷ [])
 
 abbrev pub function_code : Function → List Instruction
 function_code function = flat_map body_code function.bodies
 
 -- main returns to the halt at address 0
 abbrev pub program_code : Program → List Instruction
-program_code program = halt (pos 0) ∷ flat_map function_code program.functions
+program_code program = Halt (pos 0) ∷ flat_map function_code program.functions
 
 -- ---- the file
 

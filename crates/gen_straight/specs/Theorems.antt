@@ -48,6 +48,13 @@ abbrev mutual
 abbrev pub IsEnd : End → Type 0
 IsEnd end = ((v : ℤ) × (end ≡ Done v)) ⊎ ((v : ℤ) × (tag : ℤ) × (end ≡ Exit v tag))
 
+-- a straight program with the room of 4096 cells, and at most 10,001 statements with at most one argument
+pub record IsSmall (program : Program) : Type 0 where
+  pub straight : IsStraight program
+  pub room : straight.room ≡ 4096
+  pub few : all_statements straight.stmts ≤ 10001
+  pub calls : AllCallWithFew straight.stmts
+
 -- the trace of a small straight program ends, with the events and the end of its meaning
 pub record EndsAlike (program : Program) (straight : IsStraight program) : Type 0 where
   pub end : End
