@@ -1,0 +1,11 @@
+pub mod AmongLaws
+pub mod DistinctLaws
+pub mod KeyLaws
+pub mod LineLaws
+pub mod NumberLaws
+pub mod RunLaws
+pub mod ParseLaws
+pub mod HeldLaws
+pub mod MadeLaws
+pub mod SmallLaws
+pub mod ReadLaws

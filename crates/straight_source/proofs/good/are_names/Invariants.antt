@@ -1,0 +1,5 @@
+use Rattle.straight_source.specs.Numbered.{AreChecked}
+use Rattle.straight_source.proofs.good.are_names.Given as goal
+
+abbrev pub invariant-loop-word : goal.invariant-loop-word
+invariant-loop-word l = AreChecked l.names l.words l.word-index

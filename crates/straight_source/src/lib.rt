@@ -1,0 +1,15 @@
+//! The sources that are compiled so far: natives are declared, and main calls them with a number
+//! each and may end with an exit. Such a source is a straight program, and every other one is
+//! refused.
+#![tactic(auto)]
+
+mod form;
+mod good;
+mod line;
+mod names;
+mod parse;
+mod program;
+mod scan;
+mod source;
+
+pub use source::{SourceFault, read_straight};
