@@ -4,24 +4,21 @@ use Rattle.pawn_outside.specs.declared.fault.SinkFault.{SinkFault}
 use Rattle.pawn_outside.specs.Said.{Said}
 use Rattle.host_script.specs.Script.{plain}
 use Rattle.host_script.specs.Text.{end_text}
-use Rattle.pawn_program.specs.Program.{no_stmts}
 use Rattle.pawn_meaning.specs.Told.{meaning, events_of}
 use Rattle.amx_ops.specs.declared.amx.Amx.{Amx}
 use Rattle.amx_ops.specs.State.{State}
 use Rattle.amx_ops.specs.Trace.{started, trace_from}
-use Rattle.gen_agrees.specs.Agrees.{Agrees}
-use Rattle.gen_straight.specs.Straight.{main_of}
 use Rattle.gen_straight.specs.Code.{file_of}
 use Rattle.pawn_cli.specs.declared.status.Status.{Status}
 use Rattle.pawn_cli.specs.declared.status.Status.TheVariants as status
 use Rattle.pawn_cli.specs.Advance.{text_of}
 use Rattle.pawn_cli.specs.Command.{Command}
+use Rattle.pawn_cli.specs.Compiled.{HasFile}
 use Rattle.pawn_cli.specs.Ends.{Wrote, Whole, Ends, status_told}
 use Rattle.pawn_cli.specs.Ready.{IsReady}
 use Rattle.pawn_cli.specs.Reply.{Met, Reply, step_limit}
 use Rattle.pawn_cli.specs.RunText.{RunsOver, run_of, run_text, stop_text}
-use Rattle.pawn_cli.specs.Source.{empty_program}
-use Rattle.pawn_cli.proofs.EmptyLaws.{empty_agrees, empty_ends, file_is}
+use Rattle.pawn_cli.proofs.FileLaws.{main, main_entry, agrees, ends, entry_is}
 
 -- ---- a reply, and how it was written
 
@@ -48,47 +45,47 @@ told {text = text} command met s (Err fault) reply said = record { status = s; t
 
 -- ---- a file that was put, and its run
 
--- the file is that of the empty main, and the machine stands at its start
-pub state_is : {command : Command} {met : Met} {amx : Amx} {state : State} → IsReady command met amx state → state ≡ (started (file_of empty_program) 4096 (pos 8)).state
-state_is ready = ready.starts ∙ ap (λ (it : Amx). (started it 4096 it.entry).state) (file_is ready.compiled)
+module _ {command : Command} {met : Met} {amx : Amx} {state : State} (ready : IsReady command met amx state) where
+  abbrev it : HasFile ready.source amx
+  it = ready.compiled
 
-pub runs_over : {command : Command} {met : Met} {amx : Amx} {state : State} → IsReady command met amx state → RunsOver amx state
-runs_over {amx = amx} {state = state} ready = (
-  empty_ends.end,
-  ap (λ (it : Amx). (run_of it state).stop) (file_is ready.compiled)
-      ∙ ap (λ s. (run_of (file_of empty_program) s).stop) (state_is ready) ∙ empty_ends.stops,
-)
+  -- the machine stands at the start of the program's file
+  state_is : state ≡ (started (file_of it.program) 4096 (pos 8)).state
+  state_is = ready.starts ∙ ap (λ (a : Amx). (started a 4096 a.entry).state) it.amx_is ∙ ap (λ z. (started (file_of it.program) 4096 z).state) (entry_is it)
 
--- the text of the run is that of the meaning
-text_is : {command : Command} {met : Met} {amx : Amx} {state : State} → IsReady command met amx state
-    → run_text amx state ≡ text_of (events_of (meaning empty_program plain (main_of 0 no_stmts) 0).entries) ++ end_text empty_ends.end
-text_is {amx = amx} {state = state} ready =
-    ap (λ (it : Amx). run_text it state) (file_is ready.compiled)
-    ∙ ap (run_text (file_of empty_program)) (state_is ready)
-    ∙ ap (λ e. text_of e ++ stop_text (trace_from (file_of empty_program) 4096 plain (pos 8) 10000000 []).stop) empty_ends.events
-    ∙ ap (λ s. text_of (events_of (meaning empty_program plain (main_of 0 no_stmts) 0).entries) ++ stop_text s) empty_ends.stops
+  pub runs_over : RunsOver amx state
+  runs_over = (
+    (ends it).end,
+    ap (λ (a : Amx). (run_of a state).stop) it.amx_is ∙ ap (λ s. (run_of (file_of it.program) s).stop) state_is ∙ (ends it).stops,
+  )
 
-pub went_ok : {command : Command} {met : Met} {amx : Amx} {state : State} → IsReady command met amx state → Reply (Some command) met status.Ok (run_text amx state)
-went_ok {amx = amx} ready =
-    let is = file_is ready.compiled in
-    record {
-      source = ready.source;
-      reads = ready.reads;
-      bytes = ready.bytes;
-      puts = ready.puts;
-      went = record {
-        program = empty_program;
-        means = record { form = ready.compiled.means.form; program_is = refl };
-        function = main_of 0 no_stmts;
-        entry = refl;
-        amx = amx;
-        file = ready.file;
-        agrees = subst (Agrees empty_program) (sym is) empty_agrees;
-        limit = 0;
-        end = empty_ends.end;
-        last = empty_ends.last;
-        stops = ap (λ (it : Amx). (trace_from it 4096 plain it.entry step_limit []).stop) is ∙ empty_ends.stops;
-        events = ap (λ (it : Amx). (trace_from it 4096 plain it.entry step_limit []).config.events) is ∙ empty_ends.events;
-        text_is = text_is ready;
-      };
-    }
+  -- the text of the run is that of the meaning
+  text_is : run_text amx state ≡ text_of (events_of (meaning it.program plain (main it) 0).entries) ++ end_text (ends it).end
+  text_is =
+      ap (λ (a : Amx). run_text a state) it.amx_is
+      ∙ ap (run_text (file_of it.program)) state_is
+      ∙ ap (λ e. text_of e ++ stop_text (trace_from (file_of it.program) 4096 plain (pos 8) 10000000 []).stop) (ends it).events
+      ∙ ap (λ s. text_of (events_of (meaning it.program plain (main it) 0).entries) ++ stop_text s) (ends it).stops
+
+  pub went_ok : Reply (Some command) met status.Ok (run_text amx state)
+  went_ok = record {
+    source = ready.source;
+    reads = ready.reads;
+    bytes = ready.bytes;
+    puts = ready.puts;
+    went = record {
+      program = it.program;
+      means = it.means;
+      function = main it;
+      entry = main_entry it;
+      amx = amx;
+      file = ready.file;
+      agrees = agrees it;
+      limit = 0;
+      end = (ends it).end;
+      last = (ends it).last;
+      stops = ap (λ (a : Amx). (trace_from a 4096 plain a.entry step_limit []).stop) it.amx_is ∙ ap (λ z. (trace_from (file_of it.program) 4096 plain z step_limit []).stop) (entry_is it) ∙ (ends it).stops;
+      events = ap (λ (a : Amx). (trace_from a 4096 plain a.entry step_limit []).config.events) it.amx_is ∙ ap (λ z. (trace_from (file_of it.program) 4096 plain z step_limit []).config.events) (entry_is it) ∙ (ends it).events;
+      text_is = text_is;
+    };
+  }

@@ -1,49 +1,42 @@
--- The program of an empty main: it is straight, its file can be written and agrees with it, and its run ends
--- as it does.
-use Rattle.std.proofs.Common.{◌≡◌, ℕ, List, length, map, refl, sym, ap, subst, ◌∙◌, arith}
-use Rattle.std.proofs.lemmas.List.Elements.{All-nil}
-use Rattle.pawn_program.specs.Program.{no_stmts}
+-- The file of a source: it can be written and agrees with the source's program, and its run ends as that does.
+use Rattle.std.proofs.Common.{◌≡◌, ℕ, pos, List, [], Some, length, map, slice_get, option_and_then, refl, sym, ap, ap₂, subst, ◌∙◌}
+use Rattle.pawn_program.specs.Program.{Function}
 use Rattle.amx_ops.specs.declared.amx.Amx.{Amx}
 use Rattle.amx_ops.specs.Valid.{IsValid}
 use Rattle.amx_ops.specs.Writable.{IsWritable}
-use Rattle.gen_agrees.specs.Agrees.{Agrees}
-use Rattle.gen_straight.specs.Straight.{IsStraight, IsNativeName}
-use Rattle.gen_straight.specs.Code.{file_of}
+use Rattle.amx_ops.specs.Trace.{Main}
+use Rattle.gen_agrees.specs.Agrees.{Agrees, function_of}
+use Rattle.gen_straight.specs.Straight.{IsStraight, main_of}
+use Rattle.gen_straight.specs.Code.{entry_of, room_of, file_of}
 use Rattle.gen_straight.specs.Theorems.{EndsAlike}
 use Rattle.gen_straight.proofs.Main.{straight_programs_agree_lem}
 use Rattle.gen_straight.proofs.Plain.{straight_programs_end_lem}
-use Rattle.pawn_cli.specs.Source.{empty_program}
 use Rattle.pawn_cli.specs.Compiled.{HasFile}
 
-abbrev pub empty_straight : IsStraight empty_program
-empty_straight = record {
-  tag = 0;
-  stmts = no_stmts;
-  room = 4096;
-  functions = refl;
-  straight = tt;
-  automata = refl;
-  tags = refl;
-  publics = refl;
-  entry = refl;
-  dynamic = refl;
-  names = All-nil IsNativeName;
-  names_fit = omega arith;
-  memory = omega arith;
-}
+module _ {source : List ℕ} {amx : Amx} (it : HasFile source amx) where
+  abbrev pub straight : IsStraight it.program
+  straight = it.small.straight
 
-pub empty_agrees : Agrees empty_program (file_of empty_program)
-empty_agrees = straight_programs_agree_lem empty_program empty_straight
+  abbrev pub main : Function
+  main = main_of straight.tag straight.stmts
 
-pub empty_ends : EndsAlike empty_program empty_straight
-empty_ends = straight_programs_end_lem empty_program empty_straight refl (omega arith) tt
+  pub main_entry : function_of it.program Main ≡ Some main
+  main_entry = ap₂ (λ fs e. option_and_then (λ f. slice_get fs f) e) straight.functions straight.entry
 
--- the file of a source
-pub file_is : {source : List ℕ} {amx : Amx} → HasFile source amx → amx ≡ file_of empty_program
-file_is it = it.amx_is ∙ ap file_of it.means.program_is
+  pub agrees : Agrees it.program amx
+  agrees = subst (Agrees it.program) (sym it.amx_is) (straight_programs_agree_lem it.program straight)
 
-pub writable : {source : List ℕ} {amx : Amx} → HasFile source amx → IsWritable amx
-writable it = subst IsWritable (sym (file_is it)) empty_agrees.shape.writable
+  pub ends : EndsAlike it.program straight
+  ends = straight_programs_end_lem it.program straight it.small.room it.small.few it.small.calls
 
-pub valid : {source : List ℕ} {amx : Amx} → HasFile source amx → IsValid amx.code (length amx.natives) amx.entry (map (λ it. it.address) amx.publics)
-valid it = subst (λ (amx : Amx). IsValid amx.code (length amx.natives) amx.entry (map (λ it. it.address) amx.publics)) (sym (file_is it)) empty_agrees.shape.valid
+  pub entry_is : (file_of it.program).entry ≡ pos 8
+  entry_is = ap entry_of straight.entry
+
+  pub room_is : (file_of it.program).room ≡ 4096
+  room_is = ap room_of (straight.dynamic ∙ ap pos it.small.room)
+
+  pub writable : IsWritable amx
+  writable = agrees.shape.writable
+
+  pub valid : IsValid amx.code (length amx.natives) amx.entry (map (λ it. it.address) amx.publics)
+  valid = agrees.shape.valid

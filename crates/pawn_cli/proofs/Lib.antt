@@ -1,6 +1,6 @@
 pub mod AdvanceLaws
 pub mod CodeLaws
-pub mod EmptyLaws
+pub mod FileLaws
 pub mod EndsLaws
 pub mod FinishLaws
 pub mod GrowLaws

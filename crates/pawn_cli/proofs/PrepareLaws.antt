@@ -2,23 +2,23 @@
 use Rattle.std.specs.FinMap.{get, insert, remove, same_map, get-remove, get-insert, nat_cmp-IsAntisymmetric, slice_cmp-IsAntisymmetric}
 use Rattle.std.specs.Ordering.{nat_cmp, eq_by_cmp}
 use Rattle.std.specs.Cmp.Lexicographic.{slice_cmp, nat_list_cmp_total}
-use Rattle.std.proofs.Common.{Bool, true, false, cond, ◌≤◌, length, ◌≡◌, ◌∙◌, ℕ, pos, List, Option, None, Some, Result, Ok, Err, refl, sym, ap, subst}
+use Rattle.std.proofs.Common.{Bool, true, false, true≢false, IsTrue, ◌↔◌, cond, ◌+◌, ◌*◌, ◌^◌, ◌<◌, ◌≤◌, length, map, to_z, of_z, w32, arith, ◌≡◌, ◌∙◌, ℕ, pos, List, Option, None, Some, Result, Ok, Err, refl, sym, ap, ap₂, subst}
 use Rattle.pawn_outside.specs.Held.{Held, Tells, with_put, without}
+use Rattle.pawn_cells.specs.Cells.{bits_of, cell_of}
 use Rattle.amx_ops.specs.declared.amx.Amx.{Amx}
 use Rattle.amx_ops.specs.State.{State}
 use Rattle.amx_ops.specs.Trace.{started}
+use Rattle.amx_ops.specs.Valid.{IsValid}
 use Rattle.amx_format.specs.File.{IsFile}
 use Rattle.amx_format.proofs.Determines.{file_determines}
-use Rattle.gen_straight.specs.Code.{file_of}
 use Rattle.pawn_cli.specs.declared.stop.StopEarly.{StopEarly}
 use Rattle.pawn_cli.specs.declared.stop.StopEarly.TheVariants.{Refused, NoFile, TooLarge, FileFault, NoMemory}
-use Rattle.pawn_cli.specs.Source.{empty_program}
 use Rattle.pawn_cli.specs.Command.{Command}
 use Rattle.pawn_cli.specs.Compiled.{HasFile}
 use Rattle.pawn_cli.specs.Put.{IsBytesOf, IsStarted}
 use Rattle.pawn_cli.specs.Ready.{IsPrepared}
 use Rattle.pawn_cli.specs.Reply.{Met, Reads, source_limit}
-use Rattle.pawn_cli.proofs.EmptyLaws.{file_is}
+use Rattle.pawn_cli.proofs.FileLaws.{entry_is, room_is, writable, valid}
 
 -- a put changes no other file
 same_by : (b : Bool) (o : Option (List ℕ)) (bytes : List ℕ) → cond b None (cond b (Some bytes) o) ≡ cond b None o
@@ -34,16 +34,35 @@ without-with_put (Some map) name bytes = ap Some (same_map nat_list_cmp_total (s
     ∙ sym (get-remove nat_list_cmp_total map name q)))
 
 -- what was read is the file of the source
-pub read_is : {bytes : List ℕ} (given : (source : List ℕ) × IsBytesOf source bytes) (read : Amx) → IsFile bytes read → read ≡ file_of empty_program
-read_is {bytes} given read file = file_determines bytes read given.1.amx file given.1.file ∙ file_is given.1.compiled
+module _ {bytes : List ℕ} (given : (source : List ℕ) × IsBytesOf source bytes) (read : Amx) (file : IsFile bytes read) where
+  has : HasFile given.0 read
+  has = subst (HasFile given.0) (file_determines bytes given.1.amx read given.1.file file) given.1.compiled
 
-pub starts : {bytes : List ℕ} (given : (source : List ℕ) × IsBytesOf source bytes) (read ready amx : Amx) (state : State) → IsFile bytes read → ready ≡ read → amx ≡ ready
-    → state ≡ (started amx amx.room (pos 8)).state → IsFile bytes ready × (state ≡ (started ready 4096 ready.entry).state)
-starts {bytes} given read ready amx state file same lent e =
-    let is : ready ≡ file_of empty_program = same ∙ read_is given read file in (
-      subst (IsFile bytes) (sym same) file,
-      e ∙ ap (λ (it : Amx). (started it it.room (pos 8)).state) (lent ∙ is) ∙ ap (λ (it : Amx). (started it 4096 it.entry).state) (sym is),
-    )
+  pub code_small : 4 * length read.code < 2 ^ 31
+  code_small = omega (arith, (writable has).memory)
+
+  pub must_be_valid : (ready : Amx) (b : Bool) → ready ≡ read
+      → (IsTrue b ↔ IsValid ready.code (length ready.natives) ready.entry (map (λ it. it.address) ready.publics)) → b ≡ false → ⊥
+  must_be_valid ready b same told is =
+      true≢false (sym (told.1 (subst (λ (it : Amx). IsValid it.code (length it.natives) it.entry (map (λ it. it.address) it.publics)) (sym same) (valid has))) ∙ is)
+
+  room_of_read : (amx : Amx) → amx ≡ read → amx.room ≡ 4096
+  room_of_read amx same = ap (λ (a : Amx). a.room) (same ∙ has.amx_is) ∙ room_is has
+
+  pub room_enough : (amx : Amx) → amx ≡ read → 2 ≤ amx.room
+  room_enough amx same = omega (arith, room_of_read amx same)
+
+  pub cells_few : (amx : Amx) → amx ≡ read → 4 * (length amx.store + amx.room) < 2 ^ 31
+  cells_few amx same = omega (arith, (writable (subst (HasFile given.0) (sym same) has)).memory)
+
+  pub starts : (ready amx : Amx) (entry : ℕ) (state : State) → ready ≡ read → amx ≡ ready
+      → entry ≡ bits_of (to_z w32 (of_z w32 ready.entry)) → state ≡ (started amx amx.room (cell_of entry)).state → IsFile bytes ready × (state ≡ (started ready 4096 ready.entry).state)
+  starts ready amx entry state same lent at e =
+      let main : ready.entry ≡ pos 8 = ap (λ (a : Amx). a.entry) (same ∙ has.amx_is) ∙ entry_is has in
+      let place : cell_of entry ≡ ready.entry = ap cell_of (at ∙ ap (λ z. bits_of (to_z w32 (of_z w32 z))) main) ∙ sym main in (
+        subst (IsFile bytes) (sym same) file,
+        e ∙ ap₂ (λ (a : Amx) n. (started a n (cell_of entry)).state) lent (room_of_read amx (lent ∙ same)) ∙ ap (λ z. (started ready 4096 z).state) place,
+      )
 
 pub prepared : {T : Type 0} (amx : T → Amx) (state : T → State) (command : Command) (met : Met) (source bytes : List ℕ) (result : Result T StopEarly)
     → Reads command met source → IsBytesOf source bytes → met.after ≡ with_put met.held command.amx bytes → IsStarted amx state bytes result

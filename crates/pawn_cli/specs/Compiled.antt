@@ -3,18 +3,20 @@ use Rattle.std.specs.Prelude.{◌≡◌, ℕ, List, Result, Ok, Err}
 use Rattle.pawn_program.specs.Program.{Program}
 use Rattle.amx_ops.specs.declared.amx.Amx.{Amx}
 use Rattle.gen_straight.specs.Code.{file_of}
-use Rattle.pawn_cli.specs.declared.compile.CompileFault.{CompileFault}
-use Rattle.pawn_cli.specs.declared.compile.CompileFault.TheVariants.{Refused, Memory}
-use Rattle.pawn_cli.specs.Source.{Means}
+use Rattle.gen_straight.specs.Theorems.{IsSmall}
+use Rattle.straight_source.specs.declared.source.SourceFault.{SourceFault}
+use Rattle.straight_source.specs.declared.source.SourceFault.TheVariants.{Refused, Memory}
+use Rattle.straight_source.specs.Means.{Means}
 
 -- the file of the source's program
 pub record HasFile (source : List ℕ) (amx : Amx) : Type 0 where
   pub program : Program
   pub means : Means source program
+  pub small : IsSmall program
   pub amx_is : amx ≡ file_of program
 
 -- it is refused exactly where it has no program
-abbrev pub IsCompiled : List ℕ → Result Amx CompileFault → Type 0
+abbrev pub IsCompiled : List ℕ → Result Amx SourceFault → Type 0
 IsCompiled source (Ok amx) = HasFile source amx
 IsCompiled source (Err Refused) = (program : Program) → ¬ Means source program
 IsCompiled source (Err Memory) = Unit {0}

@@ -10,7 +10,6 @@ pub mod Ready
 pub mod Reply
 pub mod RunText
 pub mod Sound
-pub mod Source
 pub mod Status
 pub mod Stopped
 pub mod Turns

@@ -11,7 +11,7 @@ use Rattle.pawn_cli.specs.declared.stop.StopEarly.{StopEarly}
 use Rattle.pawn_cli.specs.declared.stop.StopEarly.TheVariants.{Refused, NoFile, TooLarge, FileFault, NoMemory}
 use Rattle.pawn_cli.specs.Compiled.{HasFile}
 use Rattle.pawn_cli.specs.Reply.{source_limit}
-use Rattle.pawn_cli.specs.Source.{Means}
+use Rattle.straight_source.specs.Means.{Means}
 
 -- a source by its name, with the counts of faults before and after
 abbrev pub IsReadFrom : Option Held → List ℕ → ℕ → ℕ → Result (List ℕ) StopEarly → Type 0

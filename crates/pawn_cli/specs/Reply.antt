@@ -16,7 +16,7 @@ use Rattle.pawn_cli.specs.declared.status.Status.TheVariants.{Ok, Refused, BadWo
 use Rattle.pawn_cli.specs.Advance.{text_of}
 use Rattle.pawn_cli.specs.Command.{Command}
 use Rattle.amx_format.specs.File.{IsFile}
-use Rattle.pawn_cli.specs.Source.{Means}
+use Rattle.straight_source.specs.Means.{Means}
 
 -- the limit of a source, in bytes, and of a run, in steps
 abbrev pub source_limit : ℕ

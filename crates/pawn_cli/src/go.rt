@@ -1,8 +1,8 @@
-ghost use Rattle.std.specs.Prelude.{◌≡◌, ◌≤◌, ℕ, List};
+ghost use Rattle.std.specs.Prelude.{◌≡◌, ◌≤◌, ◌^◌, ℕ, List, length};
 ghost use Rattle.pawn_cli.specs.Put.{IsBytes, IsReadFrom, IsBytesOf, IsPutStop, IsStarted};
 ghost use Rattle.pawn_cli.specs.Ready.{IsPrepared};
 
-use super::compile::{CompileFault, compile};
+use super::compile::compile;
 use super::machine::Machine;
 use super::stop::StopEarly;
 use super::verified::Verified;
@@ -12,6 +12,7 @@ use amx_format::{ReadFault, read, write};
 use pawn_base::{Bytes, Memory};
 use pawn_outside::{Files, PutAnswer, ReadAnswer};
 use std::alloc::Global;
+use straight_source::SourceFault;
 
 /// The most bytes of a source.
 const SOURCE_LIMIT: u64 = 16_777_216;
@@ -58,11 +59,12 @@ fn read_source<F: Files>(alloc: Global, name: &str, files: &mut F) -> Result<Byt
 
 /// The bytes of a source's file.
 fn bytes_of(alloc: Global, source: &[u8]) -> Result<Bytes, StopEarly>
+    requires { length source.now ≤ 2 ^ 30 }
     ensures { IsBytes source.now result }
 {
     match compile(alloc, source) {
-        Err(CompileFault::Refused) => Err(StopEarly::Refused),
-        Err(CompileFault::Memory) => Err(StopEarly::NoMemory),
+        Err(SourceFault::Refused) => Err(StopEarly::Refused),
+        Err(SourceFault::Memory) => Err(StopEarly::NoMemory),
         Ok(amx) => match write(alloc, &amx) {
             Err(Memory) => Err(StopEarly::NoMemory),
             Ok(bytes) => Ok(bytes),
@@ -100,7 +102,8 @@ fn start(alloc: Global, bytes: &[u8]) -> Result<Ready, StopEarly>
     if !is_valid(&verified) {
         unreachable!();
     }
-    match Machine::start(alloc, verified.amx(), 8) {
+    let entry = verified.amx().entry.cast_unsigned();
+    match Machine::start(alloc, verified.amx(), entry) {
         Ok(machine) => Ok(Ready { verified, machine }),
         Err(Memory) => Err(StopEarly::NoMemory),
     }

@@ -1,2 +1,5 @@
+native p(v);
 main() {
+  p(7);
+  exit 3;
 }

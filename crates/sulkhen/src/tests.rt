@@ -10,6 +10,85 @@ const EMPTY_FILE: [u8; 80] = [
     0x1F, 0, 0, 0, 120, 0, 0, 0, 0, 0, 0, 0, 46, 0, 0, 0, 89, 0, 0, 0, 48, 0, 0, 0,
 ];
 
+/// The source of `FIRST_FILE`.
+const FIRST: &str = "native p(v);\nmain() {\n  p(7);\n  exit 3;\n}\n";
+
+/// Its file, spelled by hand: the native table at 56, the name table at 64, the code at 68.
+const FIRST_FILE: [u8; 140] = [
+    0x8C, 0, 0, 0, 0xE0, 0xF1, 8, 8, 0, 0, 8, 0, 68, 0, 0, 0, 0x8C, 0, 0, 0, 0x8C, 0, 0, 0, 0x8C,
+    0x40, 0, 0, 8, 0, 0, 0, 56, 0, 0, 0, 56, 0, 0, 0, 64, 0, 0, 0, 64, 0, 0, 0, 64, 0, 0, 0, 64, 0,
+    0, 0, 0, 0, 0, 0, 66, 0, 0, 0, 0x1F, 0, 0x70, 0, 120, 0, 0, 0, 0, 0, 0, 0, 46, 0, 0, 0, 39, 0,
+    0, 0, 7, 0, 0, 0, 39, 0, 0, 0, 4, 0, 0, 0, 123, 0, 0, 0, 0, 0, 0, 0, 44, 0, 0, 0, 8, 0, 0, 0,
+    11, 0, 0, 0, 3, 0, 0, 0, 90, 0, 0, 0, 120, 0, 0, 0, 1, 0, 0, 0, 89, 0, 0, 0, 48, 0, 0, 0,
+];
+
+/// Sources that run, with their text.
+const RUN: [(&str, &str); 6] = [
+    ("main() {\n}\n", "done 0\n"),
+    (FIRST, "native p 7 -> 0\nexit 3 tag 0\n"),
+    (
+        "native p(v);\nnative q(v);\nnative r(v);\nmain() {\n  r(0);\n  p(2147483647);\n}\n",
+        "native r 0 -> 0\nnative p 2147483647 -> 0\ndone 0\n",
+    ),
+    (
+        "native z9(v);\nmain() {\n  z9(1);\n  z9(1);\n  exit 2147483647;\n}\n",
+        "native z9 1 -> 0\nnative z9 1 -> 0\nexit 2147483647 tag 0\n",
+    ),
+    ("native q(v);\nmain() {\n  exit 0;\n}\n", "exit 0 tag 0\n"),
+    (
+        "native abcdefghijklmnopqrstuvwxyz01234(v);\nmain() {\n}\n",
+        "done 0\n",
+    ),
+];
+
+/// A source for each way to leave the form.
+const REFUSED: [&str; 40] = [
+    // Lines and their ends.
+    "",
+    "main() { }\n",
+    "main() {\n}",
+    "main() {\r\n}\r\n",
+    "main() {\n}\n\n",
+    "\nmain() {\n}\n",
+    "main() {\n\n}\n",
+    " main() {\n}\n",
+    "main () {\n}\n",
+    "main(){\n}\n",
+    "main() {\n} \n",
+    "main() {\n",
+    "native p(v);\n",
+    // Natives.
+    "native  p(v);\nmain() {\n}\n",
+    "native p(w);\nmain() {\n}\n",
+    "native p(v)\nmain() {\n}\n",
+    "native p();\nmain() {\n}\n",
+    "native (v);\nmain() {\n}\n",
+    "native 1p(v);\nmain() {\n}\n",
+    "native P(v);\nmain() {\n}\n",
+    "native p_q(v);\nmain() {\n}\n",
+    "native p(v);\nnative p(v);\nmain() {\n}\n",
+    "native main(v);\nmain() {\n}\n",
+    "native while(v);\nmain() {\n}\n",
+    "native cellmax(v);\nmain() {\n}\n",
+    "native true(v);\nmain() {\n}\n",
+    "native abcdefghijklmnopqrstuvwxyz012345(v);\nmain() {\n}\n",
+    // Calls.
+    "main() {\n  p(1);\n}\n",
+    "native p(v);\nmain() {\n p(1);\n}\n",
+    "native p(v);\nmain() {\n   p(1);\n}\n",
+    "native p(v);\nmain() {\n\tp(1);\n}\n",
+    "native p(v);\nmain() {\n  p(01);\n}\n",
+    "native p(v);\nmain() {\n  p();\n}\n",
+    "native p(v);\nmain() {\n  p(-1);\n}\n",
+    "native p(v);\nmain() {\n  p(2147483648);\n}\n",
+    "native p(v);\nmain() {\n  p(1)\n}\n",
+    "main() {\n}\nnative p(v);\n",
+    // Exits.
+    "main() {\n  exit;\n}\n",
+    "main() {\n  exit 2147483648;\n}\n",
+    "native p(v);\nmain() {\n  exit 1;\n  p(1);\n}\n",
+];
+
 /// What a call of `pawn` came to.
 #[derive(Debug, Drop)]
 struct Outcome {
@@ -29,34 +108,49 @@ fn told(alloc: Global, line: &str, files: &mut MemoryFiles, room: u32) -> Result
     Ok(Outcome { status, text })
 }
 
+/// What `go` of a source comes to.
+fn gone(alloc: Global, source: &[u8], room: u32) -> Result<Outcome, Fail> {
+    let mut files = MemoryFiles::new(alloc, &[])?;
+    files.hold("s.p", source)?;
+    told(alloc, "go s.p s.amx", &mut files, room)
+}
+
 #[test]
-fn each_status(rt: HostRuntime) -> Result<(), Fail> {
+fn sources(rt: HostRuntime) -> Result<(), Fail> {
     let alloc = rt.alloc();
-    let sources: [(&str, &[u8]); 5] = [
-        ("s.p", b"main() {\n}\n"),
-        ("one.p", b"main() { }\n"),
-        ("no_end.p", b"main() {\n}"),
-        ("empty.p", b""),
-        ("native.p", b"native p(v);\nmain() {\n  p(7);\n}\n"),
-    ];
+    for (source, text) in RUN {
+        let got = gone(alloc, source.as_bytes(), 100)?;
+        assert_eq!(rt; got.status, Status::Ok, "{source}");
+        assert_eq!(rt; got.text.as_str(), text, "{source}");
+    }
+    for source in REFUSED {
+        let got = gone(alloc, source.as_bytes(), 100)?;
+        assert_eq!(rt; got.status, Status::Refused, "{source}");
+        assert_eq!(rt; got.text.as_str(), "refused 72 at s.p:1\n", "{source}");
+    }
+    Ok(())
+}
+
+#[test]
+fn most_calls(rt: HostRuntime) -> Result<(), Fail> {
+    let alloc = rt.alloc();
+    for (calls, status) in [(10_000, Status::Ok), (10_001, Status::Refused)] {
+        let mut source = Vec::from_slice(alloc, b"native p(v);\nmain() {\n")?;
+        for _ in 0..calls {
+            source.extend_from_slice(b"  p(1);\n")?;
+        }
+        source.extend_from_slice(b"}\n")?;
+        let got = gone(alloc, &source, 200_000)?;
+        assert_eq!(rt; got.status, status, "{calls}");
+    }
+    Ok(())
+}
+
+#[test]
+fn words(rt: HostRuntime) -> Result<(), Fail> {
+    let alloc = rt.alloc();
     for (line, status, text) in [
         ("go s.p s.amx", Status::Ok, "done 0\n"),
-        ("go one.p s.amx", Status::Refused, "refused 72 at one.p:1\n"),
-        (
-            "go no_end.p s.amx",
-            Status::Refused,
-            "refused 72 at no_end.p:1\n",
-        ),
-        (
-            "go empty.p s.amx",
-            Status::Refused,
-            "refused 72 at empty.p:1\n",
-        ),
-        (
-            "go native.p s.amx",
-            Status::Refused,
-            "refused 72 at native.p:1\n",
-        ),
         ("go s.p", Status::BadWords, "bad words\n"),
         ("go s.p s.amx more", Status::BadWords, "bad words\n"),
         ("run s.p s.amx", Status::BadWords, "bad words\n"),
@@ -66,9 +160,7 @@ fn each_status(rt: HostRuntime) -> Result<(), Fail> {
         ("go q.p s.amx", Status::NoFile, "no file q.p\n"),
     ] {
         let mut files = MemoryFiles::new(alloc, &[])?;
-        for (name, bytes) in sources {
-            files.hold(name, bytes)?;
-        }
+        files.hold("s.p", b"main() {\n}\n")?;
         let got = told(alloc, line, &mut files, 100)?;
         assert_eq!(rt; got.status, status, "{line}");
         assert_eq!(rt; got.text.as_str(), text, "{line}");
@@ -77,7 +169,26 @@ fn each_status(rt: HostRuntime) -> Result<(), Fail> {
 }
 
 #[test]
-fn files_and_faults(rt: HostRuntime) -> Result<(), Fail> {
+fn files_put(rt: HostRuntime) -> Result<(), Fail> {
+    let alloc = rt.alloc();
+    for (source, file) in [
+        ("main() {\n}\n", EMPTY_FILE.as_slice()),
+        (FIRST, FIRST_FILE.as_slice()),
+    ] {
+        let mut files = MemoryFiles::new(alloc, &[])?;
+        files.hold("s.p", source.as_bytes())?;
+        let got = told(alloc, "go s.p s.amx", &mut files, 100)?;
+        assert_eq!(rt; got.status, Status::Ok);
+        match files.read(alloc, "s.amx", 1000) {
+            ReadAnswer::Got(bytes) => assert_eq!(rt; bytes.as_slice(), file),
+            _ => return Err(Fail::from("not put")),
+        }
+    }
+    Ok(())
+}
+
+#[test]
+fn faults(rt: HostRuntime) -> Result<(), Fail> {
     let alloc = rt.alloc();
     for (fails, room, status, text) in [
         ([0], 100, Status::Ok, "done 0\n"),
@@ -90,13 +201,6 @@ fn files_and_faults(rt: HostRuntime) -> Result<(), Fail> {
         let got = told(alloc, "go s.p s.amx", &mut files, room)?;
         assert_eq!(rt; got.status, status);
         assert_eq!(rt; got.text.as_str(), text);
-        if got.status == Status::Ok {
-            let put = match files.read(alloc, "s.amx", 1000) {
-                ReadAnswer::Got(bytes) => bytes,
-                _ => return Err(Fail::from("not put")),
-            };
-            assert_eq!(rt; put.as_slice(), EMPTY_FILE.as_slice());
-        }
     }
     let mut files = MemoryFiles::new(alloc, &[])?;
     let long = Vec::from_elem(alloc, 10, 16_777_217)?;
