@@ -14,19 +14,19 @@ use Rattle.pawn_pre.specs.declared.directive.Word.{Word}
 use Rattle.pawn_pre.specs.declared.directive.Word.TheVariants as word
 use Rattle.pawn_pre.specs.declared.directive.Setting.{Setting}
 use Rattle.pawn_pre.specs.declared.directive.Setting.TheVariants as setting
-use Rattle.pawn_pre.specs.Substitution.{expanded}
+use Rattle.pawn_macro.specs.Substitution.{expanded}
 use Rattle.pawn_pre.specs.Directives.{pragma, quoted_byte}
-use Rattle.pawn_pre.specs.ByteClass.{past_blanks}
+use Rattle.pawn_lines.specs.ByteClass.{past_blanks}
 use Rattle.pawn_cells.specs.Cells.{is_zero}
-use Rattle.pawn_pre.specs.Defining.{definition, undefined}
-use Rattle.pawn_pre.specs.Values.{Value, proceed, or_fault}
+use Rattle.pawn_macro.specs.Defining.{definition, undefined}
+use Rattle.pawn_macro.specs.Values.{Value, proceed, or_fault}
 use Rattle.pawn_pre.specs.Pages.{OpenFile, first_of}
 use Rattle.pawn_pre.specs.Acts.{act, keep, with_line, line_of, is_in_chosen, begin_if, turn_elseif, elseif_by, elseif_part, turn_else, else_by, end_if, end_by, assert_true, define, undefine, without, set_pragma, pragma_by, in_chosen, if_chosen, push, replaced, condition_of, number_of, with_settings, is_set, with_definition, conditional, part_of}
 use Rattle.pawn_pre.specs.Walks.{Page, lines_of, entered, first_page}
 use Rattle.std.specs.Prelude.{IfOk}
 use Rattle.pawn_cells.specs.declared.place.Place.{Place}
-use Rattle.pawn_pre.specs.declared.refusal.Refusal.{Refusal}
-use Rattle.pawn_pre.specs.declared.refusal.Refusal.TheVariants as refusal
+use Rattle.pawn_macro.specs.declared.refusal.Refusal.{Refusal}
+use Rattle.pawn_macro.specs.declared.refusal.Refusal.TheVariants as refusal
 use Rattle.pawn_pre.specs.declared.fault.PreFault.{PreFault}
 use Rattle.pawn_pre.specs.Acted.{Acted}
 use Rattle.pawn_pre.specs.Answers.{IsTold}

@@ -1,14 +1,3 @@
-pub mod AnswerLaws
 pub mod AsciiLaws
 pub mod BoundLaws
-pub mod ByteKeys
-pub mod CommentLaws
-pub mod ConditionComplete
-pub mod ConditionSound
-pub mod FileLaws
-pub mod JoinedLaws
-pub mod LexLaws
-pub mod PieceLaws
-pub mod StepLaws
-pub mod ValueLaws
 pub mod WalkLaws

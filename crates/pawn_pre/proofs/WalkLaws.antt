@@ -1,7 +1,7 @@
 -- Steps, one after another.
 use Rattle.std.proofs.Common.{◌≡◌, ◌≢◌, ℕ, zero, suc, Err, List, Bool, true, false, Option, Some, None, refl, sym, ◌∙◌}
 use Rattle.pawn_outside.specs.Held.{Held}
-use Rattle.pawn_pre.specs.Values.{Value}
+use Rattle.pawn_macro.specs.Values.{Value}
 use Rattle.pawn_pre.specs.declared.fault.PreFault.{PreFault}
 use Rattle.pawn_pre.specs.declared.fault.PreFault.TheVariants as fault
 use Rattle.pawn_pre.specs.Answers.{Says, EndsIn}

@@ -5,9 +5,9 @@ use Rattle.pawn_pre.specs.declared.line.Lines.{Lines}
 use Rattle.pawn_pre.specs.declared.fault.PreFault.{PreFault}
 use Rattle.pawn_pre.specs.declared.fault.PreFault.TheVariants as fault
 use Rattle.pawn_cells.specs.declared.place.Place.{Place}
-use Rattle.pawn_pre.specs.declared.refusal.Refusal.{Refusal}
-use Rattle.pawn_pre.specs.declared.refusal.Refusal.TheVariants as refusal
-use Rattle.pawn_pre.specs.Values.{Value}
+use Rattle.pawn_macro.specs.declared.refusal.Refusal.{Refusal}
+use Rattle.pawn_macro.specs.declared.refusal.Refusal.TheVariants as refusal
+use Rattle.pawn_macro.specs.Values.{Value}
 use Rattle.pawn_pre.specs.Walks.{Page, Outcome, Whole, Fault, Long, NotHeld, Turned, On, Stopped, lines_of, name_of, Ends, Comes}
 
 -- each answer is what the source comes to; a failure of the files and want of memory are free

@@ -8,15 +8,15 @@ use Rattle.std.specs.FinMap.{get}
 use Rattle.pawn_cells.specs.declared.place.Place.{Place}
 use Rattle.pawn_outside.specs.Held.{Held}
 use Rattle.pawn_pre.specs.declared.line.Lines.{Lines}
-use Rattle.pawn_pre.specs.declared.row.Row.{Row}
+use Rattle.pawn_lines.specs.declared.row.Row.{Row}
 use Rattle.pawn_pre.specs.declared.work.Work.{Work}
 use Rattle.pawn_pre.specs.declared.include.Named.{Named}
 use Rattle.pawn_pre.specs.declared.directive.Word.{Word}
 use Rattle.pawn_pre.specs.declared.directive.Word.TheVariants as word
-use Rattle.pawn_pre.specs.File.{file_of}
+use Rattle.pawn_lines.specs.File.{file_of}
 use Rattle.pawn_pre.specs.Directives.{Directive, directive}
 use Rattle.pawn_pre.specs.Includes.{include_name}
-use Rattle.pawn_pre.specs.Values.{Value}
+use Rattle.pawn_macro.specs.Values.{Value}
 use Rattle.pawn_pre.specs.Pages.{OpenFile, first_of, rest_of, opened}
 use Rattle.pawn_pre.specs.Acts.{act, keep, is_in_chosen, nothing_in}
 

@@ -1,11 +1,10 @@
 ghost use Rattle.std.specs.Prelude.{◌≡◌, [], ◌∷◌, OnOk};
-ghost use Rattle.pawn_pre.specs.File.{File};
+ghost use Rattle.pawn_lines.specs.File.{File};
 ghost use Rattle.pawn_pre.specs.Pages as pages;
 
-use super::file::OpenFile;
-use super::row::Row;
 use super::state::{Conditional, Part};
 use pawn_base::Memory;
+use pawn_lines::{OpenFile, Row};
 use std::alloc::Global;
 use std::collections::VecDeque;
 use std::marker::Model;

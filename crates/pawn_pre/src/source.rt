@@ -3,9 +3,9 @@ ghost use Rattle.pawn_outside.specs.Held.{Held};
 ghost use Rattle.pawn_outside.specs.Rose.{Rose};
 ghost use Rattle.pawn_pre.specs.Answers.{Answers, EndsIn};
 ghost use Rattle.pawn_pre.specs.Bounds.{IsBounded, IsSoundPage};
-ghost use Rattle.pawn_pre.specs.Condition.{IsValue};
-ghost use Rattle.pawn_pre.specs.ConditionMachine.{value_of};
-ghost use Rattle.pawn_pre.specs.Values.{Value};
+ghost use Rattle.pawn_condition.specs.Condition.{IsValue};
+ghost use Rattle.pawn_condition.specs.ConditionMachine.{value_of};
+ghost use Rattle.pawn_macro.specs.Values.{Value};
 ghost use Rattle.pawn_pre.specs.Walks.{HasOneOutcome};
 
 use super::fault::PreFault;

@@ -1,5 +1,5 @@
 use Rattle.std.proofs.Common.{◌∙◌, arith}
-use Rattle.pawn_pre.specs.ConditionMachine.{value_of}
+use Rattle.pawn_condition.specs.ConditionMachine.{value_of}
 use Rattle.pawn_pre.proofs.WalkLaws.{goes, stops, blames}
 use Rattle.pawn_pre.proofs.source.drive.Goals as goal
 

@@ -1,6 +1,6 @@
 use Rattle.std.proofs.Common.{◌≡◌, ◌≤◌, Some}
 use Rattle.pawn_outside.specs.Held.{Held}
-use Rattle.pawn_pre.specs.ConditionMachine.{value_of}
+use Rattle.pawn_condition.specs.ConditionMachine.{value_of}
 use Rattle.pawn_pre.specs.Bounds.{IsSoundPage}
 use Rattle.pawn_pre.specs.Walks.{Outcome, Ends}
 use Rattle.pawn_pre.proofs.source.drive.Given as goal

@@ -1,0 +1,4 @@
+pub mod AnswerLaws
+pub mod ByteKeys
+pub mod PieceLaws
+pub mod StepLaws
