@@ -9,3 +9,4 @@ pub mod Patterns
 pub mod Steps
 pub mod Substitution
 pub mod Values
+pub use Rattle.pawn_condition.specs.ConditionMachine

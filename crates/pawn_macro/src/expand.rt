@@ -3,7 +3,7 @@ ghost use Rattle.std.specs.List.{find};
 ghost use Rattle.std.specs.Option.{option_copied};
 ghost use Rattle.pawn_macro.specs.declared.matching.Given.{Given as GivenBytes};
 ghost use Rattle.pawn_macro.specs.Substitution as spec;
-ghost use Rattle.pawn_macro.specs.Expansion.{Tells, IsSpot};
+ghost use Rattle.pawn_macro.specs.Expansion.{Tells, IsCut, IsPlace, IsSpot};
 
 use super::matching::{Given, matched};
 use super::piece::{Piece, pieces};
@@ -53,13 +53,16 @@ fn put_given(number: u8, given: &[Given], out: &mut Bytes) -> Result<(), Memory>
     }
 }
 
-/// A text with what the parameters took.
+/// A text with what the parameters took, no further than until it is too long for a line.
 #[tactic(auto, unfolding(crate::specs::Substitution::filled))]
 fn filled(alloc: Global, given: &[Given], text: &[Piece]) -> Result<Bytes, Memory>
-    ensures { IfOk result (λ out. out ≡ spec.filled given.now text.now) }
+    ensures { IfOk result (λ out. IsCut (spec.filled given.now text.now) out) }
 {
     let mut out = Bytes::new(alloc);
     for piece in text {
+        if is_long(out.len(), 0) {
+            return Ok(out);
+        }
         match *piece {
             Piece::Byte(byte) => {
                 out.push(byte)?;
@@ -78,7 +81,8 @@ impl Table {
     /// Where the key in front has a definition whose tail matches, what stands from there on.
     #[tactic(auto, unfolding(crate::specs::Substitution::place_at))]
     fn place_at(&self, alloc: Global, control: u8, bytes: &[u8]) -> Result<Option<Bytes>, Memory>
-        ensures { IfOk result (λ after. after ≡ spec.place_at self.now control bytes.now) }
+        ensures { IfOk result (λ after.
+            IsPlace (spec.place_at self.now control bytes.now) after) }
     {
         let (name, behind) = bytes.split_at(name_len(bytes));
         let Some(rule) = self.find(name) else {
@@ -102,7 +106,7 @@ impl Table {
         bytes: &[u8],
     ) -> Result<Option<Bytes>, Memory>
         ensures { IfOk result (λ after.
-            after ≡ (if begins then spec.place_at self.now control bytes.now else None)) }
+            IsPlace (if begins then spec.place_at self.now control bytes.now else None) after) }
     {
         if begins {
             self.place_at(alloc, control, bytes)

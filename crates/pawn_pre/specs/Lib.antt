@@ -7,3 +7,5 @@ pub mod Includes
 pub mod Pages
 pub mod Parsed
 pub mod Walks
+pub use Rattle.pawn_condition.specs.Condition
+pub use Rattle.pawn_macro.specs.Values
