@@ -8,6 +8,13 @@ pub mod ConditionSound
 pub mod FileLaws
 pub mod JoinedLaws
 pub mod LexLaws
+pub mod Mirror
+pub mod MirrorDropped
+pub mod MirrorEnds
+pub mod MirrorInclude
+pub mod MirrorKept
+pub mod MirrorParts
+pub mod PageLaws
 pub mod PieceLaws
 pub mod StepLaws
 pub mod ValueLaws

@@ -8,7 +8,9 @@ use Rattle.pawn_cells.specs.declared.place.Place.{Place}
 use Rattle.pawn_pre.specs.declared.refusal.Refusal.{Refusal}
 use Rattle.pawn_pre.specs.declared.refusal.Refusal.TheVariants as refusal
 use Rattle.pawn_pre.specs.Values.{Value}
-use Rattle.pawn_pre.specs.Walks.{Page, Outcome, Whole, Fault, Long, NotHeld, Turned, On, Stopped, lines_of, name_of, Ends, Comes}
+use Rattle.pawn_pre.specs.Outcome.{Outcome, Whole, Fault, Long, NotHeld, name_of}
+use Rattle.pawn_pre.specs.Page.{Comes}
+use Rattle.pawn_pre.specs.Walks.{Stack, Turned, On, Stopped, lines_of, Ends}
 
 -- each answer is what the source comes to; a failure of the files and want of memory are free
 abbrev pub Answers : Value → Held → List ℕ → Result Lines PreFault → Type 0
@@ -21,7 +23,7 @@ Answers value map name (Err fault.Files) = Unit {0}
 Answers value map name (Err fault.Memory) = Unit {0}
 
 -- of one step: whether it goes on, or the fault
-abbrev pub Says : Turned → Result Bool PreFault → Page → Type 0
+abbrev pub Says : Turned → Result Bool PreFault → Stack → Type 0
 Says turned (Ok true) new = turned ≡ On new
 Says turned (Ok false) new = turned ≡ Stopped (Whole (lines_of new))
 Says turned (Err (fault.Source kind place file)) new = turned ≡ Stopped (Fault kind place file)
@@ -44,20 +46,20 @@ IfFault o (Ok goes_on) = ⊥
 IfFault o (Err refused) = IsFault o refused
 
 -- a file that isn't there is fault 3, or nothing
-abbrev pub IsMissing : Bool → Page → Place → Result Bool PreFault → Type 0
+abbrev pub IsMissing : Bool → Stack → Place → Result Bool PreFault → Type 0
 IsMissing true p place result = result ≡ Ok true
 IsMissing false p place result =
     IfFault (Fault 3 place (name_of p.names place.file)) result
 
 -- the outcome of a line's work
-abbrev pub IsTold : Page → Place → Result (Unit {0}) Refusal → Result Bool PreFault → Type 0
+abbrev pub IsTold : Stack → Place → Result (Unit {0}) Refusal → Result Bool PreFault → Type 0
 IsTold p place (Ok done) result = result ≡ Ok true
 IsTold p place (Err (refusal.Fault kind)) result =
     IfFault (Fault kind place (name_of p.names place.file)) result
 IsTold p place (Err refusal.Memory) result = result ≡ Err fault.Memory
 
 -- what the steps from a page come to
-abbrev pub EndsIn : Value → Held → Page → Result Lines PreFault → Type 0
+abbrev pub EndsIn : Value → Held → Stack → Result Lines PreFault → Type 0
 EndsIn value map p (Ok lines) = Ends value map p (Whole lines)
 EndsIn value map p (Err (fault.Source kind place file)) = Ends value map p (Fault kind place file)
 EndsIn value map p (Err fault.NoSource) = ⊥

@@ -2,11 +2,11 @@ ghost use Rattle.std.specs.Prelude.{◌≡◌, ◌≤◌, Some, IfOk};
 ghost use Rattle.pawn_outside.specs.Held.{Held};
 ghost use Rattle.pawn_outside.specs.Rose.{Rose};
 ghost use Rattle.pawn_pre.specs.Answers.{Answers, EndsIn};
-ghost use Rattle.pawn_pre.specs.Bounds.{IsBounded, IsSoundPage};
+ghost use Rattle.pawn_pre.specs.Bounds.{IsBounded, IsSoundStack};
 ghost use Rattle.pawn_pre.specs.Condition.{IsValue};
 ghost use Rattle.pawn_pre.specs.ConditionMachine.{value_of};
 ghost use Rattle.pawn_pre.specs.Values.{Value};
-ghost use Rattle.pawn_pre.specs.Walks.{HasOneOutcome};
+ghost use Rattle.pawn_pre.specs.Page.{HasOneOutcome};
 
 use super::fault::PreFault;
 use super::line::Lines;
@@ -20,7 +20,7 @@ fn drive<F: Files>(alloc: Global, walk: Walk, files: &mut F) -> Result<Lines, Pr
     ensures same { F.held files.new ≡ F.held files.old }
     ensures ends { (map : Held) → F.held files.old ≡ Some map →
         EndsIn value_of map walk result }
-    ensures bounds { IsSoundPage walk → IfOk result IsBounded }
+    ensures bounds { IsSoundStack walk → IfOk result IsBounded }
     ensures later { F.faults files.old ≤ F.faults files.new }
     ensures cause { result ≡ Err PreFault.Files →
         Rose (F.faults files.old) (F.faults files.new) }

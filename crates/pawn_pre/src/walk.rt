@@ -4,7 +4,8 @@ ghost use Rattle.pawn_outside.specs.Held.{Held};
 ghost use Rattle.pawn_outside.specs.Rose.{Rose};
 ghost use Rattle.pawn_outside.specs.Answers.{IsRead};
 ghost use Rattle.pawn_pre.specs.Walks as walks;
-ghost use Rattle.pawn_pre.specs.Bounds.{IsSoundPage, Leaves};
+ghost use Rattle.pawn_pre.specs.Outcome.{Fault, name_of};
+ghost use Rattle.pawn_pre.specs.Bounds.{IsSoundStack, Leaves};
 ghost use Rattle.pawn_pre.specs.Answers.{Says, IsFault, IsMissing, IsTold};
 ghost use Rattle.pawn_pre.specs.ConditionMachine.{value_of};
 
@@ -38,9 +39,9 @@ pub struct Walk {
 impl Model for Walk {
     ghost use Rattle.std.specs.Coded.{codes};
     ghost use Rattle.pawn_pre.specs.contracts.work.Work as settled;
-    ghost use Rattle.pawn_pre.specs.Walks.{Page};
+    ghost use Rattle.pawn_pre.specs.Walks.{Stack};
 
-    ghost Value = { Page };
+    ghost Value = { Stack };
 
     ghost coded = { Prim.hlevel (codes, settled.the_row.coded) };
 
@@ -70,7 +71,7 @@ impl Walk {
     /// The source, before its first line.
     pub fn begin(alloc: Global, name: &str, bytes: &[u8]) -> Result<Walk, Memory>
         requires { length bytes.now ≤ 16777216 }
-        ensures { IfOk result (λ walk. walk ≡ walks.first_page name.now bytes.now) }
+        ensures { IfOk result (λ walk. walk ≡ walks.first_stack name.now bytes.now) }
     {
         let mut names = List::new(alloc);
         names.push(Bytes::from_slice(alloc, name.as_bytes())?)?;
@@ -108,7 +109,7 @@ impl Walk {
     /// A fault at a place, with the name of its file.
     fn fault(&self, alloc: Global, kind: u8, place: Place) -> PreFault
         ensures { IsFault
-            (walks.Fault kind place (walks.name_of self.now.names place.file)) result }
+            (Fault kind place (name_of self.now.names place.file)) result }
     {
         let bytes = match self.names.as_slice().get(place.file as usize) {
             Some(name) => name.as_slice(),
@@ -124,7 +125,7 @@ impl Walk {
     #[tactic(auto, unfolding(crate::specs::Walks::at_end))]
     fn end_file(&mut self, alloc: Global) -> Result<bool, PreFault>
         ensures says { Says (walks.at_end self.old) result self.new }
-        ensures bounds { IsSoundPage self.old → Leaves result self.new }
+        ensures bounds { IsSoundStack self.old → Leaves result self.new }
         ensures cause { result ≢ Err PreFault.Files }
     {
         let place = Place {
@@ -193,7 +194,7 @@ impl Walk {
         ensures same { F.held files.new ≡ F.held files.old }
         ensures says { (map : Held) → F.held files.old ≡ Some map →
             Says (walks.asked map self.old line optional named) result self.new }
-        ensures bounds { IsSoundPage self.old → Leaves result self.new }
+        ensures bounds { IsSoundStack self.old → Leaves result self.new }
         ensures later { F.faults files.old ≤ F.faults files.new }
         ensures cause { result ≡ Err PreFault.Files →
             Rose (F.faults files.old) (F.faults files.new) }
@@ -230,7 +231,7 @@ impl Walk {
         ensures same { F.held files.new ≡ F.held files.old }
         ensures says { (map : Held) → F.held files.old ≡ Some map →
             Says (walks.include map self.old line optional rest.now) result self.new }
-        ensures bounds { IsSoundPage self.old → Leaves result self.new }
+        ensures bounds { IsSoundStack self.old → Leaves result self.new }
         ensures later { F.faults files.old ≤ F.faults files.new }
         ensures cause { result ≡ Err PreFault.Files →
             Rose (F.faults files.old) (F.faults files.new) }
@@ -272,7 +273,7 @@ impl Walk {
         ensures same { F.held files.new ≡ F.held files.old }
         ensures says { (map : Held) → F.held files.old ≡ Some map →
             Says (walks.step value_of map self.old) result self.new }
-        ensures bounds { IsSoundPage self.old → Leaves result self.new }
+        ensures bounds { IsSoundStack self.old → Leaves result self.new }
         ensures later { F.faults files.old ≤ F.faults files.new }
         ensures cause { result ≡ Err PreFault.Files →
             Rose (F.faults files.old) (F.faults files.new) }

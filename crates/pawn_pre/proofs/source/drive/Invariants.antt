@@ -1,8 +1,9 @@
 use Rattle.std.proofs.Common.{◌≡◌, ◌≤◌, Some}
 use Rattle.pawn_outside.specs.Held.{Held}
 use Rattle.pawn_pre.specs.ConditionMachine.{value_of}
-use Rattle.pawn_pre.specs.Bounds.{IsSoundPage}
-use Rattle.pawn_pre.specs.Walks.{Outcome, Ends}
+use Rattle.pawn_pre.specs.Bounds.{IsSoundStack}
+use Rattle.pawn_pre.specs.Outcome.{Outcome}
+use Rattle.pawn_pre.specs.Walks.{Ends}
 use Rattle.pawn_pre.proofs.source.drive.Given as goal
 
 abbrev pub invariant-loop-turn : goal.invariant-loop-turn
@@ -11,5 +12,5 @@ invariant-loop-turn g l = record {
   later : g.F.Files.faults l.fn.files ≤ g.F.Files.faults l.files;
   leads : (map : Held) → g.F.Files.held l.fn.files ≡ Some map → (o : Outcome) →
       Ends value_of map l.walk o → Ends value_of map l.fn.walk o;
-  sound : IsSoundPage l.fn.walk → IsSoundPage l.walk;
+  sound : IsSoundStack l.fn.walk → IsSoundStack l.walk;
 }
