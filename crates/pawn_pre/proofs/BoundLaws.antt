@@ -1,5 +1,5 @@
 -- Each step keeps the bounds.
-use Rattle.std.proofs.Common.{◌≡◌, ℕ, ◌+◌, ◌<◌, ◌++◌, List, [], ◌∷◌, Bool, true, false, zero, suc, cond, if◌then◌else◌, ltb, Option, Some, None, Result, Ok, Err, length, refl, sym, ap, subst, ◌∙◌, arith}
+use Rattle.std.proofs.Common.{◌≡◌, ℕ, ◌+◌, ◌<◌, ◌≤◌, ◌++◌, List, [], ◌∷◌, Bool, true, false, zero, suc, cond, if◌then◌else◌, ltb, Option, Some, None, Result, Ok, Err, length, refl, sym, ap, subst, ◌∙◌, arith}
 use Rattle.std.specs.Prelude.{All}
 use Rattle.std.proofs.lemmas.Bool.{ltb-false}
 use Rattle.std.proofs.lemmas.List.{length-append}
@@ -33,18 +33,19 @@ use Rattle.pawn_pre.specs.Acted.{Acted}
 use Rattle.pawn_pre.specs.Answers.{IsTold}
 use Rattle.pawn_pre.specs.Bounds.{Leaves, IsBounded, IsSound, IsSoundStack, bytes_of, ArePlaced}
 
--- the lines, their bytes and the file stay
+-- the lines, their bytes and the file stay, and no line is more left
 record Same (w new : Work) : Type 0 where
   lines : new.lines ≡ w.lines
   size : new.size ≡ w.size
   file : new.top.file ≡ w.top.file
+  rows : length new.top.rows ≤ length w.top.rows
 
 Stays : Work → Result Work ℕ → Type 0
 Stays w (Ok new) = Same w new
 Stays w (Err kind) = Unit {0}
 
 same : (w : Work) → Same w w
-same w = record { lines = refl; size = refl; file = refl }
+same w = record { lines = refl; size = refl; file = refl; rows = omega arith }
 
 stays_then : {A : Type 0} (w : Work) (r : Result A ℕ) (f : A → Result Work ℕ) → ((a : A) → Stays w (f a)) → Stays w (proceed r f)
 unfolding Stays
@@ -61,35 +62,35 @@ stays_elseif value w rest None = tt
 stays_elseif value w rest (Some c) = stays_if w c.past _ _ tt (by_part c.part)
   where
     by_part : (part : Part) → Stays w (elseif_part value w rest part)
-    by_part Chosen = record { lines = refl; size = refl; file = refl }
-    by_part Waiting = stays_then w (condition_of value w rest) (λ v. Ok (replaced w (conditional (part_of v) false))) (λ v. record { lines = refl; size = refl; file = refl })
-    by_part Done = record { lines = refl; size = refl; file = refl }
+    by_part Chosen = record { lines = refl; size = refl; file = refl; rows = omega arith }
+    by_part Waiting = stays_then w (condition_of value w rest) (λ v. Ok (replaced w (conditional (part_of v) false))) (λ v. record { lines = refl; size = refl; file = refl; rows = omega arith })
+    by_part Done = record { lines = refl; size = refl; file = refl; rows = omega arith }
 
 stays_else : (w : Work) (o : Option Conditional) → Stays w (else_by w o)
 unfolding Stays
 stays_else w None = tt
-stays_else w (Some c) = stays_if w c.past _ _ tt (record { lines = refl; size = refl; file = refl })
+stays_else w (Some c) = stays_if w c.past _ _ tt (record { lines = refl; size = refl; file = refl; rows = omega arith })
 
 stays_end : (w : Work) (o : Option Conditional) → Stays w (end_by w o)
 unfolding Stays
 stays_end w None = tt
-stays_end w (Some c) = record { lines = refl; size = refl; file = refl }
+stays_end w (Some c) = record { lines = refl; size = refl; file = refl; rows = omega arith }
 
 stays_without : (w : Work) (o : Option (List ℕ)) → Same w (without w o)
 stays_without w None = same w
-stays_without w (Some key) = record { lines = refl; size = refl; file = refl }
+stays_without w (Some key) = record { lines = refl; size = refl; file = refl; rows = omega arith }
 
 stays_pragma : (value : Value) (w : Work) (rest : List ℕ) (s : Setting) → Stays w (pragma_by value w rest s)
 unfolding Stays
-stays_pragma value w rest setting.Semicolon = stays_then w (number_of value w rest) (λ v. Ok (with_settings w (record w.settings { strict = is_set v }))) (λ v. record { lines = refl; size = refl; file = refl })
-stays_pragma value w rest setting.Pack = stays_then w (number_of value w rest) (λ v. Ok (with_settings w (record w.settings { packed = is_set v }))) (λ v. record { lines = refl; size = refl; file = refl })
-stays_pragma value w rest setting.Control = stays_then w (or_fault 11 (quoted_byte (past_blanks rest))) (λ c. Ok (with_settings w (record w.settings { control = c }))) (λ v. record { lines = refl; size = refl; file = refl })
-stays_pragma value w rest setting.Dynamic = stays_then w (number_of value w rest) (λ v. Ok (with_settings w (record w.settings { dynamic = v }))) (λ v. record { lines = refl; size = refl; file = refl })
+stays_pragma value w rest setting.Semicolon = stays_then w (number_of value w rest) (λ v. Ok (with_settings w (record w.settings { strict = is_set v }))) (λ v. record { lines = refl; size = refl; file = refl; rows = omega arith })
+stays_pragma value w rest setting.Pack = stays_then w (number_of value w rest) (λ v. Ok (with_settings w (record w.settings { packed = is_set v }))) (λ v. record { lines = refl; size = refl; file = refl; rows = omega arith })
+stays_pragma value w rest setting.Control = stays_then w (or_fault 11 (quoted_byte (past_blanks rest))) (λ c. Ok (with_settings w (record w.settings { control = c }))) (λ v. record { lines = refl; size = refl; file = refl; rows = omega arith })
+stays_pragma value w rest setting.Dynamic = stays_then w (number_of value w rest) (λ v. Ok (with_settings w (record w.settings { dynamic = v }))) (λ v. record { lines = refl; size = refl; file = refl; rows = omega arith })
 stays_pragma value w rest setting.Other = same w
 
 stays_chosen : (value : Value) (w : Work) (d : Word) (rest : List ℕ) → Stays w (in_chosen value w d rest)
 unfolding Stays define undefine assert_true set_pragma
-stays_chosen value w word.Define rest = stays_then w (or_fault 6 (definition w.settings.control rest)) (λ d. Ok (with_definition w d)) (λ d. record { lines = refl; size = refl; file = refl })
+stays_chosen value w word.Define rest = stays_then w (or_fault 6 (definition w.settings.control rest)) (λ d. Ok (with_definition w d)) (λ d. record { lines = refl; size = refl; file = refl; rows = omega arith })
 stays_chosen value w word.Undef rest = stays_without w (undefined rest)
 stays_chosen value w word.If rest = same w
 stays_chosen value w word.ElseIf rest = same w
@@ -99,7 +100,7 @@ stays_chosen value w word.Include rest = same w
 stays_chosen value w word.TryInclude rest = same w
 stays_chosen value w word.Error rest = tt
 stays_chosen value w word.Assert rest = stays_then w (condition_of value w rest) (λ v. if is_zero v then Err 5 else Ok w) (λ v. stays_if w (is_zero v) (Err 5) (Ok w) tt (same w))
-stays_chosen value w word.Endinput rest = record { lines = refl; size = refl; file = refl }
+stays_chosen value w word.Endinput rest = record { lines = refl; size = refl; file = refl; rows = omega arith }
 stays_chosen value w word.Pragma rest = stays_pragma value w (pragma rest).rest (pragma rest).setting
 stays_chosen value w word.Unknown rest = tt
 
@@ -109,7 +110,7 @@ stays_if_chosen value w d rest = stays_if w (is_in_chosen w) _ _ (stays_chosen v
 
 stays : (value : Value) (w : Work) (d : Word) (rest : List ℕ) → Stays w (act value w d rest)
 unfolding act begin_if turn_elseif turn_else end_if Stays
-stays value w word.If rest = stays_if w (is_in_chosen w) (proceed (condition_of value w rest) (λ v. Ok (push w (part_of v)))) (Ok (push w Done)) (stays_then w (condition_of value w rest) (λ v. Ok (push w (part_of v))) (λ v. record { lines = refl; size = refl; file = refl })) (record { lines = refl; size = refl; file = refl })
+stays value w word.If rest = stays_if w (is_in_chosen w) (proceed (condition_of value w rest) (λ v. Ok (push w (part_of v)))) (Ok (push w Done)) (stays_then w (condition_of value w rest) (λ v. Ok (push w (part_of v))) (λ v. record { lines = refl; size = refl; file = refl; rows = omega arith })) (record { lines = refl; size = refl; file = refl; rows = omega arith })
 stays value w word.ElseIf rest = stays_elseif value w rest (first_of w.top.conditionals)
 stays value w word.Else rest = stays_else w (first_of w.top.conditionals)
 stays value w word.Endif rest = stays_end w (first_of w.top.conditionals)
@@ -135,6 +136,11 @@ sound_same files w new s h = record {
 pub acted_sound : (files : ℕ) (value : Value) (w new : Work) (d : Word) (rest : List ℕ) → act value w d rest ≡ Ok new → IsSound files w → IsSound files new
 unfolding Stays
 acted_sound files value w new d rest e h = sound_same files w new (subst (λ r. Stays w r) e (stays value w d rest)) h
+
+-- and leaves no more lines
+pub acted_rows : (value : Value) (w new : Work) (d : Word) (rest : List ℕ) → act value w d rest ≡ Ok new → length new.top.rows ≤ length w.top.rows
+unfolding Stays
+acted_rows value w new d rest e = (subst (λ r. Stays w r) e (stays value w d rest)).rows
 
 All-none : {A : Type 0} (P : A → Type 0) → All P []
 All-none P k d h = absurd (omega arith)

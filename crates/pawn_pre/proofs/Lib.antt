@@ -16,6 +16,7 @@ pub mod MirrorKept
 pub mod MirrorParts
 pub mod PageLaws
 pub mod PieceLaws
+pub mod RemainingLaws
 pub mod StepLaws
 pub mod ValueLaws
 pub mod WalkLaws

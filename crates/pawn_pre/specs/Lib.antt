@@ -31,6 +31,7 @@ pub mod Page
 pub mod Parsed
 pub mod Partner
 pub mod Patterns
+pub mod Remaining
 pub mod Scan
 pub mod Signs
 pub mod Steps

@@ -26,14 +26,13 @@ fn drive<F: Files>(alloc: Global, walk: Walk, files: &mut F) -> Result<Lines, Pr
         Rose (F.faults files.old) (F.faults files.new) }
 {
     let mut walk = walk;
-    for _turn in 0..u64::MAX {
+    loop {
         match walk.turn(alloc, files) {
             Ok(true) => continue,
             Ok(false) => return Ok(walk.finish()),
             Err(fault) => return Err(fault),
         }
     }
-    Err(PreFault::Memory)
 }
 
 /// The lines of a source, over the files that it includes.

@@ -1,4 +1,4 @@
-ghost use Rattle.std.specs.Prelude.{◌≡◌, ◌≢◌, ◌≤◌, length, Some, OnOk, IfOk, IsTrue};
+ghost use Rattle.std.specs.Prelude.{◌≡◌, ◌≢◌, ◌≤◌, ◌<◌, ◌+◌, length, Some, OnOk, IfOk, IsTrue};
 ghost use Rattle.std.specs.Str.{IsAscii};
 ghost use Rattle.pawn_outside.specs.Held.{Held};
 ghost use Rattle.pawn_outside.specs.Rose.{Rose};
@@ -6,6 +6,7 @@ ghost use Rattle.pawn_outside.specs.Answers.{IsRead};
 ghost use Rattle.pawn_pre.specs.Walks as walks;
 ghost use Rattle.pawn_pre.specs.Outcome.{Fault, name_of};
 ghost use Rattle.pawn_pre.specs.Bounds.{IsSoundStack, Leaves};
+ghost use Rattle.pawn_pre.specs.Remaining.{remaining, FallsBelow};
 ghost use Rattle.pawn_pre.specs.Answers.{Says, IsFault, IsMissing, IsTold};
 ghost use Rattle.pawn_pre.specs.ConditionMachine.{value_of};
 
@@ -125,6 +126,7 @@ impl Walk {
     #[tactic(auto, unfolding(crate::specs::Walks::at_end))]
     fn end_file(&mut self, alloc: Global) -> Result<bool, PreFault>
         ensures says { Says (walks.at_end self.old) result self.new }
+        ensures falls { FallsBelow (remaining self.old) result self.new }
         ensures bounds { IsSoundStack self.old → Leaves result self.new }
         ensures cause { result ≢ Err PreFault.Files }
     {
@@ -159,7 +161,8 @@ impl Walk {
     /// Opens a file.
     fn enter(&mut self, alloc: Global, name: Bytes, bytes: &[u8]) -> Result<(), Memory>
         requires { length bytes.now ≤ 16777216 }
-        ensures { OnOk result (self.new ≡ walks.entered self.old name bytes.now) }
+        ensures entered { OnOk result (self.new ≡ walks.entered self.old name bytes.now) }
+        ensures falls { OnOk result (remaining self.new < remaining self.old + 1) }
     {
         let number = self.names.len() as u64;
         let level = Level::new(alloc, number, read_rows(alloc, bytes)?);
@@ -194,6 +197,7 @@ impl Walk {
         ensures same { F.held files.new ≡ F.held files.old }
         ensures says { (map : Held) → F.held files.old ≡ Some map →
             Says (walks.asked map self.old line optional named) result self.new }
+        ensures falls { FallsBelow (remaining self.old + 1) result self.new }
         ensures bounds { IsSoundStack self.old → Leaves result self.new }
         ensures later { F.faults files.old ≤ F.faults files.new }
         ensures cause { result ≡ Err PreFault.Files →
@@ -231,6 +235,7 @@ impl Walk {
         ensures same { F.held files.new ≡ F.held files.old }
         ensures says { (map : Held) → F.held files.old ≡ Some map →
             Says (walks.include map self.old line optional rest.now) result self.new }
+        ensures falls { FallsBelow (remaining self.old + 1) result self.new }
         ensures bounds { IsSoundStack self.old → Leaves result self.new }
         ensures later { F.faults files.old ≤ F.faults files.new }
         ensures cause { result ≡ Err PreFault.Files →
@@ -273,6 +278,7 @@ impl Walk {
         ensures same { F.held files.new ≡ F.held files.old }
         ensures says { (map : Held) → F.held files.old ≡ Some map →
             Says (walks.step value_of map self.old) result self.new }
+        ensures falls { FallsBelow (remaining self.old) result self.new }
         ensures bounds { IsSoundStack self.old → Leaves result self.new }
         ensures later { F.faults files.old ≤ F.faults files.new }
         ensures cause { result ≡ Err PreFault.Files →
