@@ -14,6 +14,7 @@ pub mod MirrorEnds
 pub mod MirrorInclude
 pub mod MirrorKept
 pub mod MirrorParts
+pub mod NameLaws
 pub mod PageLaws
 pub mod PieceLaws
 pub mod RemainingLaws

@@ -18,6 +18,7 @@ mod level;
 mod lexer;
 mod line;
 mod matching;
+mod names;
 mod numeral;
 mod piece;
 mod quote;

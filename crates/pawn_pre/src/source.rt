@@ -29,7 +29,12 @@ fn drive<F: Files>(alloc: Global, walk: Walk, files: &mut F) -> Result<Lines, Pr
     loop {
         match walk.turn(alloc, files) {
             Ok(true) => continue,
-            Ok(false) => return Ok(walk.finish()),
+            Ok(false) => {
+                return match walk.finish(alloc) {
+                    Ok(lines) => Ok(lines),
+                    Err(Memory) => Err(PreFault::Memory),
+                };
+            }
             Err(fault) => return Err(fault),
         }
     }

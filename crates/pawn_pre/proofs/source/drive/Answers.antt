@@ -12,15 +12,15 @@ loop-walk-preserved g c = record {
   sound = λ k. rw c.in-Ok-true.field-0-test at (c.in-Ok-true.ensures.bounds (c.loop-walk.invariant.sound k));
 }
 
-pub returns-in-Ok-false-clause-ends : goal.returns-in-Ok-false-clause-ends
-returns-in-Ok-false-clause-ends g c = λ map h.
+pub returns-in-Ok-clause-ends : goal.returns-in-Ok-clause-ends
+returns-in-Ok-clause-ends g c = λ map h.
     let stopped = rw c.in-Ok-false.field-0-test at (c.in-Ok-false.ensures.says map (c.loop-walk.invariant.same ∙ h)) in
-    rw c.finish.ensures (c.loop-walk.invariant.leads map h _ (stops value_of map _ _ stopped))
+    rw c.in-Ok.ensures (c.loop-walk.invariant.leads map h _ (stops value_of map _ _ stopped))
 
 pub returns-in-Err-clause-ends : goal.returns-in-Err-clause-ends
 returns-in-Err-clause-ends g c = λ map h.
     blames value_of map c.args.walk _ _ c.in-Err.fault (c.loop-walk.invariant.leads map h) (c.in-Err.ensures.says map (c.loop-walk.invariant.same ∙ h))
 
-pub returns-in-Ok-false-clause-bounds : goal.returns-in-Ok-false-clause-bounds
-returns-in-Ok-false-clause-bounds g c = λ k.
-    rw c.finish.ensures (rw c.in-Ok-false.field-0-test at (c.in-Ok-false.ensures.bounds (c.loop-walk.invariant.sound k)))
+pub returns-in-Ok-clause-bounds : goal.returns-in-Ok-clause-bounds
+returns-in-Ok-clause-bounds g c = λ k.
+    rw c.in-Ok.ensures (rw c.in-Ok-false.field-0-test at (c.in-Ok-false.ensures.bounds (c.loop-walk.invariant.sound k)))
