@@ -30,7 +30,7 @@ use Rattle.pawn_pre.specs.declared.refusal.Refusal.{Refusal}
 use Rattle.pawn_pre.specs.declared.refusal.Refusal.TheVariants as refusal
 use Rattle.pawn_pre.specs.declared.fault.PreFault.{PreFault}
 use Rattle.pawn_pre.specs.Acted.{Acted}
-use Rattle.pawn_pre.specs.Answers.{IsTold}
+use Rattle.pawn_pre.specs.WalkAnswers.{IsTold}
 use Rattle.pawn_pre.specs.Bounds.{Leaves, IsBounded, IsSound, IsSoundStack, bytes_of, ArePlaced}
 
 -- the lines, their bytes and the file stay, and no line is more left

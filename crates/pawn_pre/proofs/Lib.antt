@@ -18,6 +18,7 @@ pub mod NameLaws
 pub mod PageLaws
 pub mod PieceLaws
 pub mod RemainingLaws
+pub mod RowLaws
 pub mod StepLaws
 pub mod ValueLaws
 pub mod WalkLaws

@@ -11,7 +11,8 @@ use Rattle.pawn_pre.specs.declared.fault.PreFault.{PreFault}
 use Rattle.pawn_pre.specs.declared.fault.PreFault.TheVariants as fault
 use Rattle.pawn_pre.specs.declared.line.Lines.{Lines}
 use Rattle.pawn_pre.specs.declared.row.Row.{Row}
-use Rattle.pawn_pre.specs.Answers.{Answers, EndsIn}
+use Rattle.pawn_pre.specs.Answers.{Answers}
+use Rattle.pawn_pre.specs.WalkAnswers.{EndsIn}
 use Rattle.pawn_pre.specs.Directives.{Directive, directive}
 use Rattle.pawn_pre.specs.File.{file_of}
 use Rattle.pawn_pre.specs.Marks.{Mark, Began, Ended, begun, kept, rules, settings, conditionals}

@@ -4,7 +4,7 @@ use Rattle.pawn_outside.specs.Held.{Held}
 use Rattle.pawn_pre.specs.Values.{Value}
 use Rattle.pawn_pre.specs.declared.fault.PreFault.{PreFault}
 use Rattle.pawn_pre.specs.declared.fault.PreFault.TheVariants as fault
-use Rattle.pawn_pre.specs.Answers.{Says, EndsIn}
+use Rattle.pawn_pre.specs.WalkAnswers.{Says, EndsIn}
 use Rattle.pawn_pre.specs.Outcome.{Outcome}
 use Rattle.pawn_pre.specs.Walks.{Stack, On, Stopped, step, run, Ends}
 

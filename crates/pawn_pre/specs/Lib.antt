@@ -38,4 +38,5 @@ pub mod Steps
 pub mod Substitution
 pub mod Turn
 pub mod Values
+pub mod WalkAnswers
 pub mod Walks

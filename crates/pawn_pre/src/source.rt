@@ -1,7 +1,8 @@
 ghost use Rattle.std.specs.Prelude.{◌≡◌, ◌≤◌, Some, IfOk};
 ghost use Rattle.pawn_outside.specs.Held.{Held};
 ghost use Rattle.pawn_outside.specs.Rose.{Rose};
-ghost use Rattle.pawn_pre.specs.Answers.{Answers, EndsIn};
+ghost use Rattle.pawn_pre.specs.Answers.{Answers};
+ghost use Rattle.pawn_pre.specs.WalkAnswers.{EndsIn};
 ghost use Rattle.pawn_pre.specs.Bounds.{IsBounded, IsSoundStack};
 ghost use Rattle.pawn_pre.specs.Condition.{IsValue};
 ghost use Rattle.pawn_pre.specs.ConditionMachine.{value_of};

@@ -7,7 +7,7 @@ ghost use Rattle.pawn_pre.specs.Walks as walks;
 ghost use Rattle.pawn_pre.specs.Outcome.{Fault, name_of};
 ghost use Rattle.pawn_pre.specs.Bounds.{IsSoundStack, Leaves};
 ghost use Rattle.pawn_pre.specs.Remaining.{remaining, FallsBelow};
-ghost use Rattle.pawn_pre.specs.Answers.{Says, IsFault, IsMissing, IsTold};
+ghost use Rattle.pawn_pre.specs.WalkAnswers.{Says, IsFault, IsMissing, IsTold};
 ghost use Rattle.pawn_pre.specs.ConditionMachine.{value_of};
 
 use super::directive::{Word, directive};
