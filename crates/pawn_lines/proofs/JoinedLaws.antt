@@ -8,7 +8,7 @@ use Rattle.pawn_lines.specs.Joined.{glued, joined, goes_on, front_of, is_last}
 use Rattle.pawn_lines.specs.declared.row.Row.{Row}
 
 -- a byte that ends a line
-abbrev ends_line : ℕ → Bool
+abbrev pub ends_line : ℕ → Bool
 ends_line b = b == 10
 
 parts_cons : (part : List ℕ) (parts : List (List ℕ)) → 0 < length parts → lines_of_parts (part ∷ parts) ≡ strip_carriage_return part ∷ lines_of_parts parts

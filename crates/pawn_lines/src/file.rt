@@ -32,6 +32,7 @@ pub fn read_rows(alloc: Global, bytes: &[u8]) -> Result<OpenFile, Memory>
     ensures rows { IfOk result (λ file. file.rows.items ≡ (file_of bytes.now).rows) }
     ensures last { IfOk result (λ file. file.last ≡ (file_of bytes.now).last) }
     ensures unclosed { IfOk result (λ file. file.is_open ≡ (file_of bytes.now).unclosed) }
+    ensures few { IfOk result (λ file. length file.rows.items ≤ length bytes.now) }
 {
     let mut joined = cut_rows(alloc, bytes)?;
     let mut rows = VecDeque::new(alloc);

@@ -1,3 +1,12 @@
 pub mod AsciiLaws
 pub mod BoundLaws
+pub mod Mirror
+pub mod MirrorDropped
+pub mod MirrorEnds
+pub mod MirrorInclude
+pub mod MirrorKept
+pub mod MirrorParts
+pub mod NameLaws
+pub mod PageLaws
+pub mod RemainingLaws
 pub mod WalkLaws

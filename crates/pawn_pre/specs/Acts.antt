@@ -17,7 +17,8 @@ use Rattle.pawn_lines.specs.ByteClass.{past_blanks}
 use Rattle.pawn_macro.specs.Substitution.{expanded}
 use Rattle.pawn_pre.specs.Directives.{pragma, quoted_byte}
 use Rattle.pawn_macro.specs.Defining.{definition, undefined}
-use Rattle.pawn_pre.specs.Pages.{OpenFile, first_of, rest_of, is_chosen}
+use Rattle.pawn_pre.specs.OpenFiles.{OpenFile, is_chosen}
+use Rattle.pawn_pre.specs.Lists.{first_of, rest_of}
 use Rattle.pawn_macro.specs.Values.{Value, proceed, or_fault, condition, number}
 
 -- nothing is kept, defined or set; the control character is `\`, and the room is 4,096 cells

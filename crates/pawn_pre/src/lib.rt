@@ -6,6 +6,7 @@ mod fault;
 mod include;
 mod level;
 mod line;
+mod names;
 mod source;
 mod state;
 #[cfg(test)]

@@ -1,6 +1,5 @@
--- A page: what is settled so far, and the files that are open with the lines that are left of
--- each (Language Guide, "Preprocessor").
-use Rattle.std.specs.Prelude.{ℕ, Option, Some, None, List, [], ◌∷◌, Bool, true, false}
+-- The files that are open, with the lines that are left of each: for the proof alone.
+use Rattle.std.specs.Prelude.{ℕ, Option, Some, None, List, [], Bool, true, false}
 use Rattle.pawn_lines.specs.declared.row.Row.{Row}
 use Rattle.pawn_pre.specs.declared.state.Part.{Part}
 use Rattle.pawn_pre.specs.declared.state.Part.TheVariants.{Chosen, Waiting, Done}
@@ -15,14 +14,6 @@ pub record OpenFile : Type 0 where
   pub unclosed : Bool
   pub rows : List Row
   pub conditionals : List Conditional
-
-abbrev pub first_of : {A : Type 0} → List A → Option A
-first_of [] = None
-first_of (a ∷ rest) = Some a
-
-abbrev pub rest_of : {A : Type 0} → List A → List A
-rest_of [] = []
-rest_of (a ∷ rest) = rest
 
 abbrev pub is_chosen_part : Part → Bool
 is_chosen_part Chosen = true
