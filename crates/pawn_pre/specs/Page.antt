@@ -94,7 +94,8 @@ run value map zero marks rest = Cut
 run value map (suc n) marks rest =
     run_by (turn value map marks rest) (λ next lines. run value map n next lines)
 
-pub record Ends (value : Value) (map : Held) (marks : List Mark) (rest : List Open) (o : Outcome) : Type 0 where
+pub record Ends (value : Value) (map : Held)
+    (marks : List Mark) (rest : List Open) (o : Outcome) : Type 0 where
   pub turns : ℕ
   pub ends : run value map turns marks rest ≡ o
 
