@@ -1,5 +1,5 @@
 -- Each step keeps the bounds.
-use Rattle.std.proofs.Common.{◌≡◌, ℕ, ◌+◌, ◌<◌, ◌++◌, List, [], ◌∷◌, Bool, true, false, zero, suc, cond, if◌then◌else◌, ltb, Option, Some, None, Result, Ok, Err, length, refl, sym, ap, subst, ◌∙◌, arith}
+use Rattle.std.proofs.Common.{◌≡◌, ℕ, ◌+◌, ◌<◌, ◌≤◌, ◌++◌, List, [], ◌∷◌, Bool, true, false, zero, suc, cond, if◌then◌else◌, ltb, Option, Some, None, Result, Ok, Err, length, refl, sym, ap, subst, ◌∙◌, arith}
 use Rattle.std.specs.Prelude.{All}
 use Rattle.std.proofs.lemmas.Bool.{ltb-false}
 use Rattle.std.proofs.lemmas.List.{length-append}
@@ -14,36 +14,38 @@ use Rattle.pawn_pre.specs.declared.directive.Word.{Word}
 use Rattle.pawn_pre.specs.declared.directive.Word.TheVariants as word
 use Rattle.pawn_pre.specs.declared.directive.Setting.{Setting}
 use Rattle.pawn_pre.specs.declared.directive.Setting.TheVariants as setting
-use Rattle.pawn_pre.specs.Substitution.{expanded}
+use Rattle.pawn_macro.specs.Substitution.{expanded}
 use Rattle.pawn_pre.specs.Directives.{pragma, quoted_byte}
-use Rattle.pawn_pre.specs.ByteClass.{past_blanks}
+use Rattle.pawn_lines.specs.ByteClass.{past_blanks}
 use Rattle.pawn_cells.specs.Cells.{is_zero}
-use Rattle.pawn_pre.specs.Defining.{definition, undefined}
-use Rattle.pawn_pre.specs.Values.{Value, proceed, or_fault}
-use Rattle.pawn_pre.specs.Pages.{OpenFile, first_of}
+use Rattle.pawn_macro.specs.Defining.{definition, undefined}
+use Rattle.pawn_macro.specs.Values.{Value, proceed, or_fault}
+use Rattle.pawn_pre.specs.OpenFiles.{OpenFile}
+use Rattle.pawn_pre.specs.Lists.{first_of}
 use Rattle.pawn_pre.specs.Acts.{act, keep, with_line, line_of, is_in_chosen, begin_if, turn_elseif, elseif_by, elseif_part, turn_else, else_by, end_if, end_by, assert_true, define, undefine, without, set_pragma, pragma_by, in_chosen, if_chosen, push, replaced, condition_of, number_of, with_settings, is_set, with_definition, conditional, part_of}
-use Rattle.pawn_pre.specs.Walks.{Page, lines_of, entered, first_page}
+use Rattle.pawn_pre.specs.Walks.{Stack, lines_of, entered, first_stack}
 use Rattle.std.specs.Prelude.{IfOk}
 use Rattle.pawn_cells.specs.declared.place.Place.{Place}
-use Rattle.pawn_pre.specs.declared.refusal.Refusal.{Refusal}
-use Rattle.pawn_pre.specs.declared.refusal.Refusal.TheVariants as refusal
+use Rattle.pawn_macro.specs.declared.refusal.Refusal.{Refusal}
+use Rattle.pawn_macro.specs.declared.refusal.Refusal.TheVariants as refusal
 use Rattle.pawn_pre.specs.declared.fault.PreFault.{PreFault}
 use Rattle.pawn_pre.specs.Acted.{Acted}
-use Rattle.pawn_pre.specs.Answers.{IsTold}
-use Rattle.pawn_pre.specs.Bounds.{Leaves, IsBounded, IsSound, IsSoundPage, bytes_of, ArePlaced}
+use Rattle.pawn_pre.specs.WalkAnswers.{IsTold}
+use Rattle.pawn_pre.specs.Bounds.{Leaves, IsBounded, IsSound, IsSoundStack, bytes_of, ArePlaced}
 
--- the lines, their bytes and the file stay
+-- the lines, their bytes and the file stay, and no line is more left
 record Same (w new : Work) : Type 0 where
   lines : new.lines ≡ w.lines
   size : new.size ≡ w.size
   file : new.top.file ≡ w.top.file
+  rows : length new.top.rows ≤ length w.top.rows
 
 Stays : Work → Result Work ℕ → Type 0
 Stays w (Ok new) = Same w new
 Stays w (Err kind) = Unit {0}
 
 same : (w : Work) → Same w w
-same w = record { lines = refl; size = refl; file = refl }
+same w = record { lines = refl; size = refl; file = refl; rows = omega arith }
 
 stays_then : {A : Type 0} (w : Work) (r : Result A ℕ) (f : A → Result Work ℕ) → ((a : A) → Stays w (f a)) → Stays w (proceed r f)
 unfolding Stays
@@ -60,35 +62,35 @@ stays_elseif value w rest None = tt
 stays_elseif value w rest (Some c) = stays_if w c.past _ _ tt (by_part c.part)
   where
     by_part : (part : Part) → Stays w (elseif_part value w rest part)
-    by_part Chosen = record { lines = refl; size = refl; file = refl }
-    by_part Waiting = stays_then w (condition_of value w rest) (λ v. Ok (replaced w (conditional (part_of v) false))) (λ v. record { lines = refl; size = refl; file = refl })
-    by_part Done = record { lines = refl; size = refl; file = refl }
+    by_part Chosen = record { lines = refl; size = refl; file = refl; rows = omega arith }
+    by_part Waiting = stays_then w (condition_of value w rest) (λ v. Ok (replaced w (conditional (part_of v) false))) (λ v. record { lines = refl; size = refl; file = refl; rows = omega arith })
+    by_part Done = record { lines = refl; size = refl; file = refl; rows = omega arith }
 
 stays_else : (w : Work) (o : Option Conditional) → Stays w (else_by w o)
 unfolding Stays
 stays_else w None = tt
-stays_else w (Some c) = stays_if w c.past _ _ tt (record { lines = refl; size = refl; file = refl })
+stays_else w (Some c) = stays_if w c.past _ _ tt (record { lines = refl; size = refl; file = refl; rows = omega arith })
 
 stays_end : (w : Work) (o : Option Conditional) → Stays w (end_by w o)
 unfolding Stays
 stays_end w None = tt
-stays_end w (Some c) = record { lines = refl; size = refl; file = refl }
+stays_end w (Some c) = record { lines = refl; size = refl; file = refl; rows = omega arith }
 
 stays_without : (w : Work) (o : Option (List ℕ)) → Same w (without w o)
 stays_without w None = same w
-stays_without w (Some key) = record { lines = refl; size = refl; file = refl }
+stays_without w (Some key) = record { lines = refl; size = refl; file = refl; rows = omega arith }
 
 stays_pragma : (value : Value) (w : Work) (rest : List ℕ) (s : Setting) → Stays w (pragma_by value w rest s)
 unfolding Stays
-stays_pragma value w rest setting.Semicolon = stays_then w (number_of value w rest) (λ v. Ok (with_settings w (record w.settings { strict = is_set v }))) (λ v. record { lines = refl; size = refl; file = refl })
-stays_pragma value w rest setting.Pack = stays_then w (number_of value w rest) (λ v. Ok (with_settings w (record w.settings { packed = is_set v }))) (λ v. record { lines = refl; size = refl; file = refl })
-stays_pragma value w rest setting.Control = stays_then w (or_fault 11 (quoted_byte (past_blanks rest))) (λ c. Ok (with_settings w (record w.settings { control = c }))) (λ v. record { lines = refl; size = refl; file = refl })
-stays_pragma value w rest setting.Dynamic = stays_then w (number_of value w rest) (λ v. Ok (with_settings w (record w.settings { dynamic = v }))) (λ v. record { lines = refl; size = refl; file = refl })
+stays_pragma value w rest setting.Semicolon = stays_then w (number_of value w rest) (λ v. Ok (with_settings w (record w.settings { strict = is_set v }))) (λ v. record { lines = refl; size = refl; file = refl; rows = omega arith })
+stays_pragma value w rest setting.Pack = stays_then w (number_of value w rest) (λ v. Ok (with_settings w (record w.settings { packed = is_set v }))) (λ v. record { lines = refl; size = refl; file = refl; rows = omega arith })
+stays_pragma value w rest setting.Control = stays_then w (or_fault 11 (quoted_byte (past_blanks rest))) (λ c. Ok (with_settings w (record w.settings { control = c }))) (λ v. record { lines = refl; size = refl; file = refl; rows = omega arith })
+stays_pragma value w rest setting.Dynamic = stays_then w (number_of value w rest) (λ v. Ok (with_settings w (record w.settings { dynamic = v }))) (λ v. record { lines = refl; size = refl; file = refl; rows = omega arith })
 stays_pragma value w rest setting.Other = same w
 
 stays_chosen : (value : Value) (w : Work) (d : Word) (rest : List ℕ) → Stays w (in_chosen value w d rest)
 unfolding Stays define undefine assert_true set_pragma
-stays_chosen value w word.Define rest = stays_then w (or_fault 6 (definition w.settings.control rest)) (λ d. Ok (with_definition w d)) (λ d. record { lines = refl; size = refl; file = refl })
+stays_chosen value w word.Define rest = stays_then w (or_fault 6 (definition w.settings.control rest)) (λ d. Ok (with_definition w d)) (λ d. record { lines = refl; size = refl; file = refl; rows = omega arith })
 stays_chosen value w word.Undef rest = stays_without w (undefined rest)
 stays_chosen value w word.If rest = same w
 stays_chosen value w word.ElseIf rest = same w
@@ -98,7 +100,7 @@ stays_chosen value w word.Include rest = same w
 stays_chosen value w word.TryInclude rest = same w
 stays_chosen value w word.Error rest = tt
 stays_chosen value w word.Assert rest = stays_then w (condition_of value w rest) (λ v. if is_zero v then Err 5 else Ok w) (λ v. stays_if w (is_zero v) (Err 5) (Ok w) tt (same w))
-stays_chosen value w word.Endinput rest = record { lines = refl; size = refl; file = refl }
+stays_chosen value w word.Endinput rest = record { lines = refl; size = refl; file = refl; rows = omega arith }
 stays_chosen value w word.Pragma rest = stays_pragma value w (pragma rest).rest (pragma rest).setting
 stays_chosen value w word.Unknown rest = tt
 
@@ -108,7 +110,7 @@ stays_if_chosen value w d rest = stays_if w (is_in_chosen w) _ _ (stays_chosen v
 
 stays : (value : Value) (w : Work) (d : Word) (rest : List ℕ) → Stays w (act value w d rest)
 unfolding act begin_if turn_elseif turn_else end_if Stays
-stays value w word.If rest = stays_if w (is_in_chosen w) (proceed (condition_of value w rest) (λ v. Ok (push w (part_of v)))) (Ok (push w Done)) (stays_then w (condition_of value w rest) (λ v. Ok (push w (part_of v))) (λ v. record { lines = refl; size = refl; file = refl })) (record { lines = refl; size = refl; file = refl })
+stays value w word.If rest = stays_if w (is_in_chosen w) (proceed (condition_of value w rest) (λ v. Ok (push w (part_of v)))) (Ok (push w Done)) (stays_then w (condition_of value w rest) (λ v. Ok (push w (part_of v))) (λ v. record { lines = refl; size = refl; file = refl; rows = omega arith })) (record { lines = refl; size = refl; file = refl; rows = omega arith })
 stays value w word.ElseIf rest = stays_elseif value w rest (first_of w.top.conditionals)
 stays value w word.Else rest = stays_else w (first_of w.top.conditionals)
 stays value w word.Endif rest = stays_end w (first_of w.top.conditionals)
@@ -135,6 +137,11 @@ pub acted_sound : (files : ℕ) (value : Value) (w new : Work) (d : Word) (rest 
 unfolding Stays
 acted_sound files value w new d rest e h = sound_same files w new (subst (λ r. Stays w r) e (stays value w d rest)) h
 
+-- and leaves no more lines
+pub acted_rows : (value : Value) (w new : Work) (d : Word) (rest : List ℕ) → act value w d rest ≡ Ok new → length new.top.rows ≤ length w.top.rows
+unfolding Stays
+acted_rows value w new d rest e = (subst (λ r. Stays w r) e (stays value w d rest)).rows
+
 All-none : {A : Type 0} (P : A → Type 0) → All P []
 All-none P k d h = absurd (omega arith)
 
@@ -154,7 +161,7 @@ All-rest P xs x h k d l = h (suc k) d (omega arith)
 All-first : {A : Type 0} (P : A → Type 0) (xs : List A) (x : A) → All P (x ∷ xs) → P x
 All-first P xs x h = h 0 x (omega arith)
 
-bytes_of-push : (lines : List Line) (line : Line) → bytes_of (lines ++ line ∷ []) ≡ bytes_of lines + length line.bytes
+pub bytes_of-push : (lines : List Line) (line : Line) → bytes_of (lines ++ line ∷ []) ≡ bytes_of lines + length line.bytes
 bytes_of-push lines line = sum_by-append (λ (l : Line). length l.bytes) lines (line ∷ []) ∙ omega arith
 
 -- a line more keeps what is sound
@@ -192,10 +199,10 @@ kept_sound files w new number bytes e h =
 pub top_sound : (files : ℕ) (w : Work) (top : OpenFile) → IsSound files w → top.file < files → IsSound files (record w { top = top })
 top_sound files w top h k = record { counted = h.counted; small = h.small; placed = h.placed; named = k }
 
-pub bounded : (p : Page) → IsSoundPage p → IsBounded (lines_of p)
+pub bounded : (p : Stack) → IsSoundStack p → IsBounded (lines_of p)
 bounded p h = record { small = let e = h.work.counted in omega (arith, h.work.small); placed = h.work.placed }
 
-pub entered_sound : (p : Page) (name bytes : List ℕ) → IsSoundPage p → IsSoundPage (entered p name bytes)
+pub entered_sound : (p : Stack) (name bytes : List ℕ) → IsSoundStack p → IsSoundStack (entered p name bytes)
 entered_sound p name bytes h =
     let longer : (n : ℕ) → n < length p.names → n < length (p.names ++ name ∷ []) = λ n k. omega (arith, k, length-append p.names (name ∷ [])) in
     record {
@@ -211,14 +218,14 @@ entered_sound p name bytes h =
           (λ file k. longer file.file k) p.below h.below);
     }
 
-pub first_sound : (name : List ℕ) (bytes : List ℕ) → IsSoundPage (first_page name bytes)
+pub first_sound : (name : List ℕ) (bytes : List ℕ) → IsSoundStack (first_stack name bytes)
 first_sound name bytes = record {
   work = record { counted = refl; small = omega arith; placed = All-none (λ (line : Line). line.place.file < 1); named = omega arith };
   below = All-none (λ (file : OpenFile). file.file < 1);
 }
 
-pub next_sound : (p : Page) (file : OpenFile) (rest : List OpenFile) → p.below ≡ file ∷ rest → IsSoundPage p →
-    IsSoundPage (record { names = p.names; below = rest; work = record p.work { top = file } })
+pub next_sound : (p : Stack) (file : OpenFile) (rest : List OpenFile) → p.below ≡ file ∷ rest → IsSoundStack p →
+    IsSoundStack (record { names = p.names; below = rest; work = record p.work { top = file } })
 next_sound p file rest e h =
     let P : OpenFile → Type 0 = λ f. f.file < length p.names in
     let all : All P (file ∷ rest) = subst (λ fs. All P fs) e h.below in
@@ -227,26 +234,26 @@ next_sound p file rest e h =
       below = All-rest P rest file all;
     }
 
-pub work_sound : (p : Page) (w : Work) → IsSoundPage p → IsSound (length p.names) w → IsSoundPage (record p { work = w })
+pub work_sound : (p : Stack) (w : Work) → IsSoundStack p → IsSound (length p.names) w → IsSoundStack (record p { work = w })
 work_sound p w h k = record { work = k; below = h.below }
 
 -- what a line's work leaves
-pub told_leaves : (p new : Page) (place : Place) (done : Result (Unit {0}) Refusal) (result : Result Bool PreFault) →
-    IsTold p place done result → IfOk done (λ d. IsSoundPage new) → Leaves result new
+pub told_leaves : (p new : Stack) (place : Place) (done : Result (Unit {0}) Refusal) (result : Result Bool PreFault) →
+    IsTold p place done result → IfOk done (λ d. IsSoundStack new) → Leaves result new
 told_leaves p new place (Ok d) result e h = subst (λ r. Leaves r new) (sym e) h
 told_leaves p new place (Err (refusal.Fault kind)) (Ok b) e h = absurd e
 told_leaves p new place (Err (refusal.Fault kind)) (Err r) e h = tt
 told_leaves p new place (Err refusal.Memory) result e h = subst (λ r. Leaves r new) (sym e) tt
 
-pub row_sound : (p : Page) (top : OpenFile) → top.file ≡ p.work.top.file → IsSoundPage p → IsSoundPage (record p { work = record p.work { top = top } })
+pub row_sound : (p : Stack) (top : OpenFile) → top.file ≡ p.work.top.file → IsSoundStack p → IsSoundStack (record p { work = record p.work { top = top } })
 row_sound p top e h = record { work = top_sound (length p.names) p.work top h.work (omega (arith, h.work.named)); below = h.below }
 
-pub kept_page : (p : Page) (new : Work) (number : ℕ) (bytes : List ℕ) (done : Result (Unit {0}) Refusal) → IsSoundPage p →
-    Acted (keep p.work number bytes) done new → IfOk done (λ d. IsSoundPage (record p { work = new }))
+pub kept_page : (p : Stack) (new : Work) (number : ℕ) (bytes : List ℕ) (done : Result (Unit {0}) Refusal) → IsSoundStack p →
+    Acted (keep p.work number bytes) done new → IfOk done (λ d. IsSoundStack (record p { work = new }))
 kept_page p new number bytes (Ok d) h e = work_sound p new h (kept_sound (length p.names) p.work new number bytes e h.work)
 kept_page p new number bytes (Err r) h e = tt
 
-pub acted_page : (p : Page) (new : Work) (value : Value) (w : Word) (rest : List ℕ) (done : Result (Unit {0}) Refusal) → IsSoundPage p →
-    Acted (act value p.work w rest) done new → IfOk done (λ d. IsSoundPage (record p { work = new }))
+pub acted_page : (p : Stack) (new : Work) (value : Value) (w : Word) (rest : List ℕ) (done : Result (Unit {0}) Refusal) → IsSoundStack p →
+    Acted (act value p.work w rest) done new → IfOk done (λ d. IsSoundStack (record p { work = new }))
 acted_page p new value w rest (Ok d) h e = work_sound p new h (acted_sound (length p.names) value p.work new w rest e h.work)
 acted_page p new value w rest (Err r) h e = tt

@@ -12,13 +12,14 @@ use Rattle.pawn_pre.specs.declared.directive.Word.{Word}
 use Rattle.pawn_pre.specs.declared.directive.Word.TheVariants as word
 use Rattle.pawn_pre.specs.declared.directive.Setting.{Setting}
 use Rattle.pawn_pre.specs.declared.directive.Setting.TheVariants as setting
-use Rattle.pawn_pre.specs.declared.define.Definition.{Definition}
-use Rattle.pawn_pre.specs.ByteClass.{past_blanks}
-use Rattle.pawn_pre.specs.Substitution.{expanded}
+use Rattle.pawn_macro.specs.declared.define.Definition.{Definition}
+use Rattle.pawn_lines.specs.ByteClass.{past_blanks}
+use Rattle.pawn_macro.specs.Substitution.{expanded}
 use Rattle.pawn_pre.specs.Directives.{pragma, quoted_byte}
-use Rattle.pawn_pre.specs.Defining.{definition, undefined}
-use Rattle.pawn_pre.specs.Pages.{OpenFile, first_of, rest_of, is_chosen}
-use Rattle.pawn_pre.specs.Values.{Value, proceed, or_fault, condition, number}
+use Rattle.pawn_macro.specs.Defining.{definition, undefined}
+use Rattle.pawn_pre.specs.OpenFiles.{OpenFile, is_chosen}
+use Rattle.pawn_pre.specs.Lists.{first_of, rest_of}
+use Rattle.pawn_macro.specs.Values.{Value, proceed, or_fault, condition, number}
 
 -- nothing is kept, defined or set; the control character is `\`, and the room is 4,096 cells
 abbrev pub nothing_in : OpenFile → Work

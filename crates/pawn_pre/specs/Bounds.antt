@@ -4,8 +4,8 @@ use Rattle.pawn_pre.specs.declared.line.Line.{Line}
 use Rattle.pawn_pre.specs.declared.line.Lines.{Lines}
 use Rattle.pawn_pre.specs.declared.work.Work.{Work}
 use Rattle.pawn_pre.specs.declared.fault.PreFault.{PreFault}
-use Rattle.pawn_pre.specs.Pages.{OpenFile}
-use Rattle.pawn_pre.specs.Walks.{Page, lines_of}
+use Rattle.pawn_pre.specs.OpenFiles.{OpenFile}
+use Rattle.pawn_pre.specs.Walks.{Stack, lines_of}
 
 -- the bytes of all lines together
 abbrev pub bytes_of : List Line → ℕ
@@ -28,12 +28,12 @@ pub record IsSound (files : ℕ) (w : Work) : Type 0 where
   pub named : w.top.file < files
 
 -- and of a page
-pub record IsSoundPage (p : Page) : Type 0 where
+pub record IsSoundStack (p : Stack) : Type 0 where
   pub work : IsSound (length p.names) p.work
   pub below : All (λ (file : OpenFile). file.file < length p.names) p.below
 
 -- what a step leaves
-abbrev pub Leaves : Result Bool PreFault → Page → Type 0
-Leaves (Ok true) new = IsSoundPage new
+abbrev pub Leaves : Result Bool PreFault → Stack → Type 0
+Leaves (Ok true) new = IsSoundStack new
 Leaves (Ok false) new = IsBounded (lines_of new)
 Leaves (Err refused) new = Unit {0}

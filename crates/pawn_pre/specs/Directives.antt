@@ -1,11 +1,11 @@
 -- Directives: a line whose first byte behind blanks is `#` (Language Guide, "Directives").
-use Rattle.std.specs.Prelude.{ℕ, codes, Option, Some, None, List, [], ◌∷◌, take, drop, if◌then◌else◌, ◌==◌}
+use Rattle.std.specs.Prelude.{ℕ, codes, Option, Some, None, List, [], ◌∷◌, if◌then◌else◌, ◌==◌}
 use Rattle.std.specs.Str.{bytes_eq}
 use Rattle.pawn_pre.specs.declared.directive.Word.{Word}
 use Rattle.pawn_pre.specs.declared.directive.Word.TheVariants as word
 use Rattle.pawn_pre.specs.declared.directive.Setting.{Setting}
 use Rattle.pawn_pre.specs.declared.directive.Setting.TheVariants as setting
-use Rattle.pawn_pre.specs.ByteClass.{name_len, past_blanks}
+use Rattle.pawn_lines.specs.ByteClass.{past_blanks, run, behind_run}
 
 -- a word in front, and the bytes behind it
 pub record Directive : Type 0 where
@@ -26,13 +26,6 @@ word_named name =
     else (if bytes_eq name (codes "assert") then word.Assert
     else (if bytes_eq name (codes "endinput") then word.Endinput
     else (if bytes_eq name (codes "pragma") then word.Pragma else word.Unknown)))))))))))
-
--- the run of name bytes in front, and what stands behind it
-abbrev pub run : List ℕ → List ℕ
-run bytes = take (name_len bytes) bytes
-
-abbrev pub behind_run : List ℕ → List ℕ
-behind_run bytes = drop (name_len bytes) bytes
 
 abbrev pub worded : List ℕ → Directive
 worded bytes = record { word = word_named (run bytes); rest = behind_run bytes }

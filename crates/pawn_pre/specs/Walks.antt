@@ -1,72 +1,61 @@
--- The lines of a source: one step settles the first line that is left of the innermost open file;
--- an include opens another, and a file without lines is closed (Language Guide, "Preprocessor").
-use Rattle.std.specs.Prelude.{◌≡◌, ◌≢◌, ℕ, zero, suc, nat_lt, is_some, slice_index_or, Option, Some, None, Result, Ok, Err, List, [], ◌∷◌, ◌++◌, length, Bool, true, false, if◌then◌else◌}
+-- The lines of a source over a stack of open files, for the proof alone: one step settles the first
+-- line that is left of the innermost file; an include opens another, and a file without lines is
+-- closed.
+use Rattle.std.specs.Prelude.{◌≡◌, ℕ, zero, suc, nat_lt, is_some, Option, Some, None, Result, Ok, Err, List, [], ◌∷◌, ◌++◌, length, Bool, true, false, if◌then◌else◌}
 use Rattle.std.specs.List.{list_any}
-use Rattle.std.specs.Bool.{MatchBool}
 use Rattle.std.specs.Str.{bytes_eq}
 use Rattle.std.specs.FinMap.{get}
-use Rattle.pawn_cells.specs.declared.place.Place.{Place}
 use Rattle.pawn_outside.specs.Held.{Held}
 use Rattle.pawn_pre.specs.declared.line.Lines.{Lines}
-use Rattle.pawn_pre.specs.declared.row.Row.{Row}
+use Rattle.pawn_pre.specs.Outcome.{Outcome, Cut, Whole, Fault, Long, name_of, is_long_file}
+use Rattle.pawn_lines.specs.declared.row.Row.{Row}
 use Rattle.pawn_pre.specs.declared.work.Work.{Work}
 use Rattle.pawn_pre.specs.declared.include.Named.{Named}
 use Rattle.pawn_pre.specs.declared.directive.Word.{Word}
 use Rattle.pawn_pre.specs.declared.directive.Word.TheVariants as word
-use Rattle.pawn_pre.specs.File.{file_of}
+use Rattle.pawn_lines.specs.File.{file_of}
 use Rattle.pawn_pre.specs.Directives.{Directive, directive}
 use Rattle.pawn_pre.specs.Includes.{include_name}
-use Rattle.pawn_pre.specs.Values.{Value}
-use Rattle.pawn_pre.specs.Pages.{OpenFile, first_of, rest_of, opened}
+use Rattle.pawn_macro.specs.Values.{Value}
+use Rattle.pawn_pre.specs.OpenFiles.{OpenFile, opened}
+use Rattle.pawn_pre.specs.Lists.{first_of, rest_of}
 use Rattle.pawn_pre.specs.Acts.{act, keep, is_in_chosen, nothing_in}
 
 -- the names of the files that were begun, in order; the files that wait for the innermost; and
 -- what is settled, with the innermost
-pub record Page : Type 0 where
+pub record Stack : Type 0 where
   pub names : List (List ℕ)
   pub below : List OpenFile
   pub work : Work
 
--- the lines that are kept, a fault with the name of its file, a file that is too long, or a
--- source that isn't held; `Cut` where the steps were too few
-pub data Outcome : Type 0 where
-  Cut : Outcome
-  Whole : Lines → Outcome
-  Fault : ℕ → Place → List ℕ → Outcome
-  Long : List ℕ → Outcome
-  NotHeld : Outcome
-
 pub data Turned : Type 0 where
-  On : Page → Turned
+  On : Stack → Turned
   Stopped : Outcome → Turned
 
-abbrev pub name_of : List (List ℕ) → ℕ → List ℕ
-name_of names file = slice_index_or names file []
-
 -- a fault at a line of the innermost file
-abbrev pub fault : Page → ℕ → ℕ → Outcome
+abbrev pub fault : Stack → ℕ → ℕ → Outcome
 fault p kind line =
     Fault kind (record { file = p.work.top.file; line = line }) (name_of p.names p.work.top.file)
 
-abbrev pub lines_of : Page → Lines
+abbrev pub lines_of : Stack → Lines
 lines_of p = record {
   lines = p.work.lines;
   files = p.names;
   dynamic = p.work.settings.dynamic;
 }
 
-abbrev pub with_work : Page → Work → Page
+abbrev pub with_work : Stack → Work → Stack
 with_work p w = record p { work = w }
 
 -- ---- a file's end
 
-abbrev pub closed_by : Page → List OpenFile → Turned
+abbrev pub closed_by : Stack → List OpenFile → Turned
 closed_by p [] = Stopped (Whole (lines_of p))
 closed_by p (file ∷ below) =
     On (record { names = p.names; below = below; work = record p.work { top = file } })
 
 -- an open comment goes before an open conditional
-unfoldable pub at_end : Page → Turned
+unfoldable pub at_end : Stack → Turned
 at_end p =
     if p.work.top.unclosed then Stopped (fault p 12 p.work.top.last)
     else (if is_some (first_of p.work.top.conditionals) then Stopped (fault p 2 p.work.top.last)
@@ -74,54 +63,50 @@ at_end p =
 
 -- ---- includes
 
-abbrev pub entered : Page → List ℕ → List ℕ → Page
+abbrev pub entered : Stack → List ℕ → List ℕ → Stack
 entered p name bytes = record {
   names = p.names ++ name ∷ [];
   below = p.work.top ∷ p.below;
   work = record p.work { top = opened (length p.names) (file_of bytes) };
 }
 
-abbrev pub missing : Page → ℕ → Bool → Turned
+abbrev pub missing : Stack → ℕ → Bool → Turned
 missing p line optional = if optional then On p else Stopped (fault p 3 line)
 
--- more than 16,777,216 bytes
-abbrev pub is_long_file : List ℕ → Bool
-is_long_file bytes = nat_lt 16777216 (length bytes)
-
-abbrev pub found : Page → ℕ → Bool → List ℕ → Option (List ℕ) → Turned
+abbrev pub found : Stack → ℕ → Bool → List ℕ → Option (List ℕ) → Turned
 found p line optional name None = missing p line optional
 found p line optional name (Some bytes) =
     if is_long_file bytes then Stopped (Long name) else On (entered p name bytes)
 
-abbrev pub asked : Held → Page → ℕ → Bool → Named → Turned
+abbrev pub asked : Held → Stack → ℕ → Bool → Named → Turned
 asked map p line optional n =
     if n.valid then found p line optional n.name (get map n.name) else missing p line optional
 
 -- a file of that name was begun
-abbrev pub is_begun : Page → List ℕ → Bool
+abbrev pub is_begun : Stack → List ℕ → Bool
 is_begun p name = list_any (λ known. bytes_eq name known) p.names
 
 -- an include at depth 17
-abbrev pub is_deep : Page → Bool
+abbrev pub is_deep : Stack → Bool
 is_deep p = nat_lt 15 (length p.below)
 
 -- passed over, then its depth, then missing
-abbrev pub include_named : Held → Page → ℕ → Bool → Named → Turned
+abbrev pub include_named : Held → Stack → ℕ → Bool → Named → Turned
 include_named map p line optional n =
     if is_begun p n.name then On p
     else (if is_deep p then Stopped (fault p 8 line) else asked map p line optional n)
 
-unfoldable pub include : Held → Page → ℕ → Bool → List ℕ → Turned
+unfoldable pub include : Held → Stack → ℕ → Bool → List ℕ → Turned
 include map p line optional rest =
     if is_in_chosen p.work then include_named map p line optional (include_name rest) else On p
 
 -- ---- lines
 
-abbrev pub worked : Page → ℕ → Result Work ℕ → Turned
+abbrev pub worked : Stack → ℕ → Result Work ℕ → Turned
 worked p line (Ok w) = On (with_work p w)
 worked p line (Err kind) = Stopped (fault p kind line)
 
-abbrev pub direct : Value → Held → Page → ℕ → Word → List ℕ → Turned
+abbrev pub direct : Value → Held → Stack → ℕ → Word → List ℕ → Turned
 direct value map p line word.Define rest = worked p line (act value p.work word.Define rest)
 direct value map p line word.Undef rest = worked p line (act value p.work word.Undef rest)
 direct value map p line word.If rest = worked p line (act value p.work word.If rest)
@@ -136,54 +121,40 @@ direct value map p line word.Endinput rest = worked p line (act value p.work wor
 direct value map p line word.Pragma rest = worked p line (act value p.work word.Pragma rest)
 direct value map p line word.Unknown rest = worked p line (act value p.work word.Unknown rest)
 
-abbrev pub line_by : Value → Held → Page → Row → Option Directive → Turned
+abbrev pub line_by : Value → Held → Stack → Row → Option Directive → Turned
 line_by value map p row None = worked p row.number (keep p.work row.number row.bytes)
 line_by value map p row (Some d) = direct value map p row.number d.word d.rest
 
-abbrev pub without_row : Page → Page
+abbrev pub without_row : Stack → Stack
 without_row p =
     with_work p (record p.work { top = record p.work.top { rows = rest_of p.work.top.rows } })
 
-abbrev pub row_by : Value → Held → Page → Option Row → Turned
+abbrev pub row_by : Value → Held → Stack → Option Row → Turned
 row_by value map p None = at_end p
 row_by value map p (Some row) = line_by value map (without_row p) row (directive row.bytes)
 
-unfoldable pub step : Value → Held → Page → Turned
+unfoldable pub step : Value → Held → Stack → Turned
 step value map p = row_by value map p (first_of p.work.top.rows)
 
 -- ---- all steps
 
-abbrev pub run_by : Turned → (Page → Outcome) → Outcome
+abbrev pub run_by : Turned → (Stack → Outcome) → Outcome
 run_by (On p) go_on = go_on p
 run_by (Stopped o) go_on = o
 
 -- what so many steps come to
-unfoldable pub run : Value → Held → ℕ → Page → Outcome
+unfoldable pub run : Value → Held → ℕ → Stack → Outcome
 run value map zero p = Cut
 run value map (suc n) p = run_by (step value map p) (λ q. run value map n q)
 
-pub record Ends (value : Value) (map : Held) (p : Page) (o : Outcome) : Type 0 where
+pub record Ends (value : Value) (map : Held) (p : Stack) (o : Outcome) : Type 0 where
   pub steps : ℕ
   pub ends : run value map steps p ≡ o
 
 -- the source, before its first line
-abbrev pub first_page : List ℕ → List ℕ → Page
-first_page name bytes = record {
+abbrev pub first_stack : List ℕ → List ℕ → Stack
+first_stack name bytes = record {
   names = name ∷ [];
   below = [];
   work = nothing_in (opened 0 (file_of bytes));
 }
-
-abbrev pub ComesFrom : Value → Held → List ℕ → Option (List ℕ) → Outcome → Type 0
-ComesFrom value map name None o = o ≡ NotHeld
-ComesFrom value map name (Some bytes) o =
-    MatchBool (is_long_file bytes) (o ≡ Long name) (Ends value map (first_page name bytes) o)
-
--- what a source comes to
-abbrev pub Comes : Value → Held → List ℕ → Outcome → Type 0
-Comes value map name o = ComesFrom value map name (get map name) o
-
--- all but too few steps come to the same
-abbrev pub HasOneOutcome : Value → Held → List ℕ → Type 0
-HasOneOutcome value map name = (a b : Outcome) → a ≢ Cut → b ≢ Cut →
-    Comes value map name a → Comes value map name b → a ≡ b

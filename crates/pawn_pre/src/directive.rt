@@ -2,7 +2,7 @@ ghost use Rattle.std.specs.Prelude.{◌≡◌};
 ghost use Rattle.pawn_pre.specs.Directives as spec;
 ghost use Rattle.pawn_pre.specs.Parsed.{IsDirective, IsPragma};
 
-use super::bytes::{name_len, past_blanks};
+use pawn_lines::{name_len, past_blanks};
 
 /// The word of a directive.
 #[derive(Clone, Copy, Debug, PartialEq, Eq)]

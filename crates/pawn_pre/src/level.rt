@@ -1,11 +1,11 @@
 ghost use Rattle.std.specs.Prelude.{◌≡◌, [], ◌∷◌, OnOk};
-ghost use Rattle.pawn_pre.specs.File.{File};
-ghost use Rattle.pawn_pre.specs.Pages as pages;
+ghost use Rattle.pawn_lines.specs.File.{File};
+ghost use Rattle.pawn_pre.specs.Lists as lists;
+ghost use Rattle.pawn_pre.specs.OpenFiles as files;
 
-use super::file::OpenFile;
-use super::row::Row;
 use super::state::{Conditional, Part};
 use pawn_base::Memory;
+use pawn_lines::{OpenFile, Row};
 use std::alloc::Global;
 use std::collections::VecDeque;
 use std::marker::Model;
@@ -21,9 +21,9 @@ pub struct Level {
 }
 
 impl Model for Level {
-    ghost use Rattle.pawn_pre.specs.Pages.{OpenFile as Page};
+    ghost use Rattle.pawn_pre.specs.OpenFiles.{OpenFile};
 
-    ghost Value = { Page };
+    ghost Value = { OpenFile };
 
     ghost view = { λ level. record {
       file = level.file;
@@ -37,7 +37,7 @@ impl Model for Level {
 impl Level {
     /// A file at its beginning.
     pub fn new(alloc: Global, number: u64, file: OpenFile) -> Level
-        ensures { result ≡ pages.opened number
+        ensures { result ≡ files.opened number
             (record { rows = file.rows.items; last = file.last; unclosed = file.is_open }) }
     {
         Level {
@@ -69,14 +69,14 @@ impl Level {
 
     /// The innermost open conditional.
     pub fn innermost(&self) -> Option<Conditional>
-        ensures { result ≡ pages.first_of self.now.conditionals }
+        ensures { result ≡ lists.first_of self.now.conditionals }
     {
         self.conditionals.front().copied()
     }
 
     /// Whether the next line stands in a chosen part.
     pub fn is_chosen(&self) -> bool
-        ensures { result ≡ pages.is_chosen (pages.first_of self.now.conditionals) }
+        ensures { result ≡ files.is_chosen (lists.first_of self.now.conditionals) }
     {
         match self.innermost() {
             None => true,
@@ -86,8 +86,8 @@ impl Level {
 
     /// Takes off the next line.
     pub fn take_row(&mut self) -> Option<Row>
-        ensures row { result ≡ pages.first_of self.old.rows }
-        ensures rest { self.new ≡ record self.old { rows = pages.rest_of self.old.rows } }
+        ensures row { result ≡ lists.first_of self.old.rows }
+        ensures rest { self.new ≡ record self.old { rows = lists.rest_of self.old.rows } }
     {
         self.rows.pop_front()
     }
@@ -104,7 +104,7 @@ impl Level {
     /// Closes the innermost conditional.
     pub fn pop(&mut self)
         ensures { self.new ≡
-            record self.old { conditionals = pages.rest_of self.old.conditionals } }
+            record self.old { conditionals = lists.rest_of self.old.conditionals } }
     {
         let _closed = self.conditionals.pop_front();
     }

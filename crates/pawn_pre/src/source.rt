@@ -1,12 +1,13 @@
 ghost use Rattle.std.specs.Prelude.{◌≡◌, ◌≤◌, Some, IfOk};
 ghost use Rattle.pawn_outside.specs.Held.{Held};
 ghost use Rattle.pawn_outside.specs.Rose.{Rose};
-ghost use Rattle.pawn_pre.specs.Answers.{Answers, EndsIn};
-ghost use Rattle.pawn_pre.specs.Bounds.{IsBounded, IsSoundPage};
-ghost use Rattle.pawn_pre.specs.Condition.{IsValue};
-ghost use Rattle.pawn_pre.specs.ConditionMachine.{value_of};
-ghost use Rattle.pawn_pre.specs.Values.{Value};
-ghost use Rattle.pawn_pre.specs.Walks.{HasOneOutcome};
+ghost use Rattle.pawn_pre.specs.Answers.{Answers};
+ghost use Rattle.pawn_pre.specs.WalkAnswers.{EndsIn};
+ghost use Rattle.pawn_pre.specs.Bounds.{IsBounded, IsSoundStack};
+ghost use Rattle.pawn_condition.specs.Condition.{IsValue};
+ghost use Rattle.pawn_condition.specs.ConditionMachine.{value_of};
+ghost use Rattle.pawn_macro.specs.Values.{Value};
+ghost use Rattle.pawn_pre.specs.Page.{HasOneOutcome};
 
 use super::fault::PreFault;
 use super::line::Lines;
@@ -20,20 +21,24 @@ fn drive<F: Files>(alloc: Global, walk: Walk, files: &mut F) -> Result<Lines, Pr
     ensures same { F.held files.new ≡ F.held files.old }
     ensures ends { (map : Held) → F.held files.old ≡ Some map →
         EndsIn value_of map walk result }
-    ensures bounds { IsSoundPage walk → IfOk result IsBounded }
+    ensures bounds { IsSoundStack walk → IfOk result IsBounded }
     ensures later { F.faults files.old ≤ F.faults files.new }
     ensures cause { result ≡ Err PreFault.Files →
         Rose (F.faults files.old) (F.faults files.new) }
 {
     let mut walk = walk;
-    for _turn in 0..u64::MAX {
+    loop {
         match walk.turn(alloc, files) {
             Ok(true) => continue,
-            Ok(false) => return Ok(walk.finish()),
+            Ok(false) => {
+                return match walk.finish(alloc) {
+                    Ok(lines) => Ok(lines),
+                    Err(Memory) => Err(PreFault::Memory),
+                };
+            }
             Err(fault) => return Err(fault),
         }
     }
-    Err(PreFault::Memory)
 }
 
 /// The lines of a source, over the files that it includes.

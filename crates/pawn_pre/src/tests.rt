@@ -4,20 +4,27 @@ use std::alloc::Global;
 use std::test::Fail;
 
 /// Sources, and what they come to.
-const SOURCES: [(&str, &str); 58] = [
+const SOURCES: [(&str, &str); 73] = [
     // Lines and comments.
     ("", ""),
     ("\n\n", "0:1 |0:2 |"),
+    ("\r\n\n\r\n", "0:1 |0:2 |0:3 |"),
     ("a\r\nb\r", "0:1 a|0:2 b\r|"),
     ("a\\\nb\\\r\nc\nd", "0:1 abc|0:4 d|"),
     ("x\\\\\n\nb", "0:1 x\\|0:3 b|"),
     ("a // b\nc /* d\ne */ f", "0:1 a  |0:2 c  |0:3  f|"),
     ("\"/*\" '//' /*/ */x", "0:1 \"/*\" '//'  x|"),
     ("/* x", "fault 12 0:1 s.p"),
+    ("#define A /* x\ny */ B\nA", "0:2  B|0:3 |"),
     ("#error\n/* x\n", "fault 4 0:1 s.p"),
     ("#endinput\nx\n/*", "fault 12 0:3 s.p"),
     // Directives and conditionals.
     ("#foo", "fault 1 0:1 s.p"),
+    ("#if(1)\na\n#else b\nc\n#endif d", "0:2 a|"),
+    ("#if1", "fault 1 0:1 s.p"),
+    ("#includeq", "fault 1 0:1 s.p"),
+    ("#", "fault 1 0:1 s.p"),
+    ("#if 0\n#\n#if1\n#endif\nx", "0:5 x|"),
     ("#else", "fault 2 0:1 s.p"),
     ("#if 1\na\\\nb", "fault 2 0:2 s.p"),
     (
@@ -69,6 +76,12 @@ const SOURCES: [(&str, &str); 58] = [
     ),
     ("#define A\n#assert defined(A)1 == 11\nx", "0:3 x|"),
     ("#assert defined((A))\nx", "fault 11 0:1 s.p"),
+    ("#assert defined (A\nx", "fault 11 0:1 s.p"),
+    ("#define A\n#if 'defined A'\n#endif", "fault 11 0:2 s.p"),
+    (
+        "#define while until\n#undef if\n#assert defined while\nwhile if",
+        "0:4 until if|",
+    ),
     ("#define D defined A\n#if D\n#endif", "fault 11 0:2 s.p"),
     ("#define true 0\n#if true\na\n#else\nb\n#endif", "0:5 b|"),
     ("#assert defined cellmax == 0\nx", "0:2 x|"),
@@ -93,15 +106,26 @@ const SOURCES: [(&str, &str); 58] = [
     ("#define A(%1, %2) x\nx", "fault 6 0:1 s.p"),
     ("#define A%1%2 x", "fault 6 0:1 s.p"),
     ("#define H(%1) %1%2", "fault 6 0:1 s.p"),
+    (
+        "#define a2345678901234567890123456789012 x\na2345678901234567890123456789012",
+        "0:2 x|",
+    ),
+    ("#define A b\n#define xA c\n0xA .A ''A", "0:3 0xA .b ''b|"),
+    (
+        "#pragma ctrlchar '^'\n#define A '^'%2'\n#pragma ctrlchar '\\'\nA",
+        "0:4 '^'%2'|",
+    ),
     // Pragmas.
     ("#pragma ctrlchar '''\n#assert ''n' == 10\nx", "0:3 x|"),
     ("#pragma ctrlchar", "fault 11 0:1 s.p"),
+    ("#pragma ctrlchar '\\\\'", "fault 11 0:1 s.p"),
+    ("#pragma dynamics (\nx", "0:2 x|"),
     ("#pragma semicolon defined A", "fault 11 0:1 s.p"),
     ("#pragma tabsize\nx", "0:2 x|"),
 ];
 
 /// Sources with two files beside them, and what they come to.
-const INCLUDES: [(&str, [(&str, &str); 2], &str); 8] = [
+const INCLUDES: [(&str, [(&str, &str); 2], &str); 11] = [
     (
         "#include \"q\" // c\na",
         [("q.inc", "b"), ("", "")],
@@ -141,6 +165,21 @@ const INCLUDES: [(&str, [(&str, &str); 2], &str); 8] = [
         "#include \"\u{e9}\"",
         [("", ""), ("", "")],
         "fault 3 0:1 s.p",
+    ),
+    (
+        "#include\"a\"\n#include<b>",
+        [("a.inc", "1"), ("b.inc", "\n\n")],
+        "1:1 1|2:1 |2:2 |",
+    ),
+    (
+        "#include a b // c\n#include \" q\"",
+        [("a b.inc", "1"), (" q.inc", "2")],
+        "1:1 1|2:1 2|",
+    ),
+    (
+        "#if 0\n#include a\n#elseif 1\n#include a\n#else\n#include b\n#endif",
+        [("a.inc", "#if 0\n#else\n1\n#endif"), ("b.inc", "#error")],
+        "1:3 1|",
     ),
 ];
 
@@ -207,47 +246,122 @@ fn includes(rt: HostRuntime) -> Result<(), Fail> {
     Ok(())
 }
 
-#[test]
-fn limits(rt: HostRuntime) -> Result<(), Fail> {
-    let mut files = MemoryFiles::new(rt.alloc(), &[])?;
+/// Files that include one another, sixteen of them below the source.
+fn chain(alloc: Global) -> Result<MemoryFiles, Fail> {
+    let mut files = MemoryFiles::new(alloc, &[])?;
     files.hold("s.p", b"#include f1")?;
-    for i in 1..18u32 {
-        let name = format!(in rt.alloc(); "f{i}.inc")?;
-        let bytes = format!(in rt.alloc(); "#include f{}", i + 1)?;
+    for i in 1..17u32 {
+        let name = format!(in alloc; "f{i}.inc")?;
+        let bytes = format!(in alloc; "#include f{}", i + 1)?;
         files.hold(name.as_str(), bytes.as_bytes())?;
     }
-    let deep = preprocess(rt.alloc(), "s.p", &mut files);
-    assert_eq!(rt; shown(rt.alloc(), deep)?.as_str(), "fault 8 16:1 f16.inc");
-    files.hold("f16.inc", b"end")?;
-    let good = preprocess(rt.alloc(), "s.p", &mut files);
-    assert_eq!(rt; shown(rt.alloc(), good)?.as_str(), "16:1 end|");
-    assert_eq!(rt;
-        shown(rt.alloc(), preprocess(rt.alloc(), "t.p", &mut files))?.as_str(),
-        "no source"
-    );
+    Ok(files)
+}
+
+#[test]
+fn depth(rt: HostRuntime) -> Result<(), Fail> {
+    let mut files = chain(rt.alloc())?;
+    for (bytes, want) in [
+        ("#include f17", "fault 8 16:1 f16.inc"),
+        ("#tryinclude \"\u{e9}\"", "fault 8 16:1 f16.inc"),
+        ("end", "16:1 end|"),
+    ] {
+        files.hold("f16.inc", bytes.as_bytes())?;
+        let got = preprocess(rt.alloc(), "s.p", &mut files);
+        assert_eq!(rt; shown(rt.alloc(), got)?.as_str(), want, "{bytes}");
+    }
+    Ok(())
+}
+
+#[test]
+fn long_lines(rt: HostRuntime) -> Result<(), Fail> {
     for (count, want) in [(4095usize, false), (4096, true)] {
-        let line = vec![in rt.alloc(); b'x'; count]?;
-        files.hold("s.p", line.as_slice())?;
-        let answer = shown(rt.alloc(), preprocess(rt.alloc(), "s.p", &mut files))?;
-        assert_eq!(rt; answer.as_str() == "fault 9 0:1 s.p", want);
+        let mut line = String::new(rt.alloc());
+        for _ in 0..count {
+            line.push_str("x")?;
+        }
+        let got = run(rt.alloc(), line.as_str(), &[])?;
+        assert_eq!(rt; got.as_str() == "fault 9 0:1 s.p", want);
     }
-    let mut source = String::from_str(rt.alloc(), "#define A b\n")?;
-    for _ in 0..1000u32 {
-        source.push_str("A ")?;
+    Ok(())
+}
+
+#[test]
+fn substitutions(rt: HostRuntime) -> Result<(), Fail> {
+    for (count, want) in [(1000u32, "0:2 b b b"), (1001, "fault 7 0:2 s.p")] {
+        let mut source = String::from_str(rt.alloc(), "#define A b\n")?;
+        for _ in 0..count {
+            source.push_str("A ")?;
+        }
+        let got = run(rt.alloc(), source.as_str(), &[])?;
+        assert!(rt; got.as_str().starts_with(want));
     }
-    files.hold("s.p", source.as_bytes())?;
-    let most = shown(rt.alloc(), preprocess(rt.alloc(), "s.p", &mut files))?;
-    assert!(rt; most.as_str().starts_with("0:2 b b b"));
-    source.push_str("A")?;
-    files.hold("s.p", source.as_bytes())?;
-    let more = shown(rt.alloc(), preprocess(rt.alloc(), "s.p", &mut files))?;
-    assert_eq!(rt; more.as_str(), "fault 7 0:2 s.p");
+    Ok(())
+}
+
+#[test]
+fn missing(rt: HostRuntime) -> Result<(), Fail> {
+    let mut files = MemoryFiles::new(rt.alloc(), &[1])?;
+    let failed = preprocess(rt.alloc(), "s.p", &mut files);
+    assert_eq!(rt; shown(rt.alloc(), failed)?.as_str(), "files");
+    let missing = preprocess(rt.alloc(), "s.p", &mut files);
+    assert_eq!(rt; shown(rt.alloc(), missing)?.as_str(), "no source");
+    Ok(())
+}
+
+#[test]
+fn conditions(rt: HostRuntime) -> Result<(), Fail> {
+    for (blanks, want) in [(4093usize, "0:2 a|"), (4094, "fault 9 0:1 s.p")] {
+        let mut source = String::from_str(rt.alloc(), "#if 1")?;
+        for _ in 0..blanks {
+            source.push_str(" ")?;
+        }
+        source.push_str("\na\n#endif")?;
+        assert_eq!(rt; run(rt.alloc(), source.as_str(), &[])?.as_str(), want);
+    }
+    let mut source = String::from_str(rt.alloc(), "#if ")?;
+    for _ in 0..2000u32 {
+        source.push_str("(")?;
+    }
+    source.push_str("1")?;
+    for _ in 0..2000u32 {
+        source.push_str(")")?;
+    }
+    source.push_str("\na\n#endif")?;
+    assert_eq!(rt; run(rt.alloc(), source.as_str(), &[])?.as_str(), "0:2 a|");
+    Ok(())
+}
+
+#[test]
+fn files_asked_for(rt: HostRuntime) -> Result<(), Fail> {
+    // A comment is open at the file's end, so what its last line includes isn't read.
+    let mut files = MemoryFiles::new(rt.alloc(), &[2])?;
+    files.hold("s.p", b"#include q /*")?;
+    let open = preprocess(rt.alloc(), "s.p", &mut files);
+    assert_eq!(rt; shown(rt.alloc(), open)?.as_str(), "fault 12 0:1 s.p");
+    assert_eq!(rt; files.faults(), 0);
+    let mut files = MemoryFiles::new(rt.alloc(), &[])?;
+    let large = vec![in rt.alloc(); b'x'; 16_777_217usize]?;
+    files.hold("q.inc", large.as_slice())?;
+    for (source, want) in [
+        ("#include q\n#error", "too large"),
+        ("#include q /*", "fault 12 0:1 s.p"),
+        ("#error\n#include q", "fault 4 0:1 s.p"),
+    ] {
+        files.hold("s.p", source.as_bytes())?;
+        let got = preprocess(rt.alloc(), "s.p", &mut files);
+        assert_eq!(rt; shown(rt.alloc(), got)?.as_str(), want, "{source}");
+    }
+    // The source's own name is passed over, though it can't be asked for.
+    files.hold("\u{e9}.p", "#include \"\u{e9}.p\"\nx".as_bytes())?;
+    let own = preprocess(rt.alloc(), "\u{e9}.p", &mut files);
+    assert_eq!(rt; shown(rt.alloc(), own)?.as_str(), "0:2 x|");
     Ok(())
 }
 
 #[test]
 fn settings(rt: HostRuntime) -> Result<(), Fail> {
-    let mut files = MemoryFiles::new(rt.alloc(), &[3])?;
+    let mut files = MemoryFiles::new(rt.alloc(), &[])?;
     files.hold(
         "s.p",
         b"a\n#pragma semicolon 1\n#pragma pack 2\n#pragma ctrlchar '^'\n#include q\n#pragma pack 0\nc",
@@ -259,17 +373,8 @@ fn settings(rt: HostRuntime) -> Result<(), Fail> {
     };
     assert_eq!(rt; lines.dynamic, -1);
     assert_eq!(rt; lines.files.len(), 2);
-    for (line, strict, packed, ctrl) in [
-        (0usize, false, false, b'\\'),
-        (1, true, true, b'^'),
-        (2, true, false, b'^'),
-    ] {
-        let found = lines.lines.as_slice().get(line).ok_or("a line")?;
-        assert_eq!(rt; found.strict, strict);
-        assert_eq!(rt; found.packed, packed);
-        assert_eq!(rt; found.ctrl, ctrl);
-    }
-    let failed = preprocess(rt.alloc(), "s.p", &mut files);
-    assert_eq!(rt; shown(rt.alloc(), failed)?.as_str(), "files");
+    let last = lines.lines.as_slice().last().ok_or("a line")?;
+    assert!(rt; last.strict && !last.packed);
+    assert_eq!(rt; last.ctrl, b'^');
     Ok(())
 }

@@ -1,23 +1,26 @@
-ghost use Rattle.std.specs.Prelude.{◌≡◌, ◌≢◌, ◌≤◌, length, Some, OnOk, IfOk, IsTrue};
+ghost use Rattle.std.specs.Prelude.{◌≡◌, ◌≢◌, ◌≤◌, ◌<◌, ◌+◌, length, false, Some, OnOk, IfOk, IsTrue};
 ghost use Rattle.std.specs.Str.{IsAscii};
 ghost use Rattle.pawn_outside.specs.Held.{Held};
 ghost use Rattle.pawn_outside.specs.Rose.{Rose};
 ghost use Rattle.pawn_outside.specs.Answers.{IsRead};
 ghost use Rattle.pawn_pre.specs.Walks as walks;
-ghost use Rattle.pawn_pre.specs.Bounds.{IsSoundPage, Leaves};
-ghost use Rattle.pawn_pre.specs.Answers.{Says, IsFault, IsMissing, IsTold};
-ghost use Rattle.pawn_pre.specs.ConditionMachine.{value_of};
+ghost use Rattle.pawn_pre.specs.Outcome.{Fault, name_of};
+ghost use Rattle.pawn_pre.specs.Bounds.{IsSoundStack, Leaves};
+ghost use Rattle.pawn_pre.specs.Remaining.{remaining, FallsBelow};
+ghost use Rattle.pawn_pre.specs.WalkAnswers.{Says, IsFault, IsMissing, IsTold};
+ghost use Rattle.pawn_condition.specs.ConditionMachine.{value_of};
 
 use super::directive::{Word, directive};
 use super::fault::PreFault;
-use super::file::read_rows;
 use super::include::{Named, include_name};
 use super::level::Level;
 use super::line::Lines;
-use super::refusal::Refusal;
+use super::names::Names;
 use super::work::Work;
-use pawn_base::{Bytes, List, Memory};
+use pawn_base::{Bytes, Memory};
 use pawn_cells::Place;
+use pawn_lines::read_rows;
+use pawn_macro::Refusal;
 use pawn_outside::{Files, ReadAnswer};
 use std::alloc::Global;
 use std::collections::VecDeque;
@@ -30,7 +33,7 @@ pub const FILE_LIMIT: u64 = 16_777_216;
 /// The files that are open, and what is settled.
 #[derive(Drop)]
 pub struct Walk {
-    names: List<Bytes>,
+    names: Names,
     below: VecDeque<Level>,
     work: Work,
 }
@@ -38,9 +41,9 @@ pub struct Walk {
 impl Model for Walk {
     ghost use Rattle.std.specs.Coded.{codes};
     ghost use Rattle.pawn_pre.specs.contracts.work.Work as settled;
-    ghost use Rattle.pawn_pre.specs.Walks.{Page};
+    ghost use Rattle.pawn_pre.specs.Walks.{Stack};
 
-    ghost Value = { Page };
+    ghost Value = { Stack };
 
     ghost coded = { Prim.hlevel (codes, settled.the_row.coded) };
 
@@ -70,10 +73,10 @@ impl Walk {
     /// The source, before its first line.
     pub fn begin(alloc: Global, name: &str, bytes: &[u8]) -> Result<Walk, Memory>
         requires { length bytes.now ≤ 16777216 }
-        ensures { IfOk result (λ walk. walk ≡ walks.first_page name.now bytes.now) }
+        ensures { IfOk result (λ walk. walk ≡ walks.first_stack name.now bytes.now) }
     {
-        let mut names = List::new(alloc);
-        names.push(Bytes::from_slice(alloc, name.as_bytes())?)?;
+        let mut names = Names::new(alloc);
+        names.push(alloc, name.as_bytes())?;
         let top = Level::new(alloc, 0, read_rows(alloc, bytes)?);
         Ok(Walk {
             names,
@@ -83,8 +86,8 @@ impl Walk {
     }
 
     /// What is kept.
-    pub fn finish(self) -> Lines
-        ensures { result ≡ walks.lines_of self }
+    pub fn finish(self, alloc: Global) -> Result<Lines, Memory>
+        ensures { IfOk result (λ lines. lines ≡ walks.lines_of self) }
     {
         let Walk {
             names,
@@ -98,23 +101,19 @@ impl Walk {
             settings,
             top: _top,
         } = work;
-        Lines {
+        Ok(Lines {
             lines,
-            files: names,
+            files: names.into_list(alloc)?,
             dynamic: settings.dynamic,
-        }
+        })
     }
 
     /// A fault at a place, with the name of its file.
     fn fault(&self, alloc: Global, kind: u8, place: Place) -> PreFault
         ensures { IsFault
-            (walks.Fault kind place (walks.name_of self.now.names place.file)) result }
+            (Fault kind place (name_of self.now.names place.file)) result }
     {
-        let bytes = match self.names.as_slice().get(place.file as usize) {
-            Some(name) => name.as_slice(),
-            None => &[],
-        };
-        match Bytes::from_slice(alloc, bytes) {
+        match Bytes::from_slice(alloc, self.names.name(place.file)) {
             Ok(name) => PreFault::Source { kind, place, name },
             Err(Memory) => PreFault::Memory,
         }
@@ -124,7 +123,8 @@ impl Walk {
     #[tactic(auto, unfolding(crate::specs::Walks::at_end))]
     fn end_file(&mut self, alloc: Global) -> Result<bool, PreFault>
         ensures says { Says (walks.at_end self.old) result self.new }
-        ensures bounds { IsSoundPage self.old → Leaves result self.new }
+        ensures falls { FallsBelow (remaining self.old) result self.new }
+        ensures bounds { IsSoundStack self.old → Leaves result self.new }
         ensures cause { result ≢ Err PreFault.Files }
     {
         let place = Place {
@@ -149,22 +149,21 @@ impl Walk {
     fn is_begun(&self, name: &[u8]) -> bool
         ensures { result ≡ walks.is_begun self.now name.now }
     {
-        self.names
-            .as_slice()
-            .iter()
-            .any(|known| name == known.as_slice())
+        self.names.contains(name)
     }
 
-    /// Opens a file.
-    fn enter(&mut self, alloc: Global, name: Bytes, bytes: &[u8]) -> Result<(), Memory>
-        requires { length bytes.now ≤ 16777216 }
-        ensures { OnOk result (self.new ≡ walks.entered self.old name bytes.now) }
+    /// Opens a file that wasn't begun.
+    fn enter(&mut self, alloc: Global, name: &[u8], bytes: &[u8]) -> Result<(), Memory>
+        requires short { length bytes.now ≤ 16777216 }
+        requires new { walks.is_begun self.old name.now ≡ false }
+        ensures entered { OnOk result (self.new ≡ walks.entered self.old name.now bytes.now) }
+        ensures falls { OnOk result (remaining self.new < remaining self.old + 1) }
     {
         let number = self.names.len() as u64;
         let level = Level::new(alloc, number, read_rows(alloc, bytes)?);
         let outer = mem::replace(&mut self.work.top, level);
         match self.below.push_front(outer) {
-            Ok(()) => self.names.push(name),
+            Ok(()) => self.names.push(alloc, name),
             Err(_) => Err(Memory),
         }
     }
@@ -180,7 +179,7 @@ impl Walk {
         }
     }
 
-    /// Asks for a file, and opens it.
+    /// Asks for a file that wasn't begun, and opens it.
     fn ask<F: Files>(
         &mut self,
         alloc: Global,
@@ -189,11 +188,13 @@ impl Walk {
         optional: bool,
         named: Named,
     ) -> Result<bool, PreFault>
-        requires { IsTrue named.valid → IsAscii named.name }
+        requires ascii { IsTrue named.valid → IsAscii named.name }
+        requires new { walks.is_begun self.old named.name ≡ false }
         ensures same { F.held files.new ≡ F.held files.old }
         ensures says { (map : Held) → F.held files.old ≡ Some map →
             Says (walks.asked map self.old line optional named) result self.new }
-        ensures bounds { IsSoundPage self.old → Leaves result self.new }
+        ensures falls { FallsBelow (remaining self.old + 1) result self.new }
+        ensures bounds { IsSoundStack self.old → Leaves result self.new }
         ensures later { F.faults files.old ≤ F.faults files.new }
         ensures cause { result ≡ Err PreFault.Files →
             Rose (F.faults files.old) (F.faults files.new) }
@@ -206,7 +207,11 @@ impl Walk {
             return self.missing(alloc, optional, place);
         }
         match read_named(alloc, files, named.name.as_slice()) {
-            ReadAnswer::Got(bytes) => match self.enter(alloc, named.name, bytes.as_slice()) {
+            ReadAnswer::Got(bytes) => match self.enter(
+                alloc,
+                named.name.as_slice(),
+                bytes.as_slice(),
+            ) {
                 Ok(()) => Ok(true),
                 Err(Memory) => Err(PreFault::Memory),
             },
@@ -230,7 +235,8 @@ impl Walk {
         ensures same { F.held files.new ≡ F.held files.old }
         ensures says { (map : Held) → F.held files.old ≡ Some map →
             Says (walks.include map self.old line optional rest.now) result self.new }
-        ensures bounds { IsSoundPage self.old → Leaves result self.new }
+        ensures falls { FallsBelow (remaining self.old + 1) result self.new }
+        ensures bounds { IsSoundStack self.old → Leaves result self.new }
         ensures later { F.faults files.old ≤ F.faults files.new }
         ensures cause { result ≡ Err PreFault.Files →
             Rose (F.faults files.old) (F.faults files.new) }
@@ -272,7 +278,8 @@ impl Walk {
         ensures same { F.held files.new ≡ F.held files.old }
         ensures says { (map : Held) → F.held files.old ≡ Some map →
             Says (walks.step value_of map self.old) result self.new }
-        ensures bounds { IsSoundPage self.old → Leaves result self.new }
+        ensures falls { FallsBelow (remaining self.old) result self.new }
+        ensures bounds { IsSoundStack self.old → Leaves result self.new }
         ensures later { F.faults files.old ≤ F.faults files.new }
         ensures cause { result ≡ Err PreFault.Files →
             Rose (F.faults files.old) (F.faults files.new) }

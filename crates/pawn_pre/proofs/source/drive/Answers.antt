@@ -1,26 +1,26 @@
 use Rattle.std.proofs.Common.{◌∙◌, arith}
-use Rattle.pawn_pre.specs.ConditionMachine.{value_of}
+use Rattle.pawn_condition.specs.ConditionMachine.{value_of}
 use Rattle.pawn_pre.proofs.WalkLaws.{goes, stops, blames}
 use Rattle.pawn_pre.proofs.source.drive.Goals as goal
 
-pub loop-turn-preserved : goal.loop-turn-preserved
-loop-turn-preserved g c = record {
-  same = c.in-Ok-true.ensures.same ∙ c.loop-turn.invariant.same;
-  later = omega (arith, c.loop-turn.invariant.later, c.in-Ok-true.ensures.later);
-  leads = λ map h o ends. c.loop-turn.invariant.leads map h o
-      (goes value_of map _ _ o (rw c.in-Ok-true.field-0-test at (c.in-Ok-true.ensures.says map (c.loop-turn.invariant.same ∙ h))) ends);
-  sound = λ k. rw c.in-Ok-true.field-0-test at (c.in-Ok-true.ensures.bounds (c.loop-turn.invariant.sound k));
+pub loop-walk-preserved : goal.loop-walk-preserved
+loop-walk-preserved g c = record {
+  same = c.in-Ok-true.ensures.same ∙ c.loop-walk.invariant.same;
+  later = omega (arith, c.loop-walk.invariant.later, c.in-Ok-true.ensures.later);
+  leads = λ map h o ends. c.loop-walk.invariant.leads map h o
+      (goes value_of map _ _ o (rw c.in-Ok-true.field-0-test at (c.in-Ok-true.ensures.says map (c.loop-walk.invariant.same ∙ h))) ends);
+  sound = λ k. rw c.in-Ok-true.field-0-test at (c.in-Ok-true.ensures.bounds (c.loop-walk.invariant.sound k));
 }
 
-pub returns-in-Ok-false-clause-ends : goal.returns-in-Ok-false-clause-ends
-returns-in-Ok-false-clause-ends g c = λ map h.
-    let stopped = rw c.in-Ok-false.field-0-test at (c.in-Ok-false.ensures.says map (c.loop-turn.invariant.same ∙ h)) in
-    rw c.finish.ensures (c.loop-turn.invariant.leads map h _ (stops value_of map _ _ stopped))
+pub returns-in-Ok-clause-ends : goal.returns-in-Ok-clause-ends
+returns-in-Ok-clause-ends g c = λ map h.
+    let stopped = rw c.in-Ok-false.field-0-test at (c.in-Ok-false.ensures.says map (c.loop-walk.invariant.same ∙ h)) in
+    rw c.in-Ok.ensures (c.loop-walk.invariant.leads map h _ (stops value_of map _ _ stopped))
 
 pub returns-in-Err-clause-ends : goal.returns-in-Err-clause-ends
 returns-in-Err-clause-ends g c = λ map h.
-    blames value_of map c.args.walk _ _ c.in-Err.fault (c.loop-turn.invariant.leads map h) (c.in-Err.ensures.says map (c.loop-turn.invariant.same ∙ h))
+    blames value_of map c.args.walk _ _ c.in-Err.fault (c.loop-walk.invariant.leads map h) (c.in-Err.ensures.says map (c.loop-walk.invariant.same ∙ h))
 
-pub returns-in-Ok-false-clause-bounds : goal.returns-in-Ok-false-clause-bounds
-returns-in-Ok-false-clause-bounds g c = λ k.
-    rw c.finish.ensures (rw c.in-Ok-false.field-0-test at (c.in-Ok-false.ensures.bounds (c.loop-turn.invariant.sound k)))
+pub returns-in-Ok-clause-bounds : goal.returns-in-Ok-clause-bounds
+returns-in-Ok-clause-bounds g c = λ k.
+    rw c.in-Ok.ensures (rw c.in-Ok-false.field-0-test at (c.in-Ok-false.ensures.bounds (c.loop-walk.invariant.sound k)))

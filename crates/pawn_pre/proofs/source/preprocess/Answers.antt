@@ -1,7 +1,7 @@
 use Rattle.std.proofs.Common.{subst}
 use Rattle.pawn_pre.specs.Answers.{Answers}
-use Rattle.pawn_pre.proofs.ValueLaws.{only_value}
-use Rattle.pawn_pre.proofs.WalkLaws.{only_outcome}
+use Rattle.pawn_condition.proofs.ValueLaws.{only_value}
+use Rattle.pawn_pre.proofs.PageLaws.{only_outcome}
 use Rattle.pawn_pre.proofs.source.preprocess.Goals as goal
 
 pub returns-clause-answers : goal.returns-clause-answers

@@ -1,0 +1,4 @@
+pub mod ConditionComplete
+pub mod ConditionSound
+pub mod LexLaws
+pub mod ValueLaws

@@ -1,0 +1,5 @@
+pub mod Condition
+pub mod ConditionMachine
+pub mod ConditionTokens
+pub mod Numerals
+pub mod Signs

@@ -1,0 +1,4 @@
+pub mod CommentLaws
+pub mod FileLaws
+pub mod JoinedLaws
+pub mod RowLaws

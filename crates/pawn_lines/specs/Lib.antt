@@ -1,0 +1,5 @@
+pub mod ByteClass
+pub mod Comments
+pub mod File
+pub mod Joined
+pub mod Scan

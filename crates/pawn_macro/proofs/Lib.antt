@@ -1,0 +1,5 @@
+pub mod AnswerLaws
+pub mod ByteKeys
+pub mod CutLaws
+pub mod PieceLaws
+pub mod StepLaws

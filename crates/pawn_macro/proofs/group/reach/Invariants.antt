@@ -1,0 +1,11 @@
+use Rattle.std.proofs.Common.{◌≡◌, ◌+◌, [], drop}
+use Rattle.std.specs.Option.{option_map}
+use Rattle.pawn_macro.specs.declared.quote.Quote.TheVariants.{Outside}
+use Rattle.pawn_macro.specs.Matching.{reach}
+use Rattle.pawn_macro.proofs.group.reach.Given as goal
+
+abbrev pub invariant-loop-i : goal.invariant-loop-i
+invariant-loop-i l =
+    option_map (λ n. l.i + n)
+    (reach l.control l.end l.group.awaited.items l.group.quote (drop l.i l.bytes)) ≡
+    reach l.fn.control l.fn.end [] Outside l.fn.bytes

@@ -1,0 +1,12 @@
+pub mod AskedFor
+pub mod Defining
+pub mod Definitions
+pub mod Expansion
+pub mod Literals
+pub mod Matched
+pub mod Matching
+pub mod Patterns
+pub mod Steps
+pub mod Substitution
+pub mod Values
+pub use Rattle.pawn_condition.specs.ConditionMachine

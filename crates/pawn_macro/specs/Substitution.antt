@@ -1,0 +1,94 @@
+-- Substitution in a line: a step goes from a line with a cursor to the next one, at most 1,000
+-- times (Language Guide, "Preprocessor", on text substitution).
+use Rattle.std.specs.Prelude.{ℕ, ◌+◌, ◌==◌, zero, suc, not, nat_lt, Option, Some, None, Result, Ok, Err, List, [], ◌∷◌, ◌++◌, length, take, drop, Bool, false, if◌then◌else◌, ◌&&◌}
+use Rattle.std.specs.Option.{option_map}
+use Rattle.std.specs.List.{find}
+use Rattle.pawn_macro.specs.declared.quote.Quote.{Quote}
+use Rattle.pawn_macro.specs.declared.quote.Quote.TheVariants.{Outside}
+use Rattle.pawn_macro.specs.declared.piece.Piece.{Piece}
+use Rattle.pawn_macro.specs.declared.piece.Piece.TheVariants.{Byte, Param}
+use Rattle.pawn_macro.specs.declared.matching.Given.{Given}
+use Rattle.pawn_macro.specs.declared.rule.Rule.{Rule}
+use Rattle.std.specs.FinMap.{get}
+use Rattle.pawn_macro.specs.Definitions.{Rules}
+use Rattle.pawn_lines.specs.ByteClass.{is_name_byte, is_name_start, name_len}
+use Rattle.pawn_macro.specs.Literals.{is_outside, quote_after}
+use Rattle.pawn_macro.specs.Patterns.{pieces}
+use Rattle.pawn_macro.specs.Matching.{Match, matched}
+
+-- what a parameter took; one that the tail lacks stays as it is
+abbrev pub bytes_given : ℕ → Option Given → List ℕ
+bytes_given n None = 37 ∷ n ∷ []
+bytes_given n (Some given) = given.bytes
+
+unfoldable pub filled : List Given → List Piece → List ℕ
+filled given [] = []
+filled given (Byte b ∷ text) = b ∷ filled given text
+filled given (Param n ∷ text) =
+    bytes_given n (find (λ (g : Given). g.number == n) given) ++ filled given text
+
+-- the text in a match's place, and the line behind it
+abbrev pub replaced : ℕ → List ℕ → Match → List ℕ
+replaced control text m = filled m.given (pieces (Some control) Outside text) ++ m.rest
+
+-- the bytes behind a key, where a definition has that key and its tail matches
+abbrev pub place_by : ℕ → Option Rule → List ℕ → Option (List ℕ)
+place_by control None behind = None
+place_by control (Some rule) behind =
+    option_map (replaced control rule.text) (matched control rule.tail behind)
+
+-- a match whose key stands in front
+unfoldable pub place_at : Rules → ℕ → List ℕ → Option (List ℕ)
+place_at rules control bytes =
+    place_by control (get rules (take (name_len bytes) bytes)) (drop (name_len bytes) bytes)
+
+-- a whole name begins here
+abbrev pub begins_name : Quote → Bool → ℕ → Bool
+begins_name quote joined b = is_outside quote && (not joined && is_name_start b)
+
+-- a line around its cursor
+pub record Cursor : Type 0 where
+  pub before : List ℕ
+  pub after : List ℕ
+
+unfoldable pub with_before : List ℕ → Option Cursor → Option Cursor
+with_before front None = None
+with_before front (Some cursor) =
+    Some (record { before = front ++ cursor.before; after = cursor.after })
+
+abbrev pub or_later : Option (List ℕ) → Option Cursor → Option Cursor
+or_later None later = later
+or_later (Some after) later = Some (record { before = []; after = after })
+
+-- the first place that matches is replaced, and the cursor stays there
+unfoldable pub substituted : Rules → ℕ → Quote → Bool → List ℕ → Option Cursor
+substituted rules control quote joined [] = None
+substituted rules control quote joined (b ∷ rest) =
+    or_later (if begins_name quote joined b then place_at rules control (b ∷ rest) else None)
+    (with_before (b ∷ [])
+    (substituted rules control (quote_after control quote b) (is_name_byte b) rest))
+
+-- more than 4,095 bytes
+abbrev pub is_long : ℕ → Bool
+is_long n = nat_lt 4095 n
+
+abbrev pub turn_by : Option Cursor → ℕ → List ℕ → List ℕ →
+    (ℕ → List ℕ → List ℕ → Result (List ℕ) ℕ) → Result (List ℕ) ℕ
+turn_by None left done after go_on = Ok (done ++ after)
+turn_by (Some cursor) zero done after go_on = Err 7
+turn_by (Some cursor) (suc left) done after go_on =
+    if is_long (length (done ++ cursor.before) + length cursor.after) then Err 9
+    else go_on left (done ++ cursor.before) cursor.after
+
+-- so many steps may be made; fault 7 at one more, 9 at a line that is too long
+unfoldable pub steps : Rules → ℕ → ℕ → List ℕ → List ℕ → Result (List ℕ) ℕ
+steps rules control zero done after =
+    turn_by (substituted rules control Outside false after) zero done after
+    (λ left done' after'. Err 7)
+steps rules control (suc left) done after =
+    turn_by (substituted rules control Outside false after) (suc left) done after
+    (λ left' done' after'. steps rules control left done' after')
+
+unfoldable pub expanded : Rules → ℕ → List ℕ → Result (List ℕ) ℕ
+expanded rules control bytes =
+    if is_long (length bytes) then Err 9 else steps rules control 1000 [] bytes

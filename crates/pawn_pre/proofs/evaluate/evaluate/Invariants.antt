@@ -1,7 +1,0 @@
-use Rattle.std.proofs.Common.{◌≡◌, [], drop}
-use Rattle.pawn_pre.specs.ConditionMachine.{from, operand}
-use Rattle.pawn_pre.proofs.evaluate.evaluate.Given as goal
-
-abbrev pub invariant-loop-token : goal.invariant-loop-token
-invariant-loop-token l =
-    from l.held (drop l.token-index l.tokens) l.waits.items ≡ operand l.fn.tokens []

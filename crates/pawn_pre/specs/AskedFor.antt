@@ -1,8 +1,0 @@
--- A name that `defined` asks for, as the code hands it over.
-use Rattle.std.specs.Prelude.{◌≡◌, Option, Some, None}
-use Rattle.pawn_pre.specs.declared.defined.Question.{Question}
-use Rattle.pawn_pre.specs.Values.{Asked, asked}
-
-abbrev pub IsAsked : Option Asked → Option Question → Type 0
-IsAsked found None = found ≡ None
-IsAsked found (Some q) = found ≡ Some (asked q.name.now q.rest.now)
