@@ -18,33 +18,44 @@ use Rattle.straight_source.proofs.ParseLaws.{forms_same, natives_short}
 use Rattle.straight_source.proofs.SmallLaws.{small}
 
 -- a name among words is one
-word_among : (q : List ℕ) (words : List (List ℕ)) → All IsName words → is_among q words ≡ true → IsWord q
+word_among : (q : List ℕ) (words : List (List ℕ)) → All IsName words → is_among q words ≡ true
+    → IsWord q
 word_among q [] all among = absurd (true≢false (sym among))
-word_among q (n ∷ words) all among = by (bytes_eq q n) refl among (word_among q words (All-tail IsName n words all))
+word_among q (n ∷ words) all among = by (bytes_eq q n) refl among (word_among q words
+    (All-tail IsName n words all))
   where
-    by : (b : Bool) → bytes_eq q n ≡ b → (b || is_among q words) ≡ true → (is_among q words ≡ true → IsWord q) → IsWord q
-    by true e h others = subst IsWord (sym ((bytes_decides q n).0 e)) (All-head IsName n words all).word
+    by : (b : Bool) → bytes_eq q n ≡ b → (b || is_among q words) ≡ true
+        → (is_among q words ≡ true → IsWord q) → IsWord q
+    by true e h others = subst IsWord (sym ((bytes_decides q n).0 e))
+        (All-head IsName n words all).word
     by false e h others = others h
 
 -- a source's form has its spelling
 spelled_of : (form : Form) → IsForm form → IsSpelled form
 spelled_of form good = record {
   natives = λ k d within. (good.names k d within).word;
-  calls = λ k d within. record { name = word_among (get_or form.calls k d).name form.natives good.names (good.declared k d within); number = good.numbers k d within };
+  calls = λ k d within. record { name = word_among (get_or form.calls k d).name form.natives
+      good.names (good.declared k d within); number = good.numbers k d within };
   exit = good.exit;
 }
 
-pub no_parts : (source : List ℕ) → IsParsed source None → (program : Program) → ¬ Means source program
-no_parts source none program means = none means.form (spelled_of means.form means.good) means.spelled
+pub no_parts : (source : List ℕ) → IsParsed source None → (program : Program)
+    → ¬ Means source program
+no_parts source none program means = none means.form (spelled_of means.form means.good)
+    means.spelled
 
-pub few_natives : (source : List ℕ) (form : Form) → IsParsed source (Some form) → length source ≤ 2 ^ 30 → length form.natives < 2 ^ 32
+pub few_natives : (source : List ℕ) (form : Form) → IsParsed source (Some form)
+    → length source ≤ 2 ^ 30 → length form.natives < 2 ^ 32
 few_natives source form parsed short = omega (arith, natives_short form source parsed.1, short)
 
-pub no_form : (source : List ℕ) (form : Form) → IsParsed source (Some form) → IsMade form None → (program : Program) → ¬ Means source program
+pub no_form : (source : List ℕ) (form : Form) → IsParsed source (Some form) → IsMade form None
+    → (program : Program) → ¬ Means source program
 no_form source form parsed none program means =
-    none (subst IsForm (forms_same means.form form (spelled_of means.form means.good) parsed.0 (sym means.spelled ∙ parsed.1)) means.good)
+    none (subst IsForm (forms_same means.form form (spelled_of means.form means.good) parsed.0
+        (sym means.spelled ∙ parsed.1)) means.good)
 
-pub is_program : (source : List ℕ) (form : Form) (made : held.Program) → IsParsed source (Some form) → IsMade form (Some made) → length source ≤ 2 ^ 30
+pub is_program : (source : List ℕ) (form : Form) (made : held.Program)
+    → IsParsed source (Some form) → IsMade form (Some made) → length source ≤ 2 ^ 30
     → IsProgramOf source (program_view made)
 is_program source form made parsed it short = record {
   means = record { form = form; good = it.0; spelled = parsed.1; program_is = it.1 };

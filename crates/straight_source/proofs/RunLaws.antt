@@ -11,8 +11,10 @@ module _ (p : ℕ → Bool) where
   abbrev Front : List ℕ → ℕ → Type 0
   Front bytes n = IsRun p bytes (take n bytes) (drop n bytes)
 
-  front_more : (byte : ℕ) (bytes : List ℕ) (n : ℕ) → p byte ≡ true → Front bytes n → Front (byte ∷ bytes) (1 + n)
-  front_more byte bytes n e is = let same : suc n ≡ 1 + n = omega arith in subst (Front (byte ∷ bytes)) same (more (suc n) refl)
+  front_more : (byte : ℕ) (bytes : List ℕ) (n : ℕ) → p byte ≡ true → Front bytes n
+      → Front (byte ∷ bytes) (1 + n)
+  front_more byte bytes n e is = let same : suc n ≡ 1 + n = omega arith in
+      subst (Front (byte ∷ bytes)) same (more (suc n) refl)
     where
       more : (m : ℕ) → m ≡ suc n → Front (byte ∷ bytes) m
       more zero same = absurd (omega (arith, same))
@@ -43,33 +45,47 @@ module _ (p : ℕ → Bool) where
   run_of (byte ∷ bytes) = front_by byte bytes (p byte) refl (run_of bytes)
 
   -- as code meets it
-  pub run_as : (bytes run rest : List ℕ) (n : ℕ) → n ≡ prefix_len p bytes → run ≡ take n bytes → rest ≡ drop n bytes → IsRun p bytes run rest
+  pub run_as : (bytes run rest : List ℕ) (n : ℕ) → n ≡ prefix_len p bytes → run ≡ take n bytes
+      → rest ≡ drop n bytes → IsRun p bytes run rest
   run_as bytes run rest n e front back =
       let is = subst (Front bytes) (sym e) (run_of bytes) in
-      subst (λ r. IsRun p bytes r rest) (sym front) (subst (IsRun p bytes (take n bytes)) (sym back) is)
+      subst (λ r. IsRun p bytes r rest) (sym front) (subst (IsRun p bytes (take n bytes))
+          (sym back) is)
 
   -- a run ends at the first byte of another kind
-  pub run_same : (a b : List ℕ) (c d : ℕ) (x y : List ℕ) → list_all p a ≡ true → list_all p b ≡ true → p c ≡ false → p d ≡ false
+  pub run_same : (a b : List ℕ) (c d : ℕ) (x y : List ℕ) → list_all p a ≡ true
+      → list_all p b ≡ true → p c ≡ false → p d ≡ false
       → a ++ c ∷ x ≡ b ++ d ∷ y → (a ≡ b) × (c ∷ x ≡ d ∷ y)
   run_same [] [] c d x y ha hb hc hd e = (refl, e)
   run_same [] (b ∷ bs) c d x y ha hb hc hd e =
-      let first : c ≡ b = cc in absurd (true≢false (sym (both (p b) (list_all p bs) hb).0 ∙ ap p (sym first) ∙ hc))
+      let first : c ≡ b = cc in absurd (true≢false (sym (both (p b) (list_all p bs) hb).0
+          ∙ ap p (sym first) ∙ hc))
   run_same (a ∷ l) [] c d x y ha hb hc hd e =
-      let first : a ≡ d = cc in absurd (true≢false (sym (both (p a) (list_all p l) ha).0 ∙ ap p first ∙ hd))
+      let first : a ≡ d = cc in absurd (true≢false (sym (both (p a) (list_all p l) ha).0
+          ∙ ap p first ∙ hd))
   run_same (a ∷ l) (b ∷ bs) c d x y ha hb hc hd e =
       let first : a ≡ b = cc in
       let rest : l ++ c ∷ x ≡ bs ++ d ∷ y = cc in
-      let it = run_same l bs c d x y (both (p a) (list_all p l) ha).1 (both (p b) (list_all p bs) hb).1 hc hd rest in
+      let it = run_same l bs c d x y (both (p a) (list_all p l) ha).1 (both (p b)
+          (list_all p bs) hb).1 hc hd rest in
       (ap₂ (λ f o. f ∷ o) first it.0, it.1)
 
   -- a run that was read is the one that the bytes begin with
-  pub run_is : (bytes run rest name : List ℕ) (c : ℕ) (x : List ℕ) → IsRun p bytes run rest → list_all p name ≡ true → p c ≡ false
+  pub run_is : (bytes run rest name : List ℕ) (c : ℕ) (x : List ℕ) → IsRun p bytes run rest
+      → list_all p name ≡ true → p c ≡ false
       → bytes ≡ name ++ c ∷ x → (run ≡ name) × (rest ≡ c ∷ x)
-  run_is bytes run [] name c x is all stop e = absurd (true≢false (sym (past name run all is.all (sym e ∙ is.joined ∙ append-nil run)) ∙ stop))
+  run_is bytes run [] name c x is all stop e =
+      absurd (true≢false (sym (past name run all is.all (sym e ∙ is.joined ∙ append-nil run))
+      ∙ stop))
     where
-      past : (name run : List ℕ) → list_all p name ≡ true → list_all p run ≡ true → name ++ c ∷ x ≡ run → p c ≡ true
+      past : (name run : List ℕ) → list_all p name ≡ true → list_all p run ≡ true
+          → name ++ c ∷ x ≡ run → p c ≡ true
       past [] [] hn hr e = absurd (cc e)
-      past [] (b ∷ bs) hn hr e = let first : c ≡ b = cc in ap p first ∙ (both (p b) (list_all p bs) hr).0
+      past [] (b ∷ bs) hn hr e = let first : c ≡ b = cc in ap p first
+          ∙ (both (p b) (list_all p bs) hr).0
       past (a ∷ l) [] hn hr e = absurd (cc e)
-      past (a ∷ l) (b ∷ bs) hn hr e = let rest : l ++ c ∷ x ≡ bs = cc in past l bs (both (p a) (list_all p l) hn).1 (both (p b) (list_all p bs) hr).1 rest
-  run_is bytes run (byte ∷ rest) name c x is all stop e = run_same run name byte c rest x is.all all (is.stops byte rest refl) stop (sym is.joined ∙ e)
+      past (a ∷ l) (b ∷ bs) hn hr e = let rest : l ++ c ∷ x ≡ bs = cc in
+          past l bs (both (p a) (list_all p l) hn).1 (both (p b) (list_all p bs) hr).1 rest
+  run_is bytes run (byte ∷ rest) name c x is all stop e =
+      run_same run name byte c rest x is.all all (is.stops byte rest refl) stop (sym is.joined
+      ∙ e)

@@ -27,19 +27,24 @@ module _ (natives : List (List ℕ)) where
   exit_straight None small = tt
   exit_straight (Some n) small = ((fits n small, refl), tt)
 
-  stmts_straight : (calls : List Call) (exit : Option ℕ) → AreFound natives calls → All (λ (call : Call). call.number < 2 ^ 31) calls → IsExit exit
+  stmts_straight : (calls : List Call) (exit : Option ℕ) → AreFound natives calls
+      → All (λ (call : Call). call.number < 2 ^ 31) calls → IsExit exit
       → AreStraight (length natives) (stmts_of natives calls exit)
   stmts_straight [] exit found numbers small = exit_straight exit small
   stmts_straight (call ∷ calls) exit found numbers small = (
-    (found_within call.name natives (All-head (λ (it : Call). is_among it.name natives ≡ true) call calls found), (fits call.number (All-head (λ (it : Call). it.number < 2 ^ 31) call calls numbers), tt)),
-    stmts_straight calls exit (All-tail (λ (it : Call). is_among it.name natives ≡ true) call calls found) (All-tail (λ (it : Call). it.number < 2 ^ 31) call calls numbers) small,
+    (found_within call.name natives (All-head (λ (it : Call). is_among it.name natives ≡ true)
+        call calls found), (fits call.number (All-head
+        (λ (it : Call). it.number < 2 ^ 31) call calls numbers), tt)),
+    stmts_straight calls exit (All-tail (λ (it : Call). is_among it.name natives ≡ true) call
+        calls found) (All-tail (λ (it : Call). it.number < 2 ^ 31) call calls numbers) small,
   )
 
   exit_weight : (exit : Option ℕ) → stmts_weight (exit_of exit) ≤ 80
   exit_weight None = omega arith
   exit_weight (Some n) = omega arith
 
-  calls_weight : (calls : List Call) (exit : Option ℕ) → stmts_weight (stmts_of natives calls exit) ≤ 160 * length calls + 80
+  calls_weight : (calls : List Call) (exit : Option ℕ)
+      → stmts_weight (stmts_of natives calls exit) ≤ 160 * length calls + 80
   calls_weight [] exit = exit_weight exit
   calls_weight (call ∷ calls) exit = omega (arith, calls_weight calls exit)
 
@@ -47,7 +52,8 @@ module _ (natives : List (List ℕ)) where
   exit_count None = omega arith
   exit_count (Some n) = omega arith
 
-  calls_count : (calls : List Call) (exit : Option ℕ) → all_statements (stmts_of natives calls exit) ≤ length calls + 1
+  calls_count : (calls : List Call) (exit : Option ℕ)
+      → all_statements (stmts_of natives calls exit) ≤ length calls + 1
   calls_count [] exit = exit_count exit
   calls_count (call ∷ calls) exit = omega (arith, calls_count calls exit)
 
@@ -75,44 +81,57 @@ some_bytes [] letter = absurd (true≢false (sym letter))
 some_bytes (byte ∷ name) letter = omega arith
 
 native_name : (name : List ℕ) → IsName name → IsNativeName name
-native_name name is = record { no_zero = bytes_no_zero name is.word; least = some_bytes name is.begins; most = is.most }
+native_name name is = record { no_zero = bytes_no_zero name is.word; least =
+    some_bytes name is.begins; most = is.most }
 
 module _ (p : List ℕ → Bool) where
   names_good : (names : List (List ℕ)) → All IsName names → All IsNativeName (filter p names)
   names_good [] all = All-nil IsNativeName
-  names_good (name ∷ names) all = by (p name) (native_name name (All-head IsName name names all)) (names_good names (All-tail IsName name names all))
+  names_good (name ∷ names) all = by (p name) (native_name name (All-head IsName name names all))
+      (names_good names (All-tail IsName name names all))
     where
-      by : (b : Bool) → IsNativeName name → All IsNativeName (filter p names) → All IsNativeName (cond b (name ∷ filter p names) (filter p names))
+      by : (b : Bool) → IsNativeName name → All IsNativeName (filter p names)
+          → All IsNativeName (cond b (name ∷ filter p names) (filter p names))
       by true one rest = All-cons IsNativeName name (filter p names) one rest
       by false one rest = rest
 
-  names_size : (names : List (List ℕ)) → sum_by (λ name. length name + 9) (filter p names) ≤ length (flat_map native_line names)
+  names_size : (names : List (List ℕ)) → sum_by (λ name. length name + 9)
+      (filter p names) ≤ length (flat_map native_line names)
   names_size [] = omega arith
   names_size (name ∷ names) = by (p name) (names_size names)
     where
-      line : length (native_line name ++ flat_map native_line names) ≡ length name + 12 + length (flat_map native_line names)
-      line = omega (arith, length-append (native_line name) (flat_map native_line names), length-append name (codes "(v);\n"))
+      line : length (native_line name ++ flat_map native_line names) ≡ length name + 12 + length
+          (flat_map native_line names)
+      line = omega (arith, length-append (native_line name)
+          (flat_map native_line names), length-append name (codes "(v);\n"))
 
-      by : (b : Bool) → sum_by (λ name. length name + 9) (filter p names) ≤ length (flat_map native_line names)
-          → sum_by (λ name. length name + 9) (cond b (name ∷ filter p names) (filter p names)) ≤ length (native_line name ++ flat_map native_line names)
-      by true rest = omega (arith, rest, line, sum_by-cons (λ name. length name + 9) name (filter p names))
+      by : (b : Bool) → sum_by (λ name. length name + 9) (filter p names) ≤ length
+          (flat_map native_line names)
+          → sum_by (λ name. length name + 9) (cond b (name ∷ filter p names)
+          (filter p names)) ≤ length (native_line name ++ flat_map native_line names)
+      by true rest = omega (arith, rest, line, sum_by-cons (λ name. length name + 9) name
+          (filter p names))
       by false rest = omega (arith, rest, line)
 
-module _ (form : Form) (source : List ℕ) (good : IsForm form) (spelled : source ≡ source_of form) (short : length source ≤ 2 ^ 30) where
+module _ (form : Form) (source : List ℕ) (good : IsForm form) (spelled : source ≡ source_of form)
+    (short : length source ≤ 2 ^ 30) where
   abbrev straight : IsStraight (program_of form)
   straight = record {
     tag = 0;
     stmts = stmts_of (natives_called form) form.calls form.exit;
     room = 4096;
     functions = refl;
-    straight = stmts_straight (natives_called form) form.calls form.exit ((found_both form).1 good.declared) good.numbers good.exit;
+    straight = stmts_straight (natives_called form) form.calls form.exit
+        ((found_both form).1 good.declared) good.numbers good.exit;
     automata = refl;
     tags = refl;
     publics = refl;
     entry = refl;
     dynamic = refl;
     names = names_good (λ name. is_among name (names_called form.calls)) form.natives good.names;
-    names_fit = omega (arith, names_size (λ name. is_among name (names_called form.calls)) form.natives, ap length spelled, length-append (flat_map native_line form.natives) (codes "main() {\n" ++ body_of form), short);
+    names_fit = omega (arith, names_size (λ name. is_among name
+        (names_called form.calls)) form.natives, ap length spelled, length-append
+        (flat_map native_line form.natives) (codes "main() {\n" ++ body_of form), short);
     memory = omega (arith, calls_weight (natives_called form) form.calls form.exit, good.few);
   }
 

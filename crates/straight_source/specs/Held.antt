@@ -23,7 +23,8 @@ abbrev pub AreFound : List (List ℕ) → List Call → Type 0
 AreFound natives calls = All (λ (call : Call). is_among call.name natives ≡ true) calls
 
 abbrev pub held_calls : List (List ℕ) → List Call → List stmt.Stmt
-held_calls natives calls = map (λ (call : Call). held_call (position_or_len (bytes_eq call.name) natives) call.number) calls
+held_calls natives calls = map (λ (call : Call). held_call (position_or_len
+    (bytes_eq call.name) natives) call.number) calls
 
 -- none where a call is of another name
 abbrev pub AreCalls : List (List ℕ) → List Call → Option (List stmt.Stmt) → Type 0
@@ -32,7 +33,8 @@ AreCalls natives calls (Some stmts) = AreFound natives calls × (stmts ≡ held_
 
 abbrev pub AreStatements : List (List ℕ) → List Call → Option ℕ → Option (List stmt.Stmt) → Type 0
 AreStatements natives calls exit None = ¬ AreFound natives calls
-AreStatements natives calls exit (Some stmts) = AreFound natives calls × (stmts_view stmts ≡ stmts_of natives calls exit)
+AreStatements natives calls exit (Some stmts) = AreFound natives calls
+    × (stmts_view stmts ≡ stmts_of natives calls exit)
 
 -- the program of some parts, or none where they are no source
 abbrev pub IsMade : Form → Option Program → Type 0
@@ -40,6 +42,7 @@ IsMade form None = ¬ IsForm form
 IsMade form (Some program) = IsForm form × (program_view program ≡ program_of form)
 
 -- of so many calls
-pub record AreSoFar (natives : List (List ℕ)) (calls : List Call) (count : ℕ) (stmts : List stmt.Stmt) : Type 0 where
+pub record AreSoFar (natives : List (List ℕ)) (calls : List Call) (count : ℕ)
+    (stmts : List stmt.Stmt) : Type 0 where
   pub found : AreFound natives (take count calls)
   pub made : stmts ≡ held_calls natives (take count calls)

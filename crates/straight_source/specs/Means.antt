@@ -29,7 +29,8 @@ natives_called form = filter (λ name. is_among name (names_called form.calls)) 
 
 -- a native's number is its place
 abbrev pub call_of : List (List ℕ) → Call → Stmt
-call_of natives call = Do (Native (position_or_len (bytes_eq call.name) natives) (then_arg (Value (Const (pos call.number))) no_args))
+call_of natives call = Do (Native (position_or_len (bytes_eq call.name) natives) (then_arg (Value
+    (Const (pos call.number))) no_args))
 
 abbrev pub exit_of : Option ℕ → Stmts
 exit_of None = no_stmts
@@ -37,7 +38,8 @@ exit_of (Some number) = then_stmt (Exit (Const (pos number)) 0) no_stmts
 
 abbrev pub stmts_of : List (List ℕ) → List Call → Option ℕ → Stmts
 stmts_of natives [] exit = exit_of exit
-stmts_of natives (call ∷ calls) exit = then_stmt (call_of natives call) (stmts_of natives calls exit)
+stmts_of natives (call ∷ calls) exit = then_stmt (call_of natives call)
+    (stmts_of natives calls exit)
 
 -- a program of a main alone, with the room that a source gets which asks for none
 abbrev pub with_main : List (List ℕ) → Stmts → Program
@@ -52,7 +54,8 @@ with_main natives stmts = record {
 }
 
 abbrev pub program_of : Form → Program
-program_of form = with_main (natives_called form) (stmts_of (natives_called form) form.calls form.exit)
+program_of form = with_main (natives_called form) (stmts_of
+    (natives_called form) form.calls form.exit)
 
 pub record Means (source : List ℕ) (program : Program) : Type 0 where
   pub form : Form

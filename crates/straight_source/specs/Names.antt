@@ -18,7 +18,8 @@ is_word_byte byte = is_letter byte || is_digit byte
 
 -- what a name can't be, besides a key word
 abbrev pub taken : List (List ℕ)
-taken = codes "main" ∷ codes "true" ∷ codes "false" ∷ codes "cellbits" ∷ codes "cellmax" ∷ codes "cellmin" ∷ codes "charbits" ∷ []
+taken = codes "main" ∷ codes "true" ∷ codes "false" ∷ codes "cellbits" ∷ codes "cellmax" ∷ codes
+    "cellmin" ∷ codes "charbits" ∷ []
 
 abbrev pub is_among : List ℕ → List (List ℕ) → Bool
 is_among name names = list_any (bytes_eq name) names

@@ -30,7 +30,8 @@ call_by name number = record { name = name; number = number }
 
 abbrev pub IsCallLine : List ℕ → Option (List ℕ × ℕ × List ℕ) → Type 0
 IsCallLine bytes None = (call : Call) (rest : List ℕ) → IsCall call → bytes ≢ call_line call ++ rest
-IsCallLine bytes (Some it) = IsCall (call_by it.0 it.1) × (bytes ≡ call_line (call_by it.0 it.1) ++ it.2)
+IsCallLine bytes (Some it) = IsCall (call_by it.0 it.1)
+    × (bytes ≡ call_line (call_by it.0 it.1) ++ it.2)
 
 -- the end of main, with the value of its exit
 abbrev pub IsEnd : List ℕ → Option (Option ℕ) → Type 0
@@ -38,7 +39,8 @@ IsEnd bytes None = (exit : Option ℕ) → IsExit exit → bytes ≢ exit_line e
 IsEnd bytes (Some exit) = IsExit exit × (bytes ≡ exit_line exit ++ codes "}\n")
 
 -- bytes begin with the lines of some good things
-pub record Begins {A : Type 0} (line : A → List ℕ) (Good : A → Type 0) (bytes : List ℕ) (things : List A) (rest : List ℕ) : Type 0 where
+pub record Begins {A : Type 0} (line : A → List ℕ) (Good : A
+    → Type 0) (bytes : List ℕ) (things : List A) (rest : List ℕ) : Type 0 where
   pub good : All Good things
   pub joined : bytes ≡ flat_map line things ++ rest
 

@@ -138,7 +138,8 @@ pub fn program_of(alloc: Global, form: &Form) -> Result<Option<Program>, Memory>
 
 /// A program of a main alone.
 fn with_main(alloc: Global, natives: List<Bytes>, stmts: List<Stmt>) -> Result<Program, Memory>
-    ensures { IfOk result (λ program. program_view program ≡ means.with_main natives (stmts_view stmts)) }
+    ensures { IfOk result (λ program.
+        program_view program ≡ means.with_main natives (stmts_view stmts)) }
 {
     let mut bodies = List::new(alloc);
     bodies.push(Body {

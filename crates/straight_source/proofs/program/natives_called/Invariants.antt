@@ -3,4 +3,5 @@ use Rattle.straight_source.specs.Names.{is_among}
 use Rattle.straight_source.proofs.program.natives_called.Given as goal
 
 abbrev pub invariant-loop-name : goal.invariant-loop-name
-invariant-loop-name l = l.list ≡ filter (λ name. is_among name l.called) (take l.name-index l.natives)
+invariant-loop-name l = l.list ≡ filter (λ name. is_among name l.called)
+    (take l.name-index l.natives)

@@ -4,4 +4,5 @@ use Rattle.straight_source.proofs.KeyLaws.{place_map}
 use Rattle.straight_source.proofs.names.Names.place.Goals as goal
 
 pub returns : goal.returns
-returns c = c.get_index_of.ensures.index ∙ place_map (λ key. key.items) c.args.name.now _ ∙ ap (position (bytes_eq c.args.name.now)) c.self.view_is
+returns c = c.get_index_of.ensures.index ∙ place_map (λ key. key.items) c.args.name.now _
+    ∙ ap (position (bytes_eq c.args.name.now)) c.self.view_is
