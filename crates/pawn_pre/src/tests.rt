@@ -310,7 +310,7 @@ fn missing(rt: HostRuntime) -> Result<(), Fail> {
 }
 
 #[test]
-fn conditions(rt: HostRuntime) -> Result<(), Fail> {
+fn long_condition(rt: HostRuntime) -> Result<(), Fail> {
     for (blanks, want) in [(4093usize, "0:2 a|"), (4094, "fault 9 0:1 s.p")] {
         let mut source = String::from_str(rt.alloc(), "#if 1")?;
         for _ in 0..blanks {
@@ -319,6 +319,11 @@ fn conditions(rt: HostRuntime) -> Result<(), Fail> {
         source.push_str("\na\n#endif")?;
         assert_eq!(rt; run(rt.alloc(), source.as_str(), &[])?.as_str(), want);
     }
+    Ok(())
+}
+
+#[test]
+fn deep_condition(rt: HostRuntime) -> Result<(), Fail> {
     let mut source = String::from_str(rt.alloc(), "#if ")?;
     for _ in 0..2000u32 {
         source.push_str("(")?;
@@ -333,13 +338,18 @@ fn conditions(rt: HostRuntime) -> Result<(), Fail> {
 }
 
 #[test]
-fn files_asked_for(rt: HostRuntime) -> Result<(), Fail> {
-    // A comment is open at the file's end, so what its last line includes isn't read.
+fn open_comment(rt: HostRuntime) -> Result<(), Fail> {
+    // What the last line includes isn't read.
     let mut files = MemoryFiles::new(rt.alloc(), &[2])?;
     files.hold("s.p", b"#include q /*")?;
     let open = preprocess(rt.alloc(), "s.p", &mut files);
     assert_eq!(rt; shown(rt.alloc(), open)?.as_str(), "fault 12 0:1 s.p");
     assert_eq!(rt; files.faults(), 0);
+    Ok(())
+}
+
+#[test]
+fn large_file(rt: HostRuntime) -> Result<(), Fail> {
     let mut files = MemoryFiles::new(rt.alloc(), &[])?;
     let large = vec![in rt.alloc(); b'x'; 16_777_217usize]?;
     files.hold("q.inc", large.as_slice())?;
@@ -352,7 +362,13 @@ fn files_asked_for(rt: HostRuntime) -> Result<(), Fail> {
         let got = preprocess(rt.alloc(), "s.p", &mut files);
         assert_eq!(rt; shown(rt.alloc(), got)?.as_str(), want, "{source}");
     }
+    Ok(())
+}
+
+#[test]
+fn own_name(rt: HostRuntime) -> Result<(), Fail> {
     // The source's own name is passed over, though it can't be asked for.
+    let mut files = MemoryFiles::new(rt.alloc(), &[])?;
     files.hold("\u{e9}.p", "#include \"\u{e9}.p\"\nx".as_bytes())?;
     let own = preprocess(rt.alloc(), "\u{e9}.p", &mut files);
     assert_eq!(rt; shown(rt.alloc(), own)?.as_str(), "0:2 x|");
