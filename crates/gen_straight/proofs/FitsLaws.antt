@@ -31,7 +31,8 @@ module _ (natives : ℕ) (few : natives < 2 ^ 31) where
     stmt_fits (Do e) straight light = call_fits e straight (omega (arith, light))
     stmt_fits (Exit e tag) straight light = constant_fits e straight.0
 
-    stmts_fit : (stmts : Stmts) → AreStraight natives stmts → stmts_weight stmts ≤ 33554432 → FitStmts stmts
+    stmts_fit : (stmts : Stmts) → AreStraight natives stmts → stmts_weight stmts ≤ 33554432
+        → FitStmts stmts
     stmts_fit no_stmts straight light = tt
     stmts_fit (then_stmt s stmts) straight light = (
       stmt_fits s straight.0 (omega (arith, light)),
@@ -40,17 +41,24 @@ module _ (natives : ℕ) (few : natives < 2 ^ 31) where
 
 names_count : (natives : List (List ℕ)) → length natives ≤ sum_by (λ name. length name + 9) natives
 names_count [] = omega arith
-names_count (name ∷ natives) = omega (arith, names_count natives, sum_by-cons (λ name. length name + 9) name natives)
+names_count (name ∷ natives) = omega (arith, names_count natives, sum_by-cons
+    (λ name. length name + 9) name natives)
 
 pub program_fits : (program : Program) → IsStraight program → FitsProgram program
 program_fits program straight =
     let main = main_of straight.tag straight.stmts in
     let light : stmts_weight straight.stmts ≤ 33554432 =
-    omega (arith, ap (λ functions. sum_by function_weight functions) straight.functions, straight.memory) in
-    let few : length program.natives < 2 ^ 31 = omega (arith, names_count program.natives, straight.names_fit) in
+    omega (arith, ap (λ functions. sum_by function_weight functions) straight.functions,
+        straight.memory) in
+    let few : length program.natives < 2 ^ 31 =
+        omega (arith, names_count program.natives, straight.names_fit) in
     subst (All FitsFunction) (sym straight.functions)
-    (All-cons FitsFunction main [] (All-cons (λ (body : Body). FitsStmt body.stmt) _ [] (stmts_fit (length program.natives) few straight.stmts straight.straight light) (All-nil (λ (body : Body). FitsStmt body.stmt))) (All-nil FitsFunction))
+    (All-cons FitsFunction main [] (All-cons (λ (body : Body). FitsStmt body.stmt) _ []
+        (stmts_fit (length program.natives) few straight.stmts straight.straight light) (All-nil
+        (λ (body : Body). FitsStmt body.stmt))) (All-nil FitsFunction))
 
 -- the file of a straight program, as the generator meets it
-pub agrees_as : (program : Program) (amx : Amx) → IsStraight program → amx ≡ file_of program → Agrees program amx
-agrees_as program amx straight is = subst (Agrees program) (sym is) (straight_programs_agree_lem program straight)
+pub agrees_as : (program : Program) (amx : Amx) → IsStraight program → amx ≡ file_of program
+    → Agrees program amx
+agrees_as program amx straight is = subst (Agrees program) (sym is)
+    (straight_programs_agree_lem program straight)

@@ -4,4 +4,5 @@ use Rattle.gen_straight.specs.Code.{cells_of, args_code}
 use Rattle.gen_straight.proofs.emit.emit_args.Given as goal
 
 abbrev pub invariant-loop-passed : goal.invariant-loop-passed
-invariant-loop-passed l = l.code ≡ l.fn.code ++ cells_of (args_code (args_view (drop (length l.args - l.passed) l.args)))
+invariant-loop-passed l = l.code ≡ l.fn.code ++ cells_of (args_code (args_view
+    (drop (length l.args - l.passed) l.args)))
