@@ -22,7 +22,8 @@ use Rattle.pawn_cli.proofs.FileLaws.{main, main_entry, agrees, ends, entry_is}
 
 -- ---- a reply, and how it was written
 
-no_reply : {A : Type 0} (command : Option Command) (met : Met) (text : List ℕ) → Reply command met status.SinkFault text → A
+no_reply : {A : Type 0} (command : Option Command) (met : Met) (text : List ℕ)
+    → Reply command met status.SinkFault text → A
 no_reply None met text reply = absurd reply
 no_reply (Some command) met text reply = absurd reply
 
@@ -37,35 +38,46 @@ module _ {command : Option Command} {met : Met} {wrote : Wrote} where
   whole status.NoMemory it = it
   whole status.SinkFault it = no_reply command met it.text it.reply
 
-pub told : {S : Type 0} {taken : S → Option (List ℕ)} {faults : S → ℕ} {has_room : S → ℕ → Type 0} {old new : S} {text : List ℕ}
-    (command : Option Command) (met : Met) (s : Status) (result : Result (Unit {0}) SinkFault) → Reply command met s text → Said taken faults has_room old new text result
-    → Ends command met (record { taken = taken old; after = taken new; faults = faults old; faults_after = faults new }) (status_told s result)
-told {text = text} command met s (Ok done) reply said = whole s (record { text = text; reply = reply; written = said.whole })
-told {text = text} command met s (Err fault) reply said = record { status = s; text = text; reply = reply; front = said.front; rose = said.cause }
+pub told : {S : Type 0} {taken : S → Option (List ℕ)} {faults : S → ℕ} {has_room : S → ℕ
+    → Type 0} {old new : S} {text : List ℕ}
+    (command : Option Command) (met : Met) (s : Status) (result : Result (Unit {0}) SinkFault)
+        → Reply command met s text → Said taken faults has_room old new text result
+    → Ends command met (record { taken = taken old; after = taken new; faults =
+    faults old; faults_after = faults new }) (status_told s result)
+told {text = text} command met s (Ok done) reply said = whole s (record { text = text; reply =
+    reply; written = said.whole })
+told {text = text} command met s (Err fault) reply said = record { status = s; text =
+    text; reply = reply; front = said.front; rose = said.cause }
 
 -- ---- a file that was put, and its run
 
-module _ {command : Command} {met : Met} {amx : Amx} {state : State} (ready : IsReady command met amx state) where
+module _ {command : Command} {met : Met} {amx : Amx} {state : State}
+    (ready : IsReady command met amx state) where
   abbrev it : HasFile ready.source amx
   it = ready.compiled
 
   -- the machine stands at the start of the program's file
   state_is : state ≡ (started (file_of it.program) 4096 (pos 8)).state
-  state_is = ready.starts ∙ ap (λ (a : Amx). (started a 4096 a.entry).state) it.amx_is ∙ ap (λ z. (started (file_of it.program) 4096 z).state) (entry_is it)
+  state_is = ready.starts ∙ ap (λ (a : Amx). (started a 4096 a.entry).state) it.amx_is
+      ∙ ap (λ z. (started (file_of it.program) 4096 z).state) (entry_is it)
 
   pub runs_over : RunsOver amx state
   runs_over = (
     (ends it).end,
-    ap (λ (a : Amx). (run_of a state).stop) it.amx_is ∙ ap (λ s. (run_of (file_of it.program) s).stop) state_is ∙ (ends it).stops,
+    ap (λ (a : Amx). (run_of a state).stop) it.amx_is
+        ∙ ap (λ s. (run_of (file_of it.program) s).stop) state_is ∙ (ends it).stops,
   )
 
   -- the text of the run is that of the meaning
-  text_is : run_text amx state ≡ text_of (events_of (meaning it.program plain (main it) 0).entries) ++ end_text (ends it).end
+  text_is : run_text amx state ≡ text_of (events_of (meaning it.program plain
+      (main it) 0).entries) ++ end_text (ends it).end
   text_is =
       ap (λ (a : Amx). run_text a state) it.amx_is
       ∙ ap (run_text (file_of it.program)) state_is
-      ∙ ap (λ e. text_of e ++ stop_text (trace_from (file_of it.program) 4096 plain (pos 8) 10000000 []).stop) (ends it).events
-      ∙ ap (λ s. text_of (events_of (meaning it.program plain (main it) 0).entries) ++ stop_text s) (ends it).stops
+      ∙ ap (λ e. text_of e ++ stop_text (trace_from (file_of it.program) 4096 plain
+      (pos 8) 10000000 []).stop) (ends it).events
+      ∙ ap (λ s. text_of (events_of (meaning it.program plain
+      (main it) 0).entries) ++ stop_text s) (ends it).stops
 
   pub went_ok : Reply (Some command) met status.Ok (run_text amx state)
   went_ok = record {
@@ -84,8 +96,12 @@ module _ {command : Command} {met : Met} {amx : Amx} {state : State} (ready : Is
       limit = 0;
       end = (ends it).end;
       last = (ends it).last;
-      stops = ap (λ (a : Amx). (trace_from a 4096 plain a.entry step_limit []).stop) it.amx_is ∙ ap (λ z. (trace_from (file_of it.program) 4096 plain z step_limit []).stop) (entry_is it) ∙ (ends it).stops;
-      events = ap (λ (a : Amx). (trace_from a 4096 plain a.entry step_limit []).config.events) it.amx_is ∙ ap (λ z. (trace_from (file_of it.program) 4096 plain z step_limit []).config.events) (entry_is it) ∙ (ends it).events;
+      stops = ap (λ (a : Amx). (trace_from a 4096 plain a.entry step_limit []).stop) it.amx_is
+          ∙ ap (λ z. (trace_from (file_of it.program) 4096 plain z step_limit []).stop)
+          (entry_is it) ∙ (ends it).stops;
+      events = ap (λ (a : Amx). (trace_from a 4096 plain a.entry step_limit []).config.events)
+          it.amx_is ∙ ap (λ z. (trace_from (file_of it.program) 4096 plain z step_limit
+          []).config.events) (entry_is it) ∙ (ends it).events;
       text_is = text_is;
     };
   }

@@ -21,10 +21,12 @@ module _ {source : List ℕ} {amx : Amx} (it : HasFile source amx) where
   main = main_of straight.tag straight.stmts
 
   pub main_entry : function_of it.program Main ≡ Some main
-  main_entry = ap₂ (λ fs e. option_and_then (λ f. slice_get fs f) e) straight.functions straight.entry
+  main_entry = ap₂ (λ fs e. option_and_then (λ f. slice_get fs f) e) straight.functions
+      straight.entry
 
   pub agrees : Agrees it.program amx
-  agrees = subst (Agrees it.program) (sym it.amx_is) (straight_programs_agree_lem it.program straight)
+  agrees = subst (Agrees it.program) (sym it.amx_is) (straight_programs_agree_lem it.program
+      straight)
 
   pub ends : EndsAlike it.program straight
   ends = straight_programs_end_lem it.program straight it.small.room it.small.few it.small.calls

@@ -21,30 +21,39 @@ use Rattle.pawn_cli.specs.Reply.{Met, Reads, source_limit}
 use Rattle.pawn_cli.proofs.FileLaws.{entry_is, room_is, writable, valid}
 
 -- a put changes no other file
-same_by : (b : Bool) (o : Option (List ℕ)) (bytes : List ℕ) → cond b None (cond b (Some bytes) o) ≡ cond b None o
+same_by : (b : Bool) (o : Option (List ℕ)) (bytes : List ℕ)
+    → cond b None (cond b (Some bytes) o) ≡ cond b None o
 same_by true o bytes = refl
 same_by false o bytes = refl
 
-pub without-with_put : (held : Option Held) (name bytes : List ℕ) → without (with_put held name bytes) name ≡ without held name
+pub without-with_put : (held : Option Held) (name bytes : List ℕ)
+    → without (with_put held name bytes) name ≡ without held name
 without-with_put None name bytes = refl
-without-with_put (Some map) name bytes = ap Some (same_map nat_list_cmp_total (slice_cmp-IsAntisymmetric nat_cmp-IsAntisymmetric) (remove (insert map name bytes) name) (remove map name) (λ q.
+without-with_put (Some map) name bytes = ap Some (same_map nat_list_cmp_total
+    (slice_cmp-IsAntisymmetric nat_cmp-IsAntisymmetric) (remove (insert map name bytes) name)
+    (remove map name) (λ q.
     get-remove nat_list_cmp_total (insert map name bytes) name q
-    ∙ ap (λ o. cond (eq_by_cmp (slice_cmp nat_cmp) q name) None o) (get-insert nat_list_cmp_total map name bytes q)
+    ∙ ap (λ o. cond (eq_by_cmp (slice_cmp nat_cmp) q name) None o)
+    (get-insert nat_list_cmp_total map name bytes q)
     ∙ same_by (eq_by_cmp (slice_cmp nat_cmp) q name) (get map q) bytes
     ∙ sym (get-remove nat_list_cmp_total map name q)))
 
 -- what was read is the file of the source
-module _ {bytes : List ℕ} (given : (source : List ℕ) × IsBytesOf source bytes) (read : Amx) (file : IsFile bytes read) where
+module _ {bytes : List ℕ} (given : (source : List ℕ)
+    × IsBytesOf source bytes) (read : Amx) (file : IsFile bytes read) where
   has : HasFile given.0 read
-  has = subst (HasFile given.0) (file_determines bytes given.1.amx read given.1.file file) given.1.compiled
+  has = subst (HasFile given.0) (file_determines bytes given.1.amx read given.1.file file)
+      given.1.compiled
 
   pub code_small : 4 * length read.code < 2 ^ 31
   code_small = omega (arith, (writable has).memory)
 
   pub must_be_valid : (ready : Amx) (b : Bool) → ready ≡ read
-      → (IsTrue b ↔ IsValid ready.code (length ready.natives) ready.entry (map (λ it. it.address) ready.publics)) → b ≡ false → ⊥
+      → (IsTrue b ↔ IsValid ready.code (length ready.natives) ready.entry
+      (map (λ it. it.address) ready.publics)) → b ≡ false → ⊥
   must_be_valid ready b same told is =
-      true≢false (sym (told.1 (subst (λ (it : Amx). IsValid it.code (length it.natives) it.entry (map (λ it. it.address) it.publics)) (sym same) (valid has))) ∙ is)
+      true≢false (sym (told.1 (subst (λ (it : Amx). IsValid it.code (length it.natives) it.entry
+          (map (λ it. it.address) it.publics)) (sym same) (valid has))) ∙ is)
 
   room_of_read : (amx : Amx) → amx ≡ read → amx.room ≡ 4096
   room_of_read amx same = ap (λ (a : Amx). a.room) (same ∙ has.amx_is) ∙ room_is has
@@ -56,38 +65,56 @@ module _ {bytes : List ℕ} (given : (source : List ℕ) × IsBytesOf source byt
   cells_few amx same = omega (arith, (writable (subst (HasFile given.0) (sym same) has)).memory)
 
   pub starts : (ready amx : Amx) (entry : ℕ) (state : State) → ready ≡ read → amx ≡ ready
-      → entry ≡ bits_of (to_z w32 (of_z w32 ready.entry)) → state ≡ (started amx amx.room (cell_of entry)).state → IsFile bytes ready × (state ≡ (started ready 4096 ready.entry).state)
+      → entry ≡ bits_of (to_z w32 (of_z w32 ready.entry))
+      → state ≡ (started amx amx.room (cell_of entry)).state → IsFile bytes ready
+      × (state ≡ (started ready 4096 ready.entry).state)
   starts ready amx entry state same lent at e =
-      let main : ready.entry ≡ pos 8 = ap (λ (a : Amx). a.entry) (same ∙ has.amx_is) ∙ entry_is has in
-      let place : cell_of entry ≡ ready.entry = ap cell_of (at ∙ ap (λ z. bits_of (to_z w32 (of_z w32 z))) main) ∙ sym main in (
+      let main : ready.entry ≡ pos 8 = ap (λ (a : Amx). a.entry) (same ∙ has.amx_is)
+          ∙ entry_is has in
+      let place : cell_of entry ≡ ready.entry =
+          ap cell_of (at ∙ ap (λ z. bits_of (to_z w32 (of_z w32 z))) main) ∙ sym main in (
         subst (IsFile bytes) (sym same) file,
-        e ∙ ap₂ (λ (a : Amx) n. (started a n (cell_of entry)).state) lent (room_of_read amx (lent ∙ same)) ∙ ap (λ z. (started ready 4096 z).state) place,
+        e ∙ ap₂ (λ (a : Amx) n. (started a n (cell_of entry)).state) lent (room_of_read amx
+            (lent ∙ same)) ∙ ap (λ z. (started ready 4096 z).state) place,
       )
 
-pub prepared : {T : Type 0} (amx : T → Amx) (state : T → State) (command : Command) (met : Met) (source bytes : List ℕ) (result : Result T StopEarly)
-    → Reads command met source → IsBytesOf source bytes → met.after ≡ with_put met.held command.amx bytes → IsStarted amx state bytes result
+pub prepared : {T : Type 0} (amx : T → Amx) (state : T
+    → State) (command : Command) (met : Met) (source bytes : List ℕ) (result : Result T StopEarly)
+    → Reads command met source → IsBytesOf source bytes
+    → met.after ≡ with_put met.held command.amx bytes → IsStarted amx state bytes result
     → IsPrepared amx state command met result
 prepared amx state command met source bytes (Ok ready) reads given puts started = record {
   source = source;
   reads = reads;
-  compiled = subst (HasFile source) (file_determines bytes given.amx (amx ready) given.file started.0) given.compiled;
+  compiled = subst (HasFile source) (file_determines bytes given.amx
+      (amx ready) given.file started.0) given.compiled;
   bytes = bytes;
   file = started.0;
   puts = puts;
   starts = started.1;
 }
-prepared amx state command met source bytes (Err NoMemory) reads given puts started = (refl, ap (λ held. without held command.amx) puts ∙ without-with_put met.held command.amx bytes)
-prepared amx state command met source bytes (Err FileFault) reads given puts started = absurd started
+prepared amx state command met source bytes (Err NoMemory) reads given puts started =
+    (refl, ap (λ held. without held command.amx) puts
+    ∙ without-with_put met.held command.amx bytes)
+prepared amx state command met source bytes (Err FileFault) reads given puts started =
+    absurd started
 prepared amx state command met source bytes (Err NoFile) reads given puts started = absurd started
 prepared amx state command met source bytes (Err TooLarge) reads given puts started = absurd started
 prepared amx state command met source bytes (Err Refused) reads given puts started = absurd started
 
 -- as the code meets the steps
-pub prepared_by : {T : Type 0} (amx : T → Amx) (state : T → State) (command : Command) (held mid after : Option Held) (faults faults_after : ℕ) (source lent bytes put_ started_ : List ℕ) (result : Result T StopEarly)
-    → mid ≡ held → Tells held command.source (Some source) × (length source ≤ source_limit) → lent ≡ source → IsBytesOf lent bytes → put_ ≡ bytes → after ≡ with_put mid command.amx put_ → started_ ≡ bytes → IsStarted amx state started_ result
-    → IsPrepared amx state command (record { held = held; after = after; faults = faults; faults_after = faults_after }) result
-prepared_by amx state command held mid after faults faults_after source lent bytes put_ started_ result same tells is given is_put puts is_started start =
-    prepared amx state command (record { held = held; after = after; faults = faults; faults_after = faults_after }) source bytes result tells
+pub prepared_by : {T : Type 0} (amx : T → Amx) (state : T
+    → State) (command : Command) (held mid after : Option Held) (faults faults_after : ℕ)
+    (source lent bytes put_ started_ : List ℕ) (result : Result T StopEarly)
+    → mid ≡ held → Tells held command.source (Some source) × (length source ≤ source_limit)
+    → lent ≡ source → IsBytesOf lent bytes → put_ ≡ bytes → after ≡ with_put mid command.amx put_
+    → started_ ≡ bytes → IsStarted amx state started_ result
+    → IsPrepared amx state command (record { held = held; after = after; faults =
+    faults; faults_after = faults_after }) result
+prepared_by amx state command held mid after faults faults_after source lent bytes put_ started_
+    result same tells is given is_put puts is_started start =
+    prepared amx state command (record { held = held; after = after; faults =
+        faults; faults_after = faults_after }) source bytes result tells
     (subst (λ s. IsBytesOf s bytes) is given)
     (puts ∙ ap (λ h. with_put h command.amx put_) same ∙ ap (with_put held command.amx) is_put)
     (subst (λ b. IsStarted amx state b result) is_started start)

@@ -32,19 +32,22 @@ IsMoved (Ok moved.Slept) m at s = m ≡ run.Sleeps (at s)
 IsMoved (Ok (moved.Ended e)) m at s = m ≡ run.Ends e (at s)
 IsMoved (Err fault) m at s = (t : State) × ((m ≡ run.Goes (at t)) ⊎ (m ≡ run.Sleeps (at t)))
 
-pub record Advances (move : Config → Moved Config End) (new : State) (result : Result Move SinkFault) (said : List ℕ → Type 0) : Type 0 where
+pub record Advances (move : Config → Moved Config End) (new : State)
+    (result : Result Move SinkFault) (said : List ℕ → Type 0) : Type 0 where
   pub shown : List Event
   pub text : said (text_of shown)
   pub moves : (c : Config) → IsMoved result (move c) (λ s. after c s shown) new
 
 -- where the sink failed, the segment shows at least what was to be written
-abbrev pub IsSegmented : Result Stop SinkFault → Segmented Config End → (State → Config) → State → Type 0
+abbrev pub IsSegmented : Result Stop SinkFault → Segmented Config End → (State → Config) → State
+    → Type 0
 IsSegmented (Ok stop.Steps) s at t = (s.stop ≡ run.Steps) × (s.config ≡ at t)
 IsSegmented (Ok stop.Asleep) s at t = (s.stop ≡ run.Asleep) × (s.config ≡ at t)
 IsSegmented (Ok (stop.Over e)) s at t = (s.stop ≡ run.Over_by e) × (s.config ≡ at t)
 IsSegmented (Err fault) s at t = (more : List Event) × (s.config.events ≡ (at t).events ++ more)
 
-pub record RunsTo (segment : Config → Segmented Config End) (new : State) (result : Result Stop SinkFault) (said : List ℕ → Type 0) : Type 0 where
+pub record RunsTo (segment : Config → Segmented Config End) (new : State)
+    (result : Result Stop SinkFault) (said : List ℕ → Type 0) : Type 0 where
   pub shown : List Event
   pub text : said (text_of shown)
   pub segments : (c : Config) → IsSegmented result (segment c) (λ s. after c s shown) new

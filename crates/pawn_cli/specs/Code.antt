@@ -7,10 +7,12 @@ use Rattle.amx_ops.specs.Valid.{IsValidOperand}
 abbrev pub IsCodeAt : ℕ → ℕ → List ℤ → Type 0
 IsCodeAt natives at cells =
     (sum_by (λ (it : Placed). it.instruction.size) (placed_from at 0 cells) ≡ length cells)
-    × All (λ (it : Placed). IsValidOperand natives it.instruction.kind it.instruction.operand) (placed_from at 0 cells)
+    × All (λ (it : Placed). IsValidOperand natives it.instruction.kind it.instruction.operand)
+    (placed_from at 0 cells)
 
 -- the size of a valid first instruction: the cells are code exactly where those behind it are
 abbrev pub IsFirst : ℕ → List ℤ → Option ℕ → Type 0
 IsFirst natives cells None = (at : ℕ) → ¬ IsCodeAt natives at cells
 IsFirst natives cells (Some size) =
-    (1 ≤ size) × (size ≤ length cells) × ((at : ℕ) → (IsCodeAt natives (at + 4 * size) (drop size cells) ↔ IsCodeAt natives at cells))
+    (1 ≤ size) × (size ≤ length cells) × ((at : ℕ)
+        → (IsCodeAt natives (at + 4 * size) (drop size cells) ↔ IsCodeAt natives at cells))

@@ -16,7 +16,8 @@ pub record Wrote : Type 0 where
   pub faults_after : ℕ
 
 -- the reply was written whole
-pub record Whole (command : Option Command) (met : Met) (wrote : Wrote) (status : Status) : Type 0 where
+pub record Whole (command : Option Command) (met : Met) (wrote : Wrote)
+    (status : Status) : Type 0 where
   pub text : List ℕ
   pub reply : Reply command met status text
   pub written : wrote.after ≡ with_more wrote.taken text
@@ -45,7 +46,8 @@ status_told s (Ok done) = s
 status_told s (Err fault) = status.SinkFault
 
 -- for the words of a call
-pub record Answers (words : List (List ℕ)) (met : Met) (wrote : Wrote) (status : Status) : Type 0 where
+pub record Answers (words : List (List ℕ)) (met : Met) (wrote : Wrote)
+    (status : Status) : Type 0 where
   pub command : Option Command
   pub is_command : IsCommand words command
   pub ends : Ends command met wrote status

@@ -16,7 +16,8 @@ passed_by (Some i) others = i.size - 1
 abbrev pub marks : ℕ → List ℤ → List Bool
 marks passed [] = []
 marks (suc passed) (cell ∷ cells) = false ∷ marks passed cells
-marks zero (cell ∷ cells) = mark_by (front (cell ∷ cells)) ∷ marks (passed_by (front (cell ∷ cells)) (length cells)) cells
+marks zero (cell ∷ cells) = mark_by (front (cell ∷ cells)) ∷ marks (passed_by (front
+    (cell ∷ cells)) (length cells)) cells
 
 -- code of less than 2 GiB, with its marks
 pub record IsMarked (cells : List ℤ) (starts : List Bool) : Type 0 where

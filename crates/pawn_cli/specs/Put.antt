@@ -15,9 +15,11 @@ use Rattle.straight_source.specs.Means.{Means}
 
 -- a source by its name, with the counts of faults before and after
 abbrev pub IsReadFrom : Option Held → List ℕ → ℕ → ℕ → Result (List ℕ) StopEarly → Type 0
-IsReadFrom held name faults after (Ok source) = Tells held name (Some source) × (length source ≤ source_limit)
+IsReadFrom held name faults after (Ok source) = Tells held name (Some source)
+    × (length source ≤ source_limit)
 IsReadFrom held name faults after (Err NoFile) = Tells held name None
-IsReadFrom held name faults after (Err TooLarge) = HoldsThat held name (λ bytes. source_limit < length bytes)
+IsReadFrom held name faults after (Err TooLarge) =
+    HoldsThat held name (λ bytes. source_limit < length bytes)
 IsReadFrom held name faults after (Err FileFault) = Rose faults after
 IsReadFrom held name faults after (Err NoMemory) = Unit {0}
 IsReadFrom held name faults after (Err Refused) = ⊥
@@ -37,9 +39,11 @@ IsBytes source (Err TooLarge) = ⊥
 IsBytes source (Err FileFault) = ⊥
 
 -- what is held before and after a put
-abbrev pub IsPutStop : {T : Type 0} → Option Held → Option Held → List ℕ → List ℕ → ℕ → ℕ → Result T StopEarly → Type 0
+abbrev pub IsPutStop : {T : Type 0} → Option Held → Option Held → List ℕ → List ℕ → ℕ → ℕ
+    → Result T StopEarly → Type 0
 IsPutStop held after name bytes faults faults_after (Ok t) = after ≡ with_put held name bytes
-IsPutStop held after name bytes faults faults_after (Err FileFault) = (without after name ≡ without held name) × Rose faults faults_after
+IsPutStop held after name bytes faults faults_after (Err FileFault) =
+    (without after name ≡ without held name) × Rose faults faults_after
 IsPutStop held after name bytes faults faults_after (Err NoMemory) = after ≡ held
 IsPutStop held after name bytes faults faults_after (Err NoFile) = ⊥
 IsPutStop held after name bytes faults faults_after (Err TooLarge) = ⊥
@@ -47,7 +51,8 @@ IsPutStop held after name bytes faults faults_after (Err Refused) = ⊥
 
 -- a machine at the main of a file
 abbrev pub IsStarted : {T : Type 0} → (T → Amx) → (T → State) → List ℕ → Result T StopEarly → Type 0
-IsStarted amx state bytes (Ok ready) = IsFile bytes (amx ready) × (state ready ≡ (started (amx ready) 4096 (amx ready).entry).state)
+IsStarted amx state bytes (Ok ready) = IsFile bytes (amx ready)
+    × (state ready ≡ (started (amx ready) 4096 (amx ready).entry).state)
 IsStarted amx state bytes (Err NoMemory) = Unit {0}
 IsStarted amx state bytes (Err FileFault) = ⊥
 IsStarted amx state bytes (Err NoFile) = ⊥

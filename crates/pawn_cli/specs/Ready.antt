@@ -22,6 +22,8 @@ pub record IsReady (command : Command) (met : Met) (amx : Amx) (state : State) :
   pub starts : state ≡ (started amx 4096 amx.entry).state
 
 -- what stops early replies
-abbrev pub IsPrepared : {T : Type 0} → (T → Amx) → (T → State) → Command → Met → Result T StopEarly → Type 0
+abbrev pub IsPrepared : {T : Type 0} → (T → Amx) → (T → State) → Command → Met
+    → Result T StopEarly → Type 0
 IsPrepared amx state command met (Ok ready) = IsReady command met (amx ready) (state ready)
-IsPrepared amx state command met (Err stop) = Reply (Some command) met (status_of stop) (line_of stop command.source)
+IsPrepared amx state command met (Err stop) =
+    Reply (Some command) met (status_of stop) (line_of stop command.source)

@@ -38,8 +38,10 @@ pub record Went (source bytes text : List ℕ) : Type 0 where
   pub end : End
   pub last : (meaning program plain function limit).last ≡ Ended end
   pub stops : (trace_from amx 4096 plain amx.entry step_limit []).stop ≡ Over_by end
-  pub events : (trace_from amx 4096 plain amx.entry step_limit []).config.events ≡ events_of (meaning program plain function limit).entries
-  pub text_is : text ≡ text_of (events_of (meaning program plain function limit).entries) ++ end_text end
+  pub events : (trace_from amx 4096 plain amx.entry step_limit []).config.events ≡ events_of
+      (meaning program plain function limit).entries
+  pub text_is : text ≡ text_of (events_of (meaning program plain function limit).entries) ++
+      end_text end
 
 -- what a call met, and what it left: the files, and the counts of their faults
 pub record Met : Type 0 where
@@ -55,7 +57,8 @@ Keeps (Some command) met = without met.after command.amx ≡ without met.held co
 
 -- the source's bytes, as far as the files tell, within the limit
 abbrev pub Reads : Command → Met → List ℕ → Type 0
-Reads command met source = Tells met.held command.source (Some source) × (length source ≤ source_limit)
+Reads command met source = Tells met.held command.source (Some source)
+    × (length source ≤ source_limit)
 
 -- a compiled source, and the file that was put
 pub record IsOk (command : Command) (met : Met) (text : List ℕ) : Type 0 where
@@ -79,10 +82,12 @@ Reply (Some command) met Ok text = IsOk command met text
 Reply (Some command) met Refused text = IsRefused command met text
 Reply None met BadWords text = (text ≡ codes "bad words\n") × (met.after ≡ met.held)
 Reply (Some command) met NoFile text =
-    Tells met.held command.source None × (text ≡ codes "no file " ++ (command.source ++ codes "\n")) × (met.after ≡ met.held)
+    Tells met.held command.source None × (text ≡ codes "no file " ++
+        (command.source ++ codes "\n")) × (met.after ≡ met.held)
 Reply (Some command) met TooLarge text =
     HoldsThat met.held command.source (λ bytes. source_limit < length bytes)
     × (text ≡ codes "too large " ++ (command.source ++ codes "\n")) × (met.after ≡ met.held)
-Reply (Some command) met FileFault text = (text ≡ codes "file fault\n") × Rose met.faults met.faults_after × Keeps (Some command) met
+Reply (Some command) met FileFault text = (text ≡ codes "file fault\n")
+    × Rose met.faults met.faults_after × Keeps (Some command) met
 Reply (Some command) met NoMemory text = (text ≡ codes "no memory\n") × Keeps (Some command) met
 Reply command met status text = ⊥

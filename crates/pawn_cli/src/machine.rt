@@ -61,7 +61,8 @@ impl Machine {
     pub fn start(alloc: Global, amx: &Amx, address: u32) -> Result<Machine, Memory>
         requires room { 2 ≤ amx.now.room }
         requires small { 4 * (length amx.now.store + amx.now.room) < 2 ^ 31 }
-        ensures { IfOk result (λ machine. machine ≡ (started amx.now amx.now.room (cell_of address)).state) }
+        ensures { IfOk result (λ machine.
+            machine ≡ (started amx.now amx.now.room (cell_of address)).state) }
     {
         let data = amx.store.as_slice();
         let mut cells = Vec::from_slice(alloc, data)?;
@@ -90,7 +91,8 @@ impl Machine {
 
     fn act(&mut self, verified: &Verified, instruction: Instruction) -> Turn
         requires { self.old.cip + 4 * instruction.size < 2 ^ 31 }
-        ensures { IsTurn (step.act_on verified.now.code (Some instruction) self.old) self.old result self.new }
+        ensures { IsTurn (step.act_on verified.now.code (Some instruction) self.old)
+            self.old result self.new }
     {
         let next = self.cip + 4 * instruction.size;
         match instruction.op {
@@ -107,7 +109,8 @@ impl Machine {
     }
 
     fn set_pri(&mut self, value: i32, next: u32) -> Turn
-        ensures { IsTurn (step.at_next next (record self.old { pri = value })) self.old result self.new }
+        ensures { IsTurn (step.at_next next (record self.old { pri = value }))
+            self.old result self.new }
     {
         self.pri = value;
         self.cip = next;
@@ -115,7 +118,8 @@ impl Machine {
     }
 
     fn clear_alt(&mut self, next: u32) -> Turn
-        ensures { IsTurn (step.at_next next (record self.old { alt = pos 0 })) self.old result self.new }
+        ensures { IsTurn (step.at_next next (record self.old { alt = pos 0 }))
+            self.old result self.new }
     {
         self.alt = 0;
         self.cip = next;
@@ -152,7 +156,8 @@ impl Machine {
     }
 
     fn move_stack(&mut self, by: i32, next: u32) -> Turn
-        ensures { IsTurn (step.moved_to (pos self.old.stk +ℤ by) next self.old) self.old result self.new }
+        ensures { IsTurn (step.moved_to (pos self.old.stk +ℤ by) next self.old)
+            self.old result self.new }
     {
         let size = by.unsigned_abs();
         if by >= 0 {

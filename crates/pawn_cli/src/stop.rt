@@ -30,7 +30,8 @@ impl StopEarly {
 
     /// Writes the line, which may name the source.
     pub fn say<S: Sink>(self, out: &mut S, source: &[u8]) -> Result<(), SinkFault>
-        ensures { Said S.taken S.faults S.has_room out.old out.new (line_of self source.now) result }
+        ensures { Said S.taken S.faults S.has_room out.old out.new
+            (line_of self source.now) result }
     {
         match self {
             StopEarly::Refused => say(out, &[b"refused 72 at ", source, b":1\n"]),
