@@ -9,7 +9,6 @@ use Rattle.pawn_program.specs.declared.node.Expr as held
 use Rattle.pawn_program.specs.declared.node.Stmt as held_stmt
 use Rattle.pawn_program.proofs.ViewLaws.{expr_view-Native, stmt_view-Block}
 use Rattle.pawn_meaning.specs.Need.{count_of}
-use Rattle.gen_straight.specs.declared.instruction.Instruction.{Instruction}
 use Rattle.gen_straight.specs.Code.{cells, cells_of, args_code, call_code, expr_code, stmt_code, stmts_code}
 use Rattle.gen_straight.specs.Fits.{FitsExpr, FitsStmt, FitStmts}
 
@@ -27,11 +26,11 @@ pub call_is : (code : List ℤ) (n count : ℕ) (args : List Arg) (a b c d : Lis
 call_is code n count args a b c d bytes last counts e f p q r s =
     let pushes = cells_of (args_code (args_view args)) in
     let shape : (((code ++ pushes) ++ pos 39 ∷ bytes ∷ []) ++ pos 123 ∷ pos n ∷ []) ++ pos 44 ∷
-        last ∷ []
+    last ∷ []
     ≡ code ++ (pushes ++ pos 39 ∷ bytes ∷ pos 123 ∷ pos n ∷ pos 44 ∷ last ∷ []) =
-        simp append_assoc in
+    simp append_assoc in
     s ∙ ap (λ x. x ++ pos 44 ∷ last ∷ []) (r ∙ ap (λ x. x ++ pos 123 ∷ pos n ∷ [])
-        (q ∙ ap (λ x. x ++ pos 39 ∷ bytes ∷ []) p))
+    (q ∙ ap (λ x. x ++ pos 39 ∷ bytes ∷ []) p))
     ∙ shape
     ∙ ap (λ z. code ++ (pushes ++ pos 39 ∷ z ∷ pos 123 ∷ pos n ∷ pos 44 ∷ last ∷ [])) e
     ∙ ap (λ z. code ++ (pushes ++ pos 39 ∷ pos (4 * count) ∷ pos 123 ∷ pos n ∷ pos 44 ∷ z ∷ [])) f
@@ -65,7 +64,7 @@ pub native_fits : (e : held.Expr) (n : ℕ) (args : List Arg) → e ≡ held.Nat
     → FitsExpr (expr_view e) → (n < 2 ^ 31) × (4 * length args + 4 < 2 ^ 31)
 native_fits e n args is fits =
     let it = subst FitsExpr (ap expr_view is ∙ expr_view-Native n args) fits in
-        (it.0, omega (arith, count_is args, it.1))
+    (it.0, omega (arith, count_is args, it.1))
 
 pub block_code : {E : Type 0} (r : Result (Unit {0}) E) (code : List ℤ) (s : held_stmt.Stmt)
     (stmts : List held_stmt.Stmt) (new : List ℤ) → s ≡ held_stmt.Block stmts
@@ -85,7 +84,7 @@ pub fits_at : (stmts lent : List held_stmt.Stmt) (i : ℕ) (s d : held_stmt.Stmt
     → FitStmts (stmts_view stmts) → FitsStmt (stmt_view s)
 fits_at stmts lent i s d same within is fit =
     subst (λ it. FitsStmt (stmt_view it)) (sym is) (fits_in lent i d within
-        (subst (λ it. FitStmts (stmts_view it)) (sym same) fit))
+    (subst (λ it. FitStmts (stmts_view it)) (sym same) fit))
 
 -- what holds of all views holds of the view of one
 pub viewed : {X Y : Type 0} (P : X → Type 0) (f : Y → X) (ys lent : List Y) (i : ℕ) (y d : Y)

@@ -1,10 +1,10 @@
 -- The numbers of a straight program fit the cells of an instruction.
-use Rattle.std.proofs.Common.{◌≡◌, ◌+◌, ◌*◌, ◌^◌, ◌<◌, ◌≤◌, ℕ, List, [], ◌∷◌, All, length, sum_by, sym, ap, subst, arith, max}
+use Rattle.std.proofs.Common.{◌≡◌, ◌+◌, ◌*◌, ◌^◌, ◌<◌, ◌≤◌, ℕ, List, [], ◌∷◌, All, length, sum_by, sym, ap, subst, arith}
 use Rattle.std.proofs.lemmas.List.Sums.{sum_by-cons}
 use Rattle.std.proofs.lemmas.List.Elements.{All-cons, All-nil}
-use Rattle.pawn_program.specs.Program.{Expr, Const, Native, Arg, Value, Args, no_args, then_arg, Stmt, Block, Do, Exit, Stmts, no_stmts, then_stmt, Body, Function, Program}
+use Rattle.pawn_program.specs.Program.{Expr, Const, Native, Value, Args, no_args, then_arg, Stmt, Block, Do, Exit, Stmts, no_stmts, then_stmt, Body, Program}
 use Rattle.pawn_meaning.specs.Need.{count_of}
-use Rattle.pawn_meaning.specs.Weight.{expr_weight, args_weight, stmt_weight, stmts_weight, function_weight, weight}
+use Rattle.pawn_meaning.specs.Weight.{expr_weight, args_weight, stmt_weight, stmts_weight, function_weight}
 use Rattle.amx_ops.specs.declared.amx.Amx.{Amx}
 use Rattle.gen_agrees.specs.Agrees.{Agrees}
 use Rattle.gen_straight.specs.Code.{file_of}
@@ -41,21 +41,28 @@ module _ (natives : ℕ) (few : natives < 2 ^ 31) where
 
 names_count : (natives : List (List ℕ)) → length natives ≤ sum_by (λ name. length name + 9) natives
 names_count [] = omega arith
-names_count (name ∷ natives) = omega (arith, names_count natives, sum_by-cons
-    (λ name. length name + 9) name natives)
+names_count (name ∷ natives) = omega (
+  arith,
+  names_count natives,
+  sum_by-cons
+      (λ name. length name + 9) name natives,
+)
 
 pub program_fits : (program : Program) → IsStraight program → FitsProgram program
 program_fits program straight =
     let main = main_of straight.tag straight.stmts in
     let light : stmts_weight straight.stmts ≤ 33554432 =
-    omega (arith, ap (λ functions. sum_by function_weight functions) straight.functions,
-        straight.memory) in
+    omega (
+      arith,
+      ap (λ functions. sum_by function_weight functions) straight.functions,
+      straight.memory,
+    ) in
     let few : length program.natives < 2 ^ 31 =
-        omega (arith, names_count program.natives, straight.names_fit) in
+    omega (arith, names_count program.natives, straight.names_fit) in
     subst (All FitsFunction) (sym straight.functions)
     (All-cons FitsFunction main [] (All-cons (λ (body : Body). FitsStmt body.stmt) _ []
-        (stmts_fit (length program.natives) few straight.stmts straight.straight light) (All-nil
-        (λ (body : Body). FitsStmt body.stmt))) (All-nil FitsFunction))
+    (stmts_fit (length program.natives) few straight.stmts straight.straight light) (All-nil
+    (λ (body : Body). FitsStmt body.stmt))) (All-nil FitsFunction))
 
 -- the file of a straight program, as the generator meets it
 pub agrees_as : (program : Program) (amx : Amx) → IsStraight program → amx ≡ file_of program

@@ -1,6 +1,6 @@
 -- Programs whose numbers fit the cells of an instruction: those of natives, and the bytes of a
 -- call's arguments.
-use Rattle.std.specs.Prelude.{ℕ, ◌+◌, ◌*◌, ◌^◌, ◌<◌, All}
+use Rattle.std.specs.Prelude.{◌+◌, ◌*◌, ◌^◌, ◌<◌, All}
 use Rattle.pawn_program.specs.Program.{Expr, Const, Native, Stmt, Block, Do, Exit, Stmts, no_stmts, then_stmt, Body, Function, Program}
 use Rattle.pawn_meaning.specs.Need.{count_of}
 use Rattle.gen_straight.specs.declared.instruction.Instruction.{Instruction}

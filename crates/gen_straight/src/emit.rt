@@ -37,7 +37,7 @@ fn emit_call(native: u32, args: &List<Arg>, code: &mut Cells) -> Result<(), Memo
     requires count { 4 * length args.now + 4 < 2 ^ 31 }
     ensures { OnOk result (code.new ≡
         code.old ++ code_of.cells_of
-            (code_of.expr_code (node.Native native (view.args_view args.now)))) }
+        (code_of.expr_code (node.Native native (view.args_view args.now)))) }
 {
     emit_args(args.as_slice(), code)?;
     let bytes = (4 * args.len()) as i32;

@@ -1,5 +1,5 @@
 -- A reply that was told, written or cut off, ends the call.
-use Rattle.std.proofs.Common.{◌≡◌, ◌∙◌, ◌++◌, ℕ, pos, List, [], Option, None, Some, Result, Ok, Err, refl, sym, ap, subst}
+use Rattle.std.proofs.Common.{◌≡◌, ◌∙◌, ◌++◌, ℕ, pos, List, [], Option, None, Some, Result, Ok, Err, ap}
 use Rattle.pawn_outside.specs.declared.fault.SinkFault.{SinkFault}
 use Rattle.pawn_outside.specs.Said.{Said}
 use Rattle.host_script.specs.Script.{plain}
@@ -41,13 +41,28 @@ module _ {command : Option Command} {met : Met} {wrote : Wrote} where
 pub told : {S : Type 0} {taken : S → Option (List ℕ)} {faults : S → ℕ} {has_room : S → ℕ
     → Type 0} {old new : S} {text : List ℕ}
     (command : Option Command) (met : Met) (s : Status) (result : Result (Unit {0}) SinkFault)
-        → Reply command met s text → Said taken faults has_room old new text result
-    → Ends command met (record { taken = taken old; after = taken new; faults =
-    faults old; faults_after = faults new }) (status_told s result)
-told {text = text} command met s (Ok done) reply said = whole s (record { text = text; reply =
-    reply; written = said.whole })
-told {text = text} command met s (Err fault) reply said = record { status = s; text =
-    text; reply = reply; front = said.front; rose = said.cause }
+    → Reply command met s text → Said taken faults has_room old new text result
+    → Ends command met (record {
+      taken = taken old;
+      after = taken new;
+      faults =
+          faults old;
+      faults_after = faults new;
+    }) (status_told s result)
+told {text = text} command met s (Ok done) reply said = whole s (record {
+  text = text;
+  reply =
+      reply;
+  written = said.whole;
+})
+told {text = text} command met s (Err fault) reply said = record {
+  status = s;
+  text =
+      text;
+  reply = reply;
+  front = said.front;
+  rose = said.cause;
+}
 
 -- ---- a file that was put, and its run
 

@@ -1,5 +1,5 @@
 -- The file of a source: it can be written and agrees with the source's program, and its run ends as that does.
-use Rattle.std.proofs.Common.{◌≡◌, ℕ, pos, List, [], Some, length, map, slice_get, option_and_then, refl, sym, ap, ap₂, subst, ◌∙◌}
+use Rattle.std.proofs.Common.{◌≡◌, ℕ, pos, List, Some, length, map, slice_get, option_and_then, sym, ap, ap₂, subst, ◌∙◌}
 use Rattle.pawn_program.specs.Program.{Function}
 use Rattle.amx_ops.specs.declared.amx.Amx.{Amx}
 use Rattle.amx_ops.specs.Valid.{IsValid}

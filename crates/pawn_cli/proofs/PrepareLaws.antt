@@ -53,7 +53,7 @@ module _ {bytes : List ℕ} (given : (source : List ℕ)
       (map (λ it. it.address) ready.publics)) → b ≡ false → ⊥
   must_be_valid ready b same told is =
       true≢false (sym (told.1 (subst (λ (it : Amx). IsValid it.code (length it.natives) it.entry
-          (map (λ it. it.address) it.publics)) (sym same) (valid has))) ∙ is)
+      (map (λ it. it.address) it.publics)) (sym same) (valid has))) ∙ is)
 
   room_of_read : (amx : Amx) → amx ≡ read → amx.room ≡ 4096
   room_of_read amx same = ap (λ (a : Amx). a.room) (same ∙ has.amx_is) ∙ room_is has
@@ -70,9 +70,9 @@ module _ {bytes : List ℕ} (given : (source : List ℕ)
       × (state ≡ (started ready 4096 ready.entry).state)
   starts ready amx entry state same lent at e =
       let main : ready.entry ≡ pos 8 = ap (λ (a : Amx). a.entry) (same ∙ has.amx_is)
-          ∙ entry_is has in
+      ∙ entry_is has in
       let place : cell_of entry ≡ ready.entry =
-          ap cell_of (at ∙ ap (λ z. bits_of (to_z w32 (of_z w32 z))) main) ∙ sym main in (
+      ap cell_of (at ∙ ap (λ z. bits_of (to_z w32 (of_z w32 z))) main) ∙ sym main in (
         subst (IsFile bytes) (sym same) file,
         e ∙ ap₂ (λ (a : Amx) n. (started a n (cell_of entry)).state) lent (room_of_read amx
             (lent ∙ same)) ∙ ap (λ z. (started ready 4096 z).state) place,
@@ -93,9 +93,11 @@ prepared amx state command met source bytes (Ok ready) reads given puts started 
   puts = puts;
   starts = started.1;
 }
-prepared amx state command met source bytes (Err NoMemory) reads given puts started =
-    (refl, ap (λ held. without held command.amx) puts
-    ∙ without-with_put met.held command.amx bytes)
+prepared amx state command met source bytes (Err NoMemory) reads given puts started = (
+  refl,
+  ap (λ held. without held command.amx) puts
+      ∙ without-with_put met.held command.amx bytes,
+)
 prepared amx state command met source bytes (Err FileFault) reads given puts started =
     absurd started
 prepared amx state command met source bytes (Err NoFile) reads given puts started = absurd started
@@ -109,12 +111,22 @@ pub prepared_by : {T : Type 0} (amx : T → Amx) (state : T
     → mid ≡ held → Tells held command.source (Some source) × (length source ≤ source_limit)
     → lent ≡ source → IsBytesOf lent bytes → put_ ≡ bytes → after ≡ with_put mid command.amx put_
     → started_ ≡ bytes → IsStarted amx state started_ result
-    → IsPrepared amx state command (record { held = held; after = after; faults =
-    faults; faults_after = faults_after }) result
+    → IsPrepared amx state command (record {
+      held = held;
+      after = after;
+      faults =
+          faults;
+      faults_after = faults_after;
+    }) result
 prepared_by amx state command held mid after faults faults_after source lent bytes put_ started_
     result same tells is given is_put puts is_started start =
-    prepared amx state command (record { held = held; after = after; faults =
-        faults; faults_after = faults_after }) source bytes result tells
+    prepared amx state command (record {
+      held = held;
+      after = after;
+      faults =
+          faults;
+      faults_after = faults_after;
+    }) source bytes result tells
     (subst (λ s. IsBytesOf s bytes) is given)
     (puts ∙ ap (λ h. with_put h command.amx put_) same ∙ ap (with_put held command.amx) is_put)
     (subst (λ b. IsStarted amx state b result) is_started start)

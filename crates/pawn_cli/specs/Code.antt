@@ -15,4 +15,4 @@ abbrev pub IsFirst : ℕ → List ℤ → Option ℕ → Type 0
 IsFirst natives cells None = (at : ℕ) → ¬ IsCodeAt natives at cells
 IsFirst natives cells (Some size) =
     (1 ≤ size) × (size ≤ length cells) × ((at : ℕ)
-        → (IsCodeAt natives (at + 4 * size) (drop size cells) ↔ IsCodeAt natives at cells))
+    → (IsCodeAt natives (at + 4 * size) (drop size cells) ↔ IsCodeAt natives at cells))

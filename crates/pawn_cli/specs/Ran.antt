@@ -11,5 +11,7 @@ pub record Ran (move : Config → Moved Config End) (steps so_far : ℕ) (old no
     (said : List ℕ → Type 0) : Type 0 where
   pub shown : List Event
   pub text : said (text_of shown)
-  pub runs : (c : Config) → segment move steps 0 (record c { state =
-      old }) ≡ segment move (steps - so_far) so_far (after c now shown)
+  pub runs : (c : Config) → segment move steps 0 (record c {
+    state =
+        old;
+  }) ≡ segment move (steps - so_far) so_far (after c now shown)

@@ -83,7 +83,7 @@ Reply (Some command) met Refused text = IsRefused command met text
 Reply None met BadWords text = (text ≡ codes "bad words\n") × (met.after ≡ met.held)
 Reply (Some command) met NoFile text =
     Tells met.held command.source None × (text ≡ codes "no file " ++
-        (command.source ++ codes "\n")) × (met.after ≡ met.held)
+    (command.source ++ codes "\n")) × (met.after ≡ met.held)
 Reply (Some command) met TooLarge text =
     HoldsThat met.held command.source (λ bytes. source_limit < length bytes)
     × (text ≡ codes "too large " ++ (command.source ++ codes "\n")) × (met.after ≡ met.held)

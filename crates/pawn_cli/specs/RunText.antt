@@ -12,8 +12,12 @@ use Rattle.pawn_cli.specs.Reply.{step_limit}
 
 -- the first segment, under the plain script
 abbrev pub run_of : Amx → State → Segmented Config End
-run_of amx state = segment (move amx plain) step_limit 0 (record { state = state; position =
-    0; events = [] })
+run_of amx state = segment (move amx plain) step_limit 0 (record {
+  state = state;
+  position =
+      0;
+  events = [];
+})
 
 abbrev pub stop_text : Stop End → List ℕ
 stop_text Steps = []

@@ -1,6 +1,6 @@
 -- The view of a node that holds a list is made of the list's views.
 use mathlib.Core.Former.{Count}
-use Rattle.std.proofs.Common.{◌≡◌, ℕ, List, [], ◌∷◌, refl, ap, rules}
+use Rattle.std.proofs.Common.{◌≡◌, ℕ, List, refl, ap, rules}
 use Rattle.pawn_program.specs.Program as plain
 use Rattle.pawn_program.specs.View.{expr_view, arg_view, args_row_view, args_view, stmt_view, stmts_row_view, stmts_view}
 use Rattle.pawn_program.specs.declared.node.Arg.{Arg}

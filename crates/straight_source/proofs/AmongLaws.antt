@@ -1,12 +1,12 @@
 -- Names among others: in lists that grow, and in those that are left of some.
-use Rattle.std.proofs.Common.{◌≡◌, ◌+◌, ◌<◌, ℕ, zero, suc, List, [], ◌∷◌, ◌++◌, Bool, true, false, ◌||◌, not, cond, nat_lt, if◌then◌else◌, All, Option, None, Some, filter, length, map, take, get_or, position, refl, sym, ap, ap₂, subst, ◌∙◌, true≢false, arith}
-use Rattle.std.specs.List.{list_any, position_or_len}
+use Rattle.std.proofs.Common.{◌≡◌, ◌+◌, ◌<◌, ℕ, suc, List, [], ◌∷◌, ◌++◌, Bool, true, false, ◌||◌, not, cond, nat_lt, if◌then◌else◌, None, Some, length, take, get_or, position, refl, sym, ap, ◌∙◌, true≢false, arith}
+use Rattle.std.specs.List.{position_or_len}
 use Rattle.std.specs.Str.{bytes_eq}
-use Rattle.std.specs.Cmp.Lexicographic.{bytes_decides, nat_list_eq_equiv}
+use Rattle.std.specs.Cmp.Lexicographic.{bytes_decides}
 use Rattle.std.proofs.lemmas.List.{take_more, map-append}
 use Rattle.std.proofs.lemmas.Bool.{ltb-true, lt-ltb}
 use Rattle.straight_source.specs.declared.form.Call.{Call}
-use Rattle.straight_source.specs.Names.{AreDistinct, is_among}
+use Rattle.straight_source.specs.Names.{is_among}
 use Rattle.straight_source.specs.Numbered.{with_name}
 use Rattle.straight_source.specs.Means.{names_called}
 
@@ -53,9 +53,9 @@ pub called_more : (names more : List (List ℕ)) (calls : List Call) (i : ℕ) (
     → is_among q more ≡ is_among q (names_called (take (i + 1) calls))
 called_more names more calls i lent call so_far within is same added q =
     let grown : take (i + 1) calls ≡ take i calls ++ call ∷ [] = take_more calls i call within
-        ∙ ap (λ w. take i calls ++ w ∷ []) (sym is) in
+    ∙ ap (λ w. take i calls ++ w ∷ []) (sym is) in
     ap (is_among q) added ∙ added_among q lent names
-        ∙ ap (λ n. is_among q (names ++ n ∷ [])) same ∙ among_append q names (call.name ∷ [])
+    ∙ ap (λ n. is_among q (names ++ n ∷ [])) same ∙ among_append q names (call.name ∷ [])
     ∙ ap (λ b. b || is_among q (call.name ∷ [])) (so_far q)
     ∙ sym (among_append q (names_called (take i calls)) (call.name ∷ []))
     ∙ ap (is_among q) (sym (map-append (λ (it : Call). it.name) (take i calls) (call ∷ []))
@@ -101,8 +101,8 @@ not_placed q names none = by (is_among q names) refl
     by : (b : Bool) → is_among q names ≡ b → b ≡ false
     by true e =
         let here : position (bytes_eq q) names ≡ Some (position_or_len (bytes_eq q) names) =
-            ap (λ t. cond t (Some (position_or_len (bytes_eq q) names)) None)
-            (decided q names true e) in
+        ap (λ t. cond t (Some (position_or_len (bytes_eq q) names)) None)
+        (decided q names true e) in
         absurd (no_place _ (none ∙ here))
       where
         no_place : (n : ℕ) → None ≡ Some n → ⊥
@@ -122,7 +122,10 @@ placed q names place some = by (is_among q names) refl
 
     by : (b : Bool) → is_among q names ≡ b → (place ≡ position_or_len (bytes_eq q) names)
         × (b ≡ true)
-    by true e = (same _ _ (some ∙ ap (λ t. cond t (Some (position_or_len
-        (bytes_eq q) names)) None) (decided q names true e)), refl)
+    by true e = (
+      same _ _ (some ∙ ap (λ t. cond t (Some (position_or_len
+          (bytes_eq q) names)) None) (decided q names true e)),
+      refl,
+    )
     by false e = absurd (apart _ (some ∙ ap (λ t. cond t (Some (position_or_len
         (bytes_eq q) names)) None) (decided q names false e)))

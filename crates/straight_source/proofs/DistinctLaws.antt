@@ -1,9 +1,9 @@
 -- Names that differ, one by one.
-use Rattle.std.proofs.Common.{◌≡◌, ◌+◌, ◌<◌, ◌↔◌, ℕ, suc, List, [], ◌∷◌, ◌++◌, Bool, true, false, ◌||◌, not, cond, if◌then◌else◌, All, IsTrue, filter, length, take, drop, get_or, refl, sym, ap, ap₂, subst, ◌∙◌, true≢false, arith, take-append-drop}
+use Rattle.std.proofs.Common.{◌≡◌, ◌+◌, ◌<◌, ℕ, suc, List, [], ◌∷◌, ◌++◌, Bool, true, false, ◌||◌, not, if◌then◌else◌, All, length, take, drop, get_or, refl, sym, ap, ap₂, subst, ◌∙◌, true≢false, take-append-drop}
 use Rattle.std.specs.Str.{bytes_eq}
-use Rattle.std.specs.Cmp.Lexicographic.{bytes_decides, nat_list_eq_equiv}
+use Rattle.std.specs.Cmp.Lexicographic.{nat_list_eq_equiv}
 use Rattle.std.proofs.lemmas.List.{take_more}
-use Rattle.std.proofs.lemmas.List.Elements.{All-push, All-nil, All-get_or}
+use Rattle.std.proofs.lemmas.List.Elements.{All-push}
 use Rattle.std.proofs.Math.Seq.{drop-cons}
 use Rattle.straight_source.specs.Names.{AreDistinct, IsName, is_among}
 use Rattle.straight_source.specs.Numbered.{with_name, AreChecked}
@@ -41,7 +41,7 @@ pub distinct_before : (names : List (List ℕ)) (y : List ℕ) (rest : List (Lis
 distinct_before [] y rest d = refl
 distinct_before (n ∷ names) y rest d =
     ap (λ b. b || is_among y names) (flips y n ∙ among_no n names y rest d.0)
-        ∙ distinct_before names y rest d.1
+    ∙ distinct_before names y rest d.1
 
 -- among the first ones, as a loop meets them
 pub distinct_at : (names : List (List ℕ)) (i : ℕ) (y : List ℕ) → i < length names
@@ -49,7 +49,7 @@ pub distinct_at : (names : List (List ℕ)) (i : ℕ) (y : List ℕ) → i < len
 distinct_at names i y within is d =
     let cut : names ≡ take i names ++ y ∷ drop (suc i) names =
     sym (take-append-drop i names) ∙ ap (λ l. take i names ++ l) (drop-cons names i y within
-        ∙ ap (λ x. x ∷ drop (suc i) names) (sym is)) in
+    ∙ ap (λ x. x ∷ drop (suc i) names) (sym is)) in
     distinct_before (take i names) y (drop (suc i) names) (subst AreDistinct cut d)
 
 -- a name that is added
@@ -72,9 +72,9 @@ pub checked_more : (names more words : List (List ℕ)) (i : ℕ) (lent word : L
     → more ≡ with_name names lent → AreChecked more words (i + 1)
 checked_more names more words i lent word b so_far within is same good told new added =
     let grown : take (i + 1) words ≡ take i words ++ word ∷ [] = take_more words i word within
-        ∙ ap (λ w. take i words ++ w ∷ []) (sym is) in
+    ∙ ap (λ w. take i words ++ w ∷ []) (sym is) in
     let none : is_among word names ≡ false = ap (λ w. is_among w names) (sym same)
-        ∙ was_new b (is_among lent names) told new in
+    ∙ was_new b (is_among lent names) told new in
     record {
       so_far = added_new names more word none (added ∙ ap (with_name names) same)
           ∙ ap (λ l. l ++ word ∷ []) so_far.so_far ∙ sym grown;
@@ -89,7 +89,7 @@ pub not_distinct : (names words : List (List ℕ)) (i : ℕ) (lent word : List �
     → lent ≡ word → b ≡ not (is_among lent names) → b ≡ false → AreDistinct words → ⊥
 not_distinct names words i lent word b so_far within is same told old d =
     true≢false (sym (was_old b (is_among lent names) told old) ∙ ap₂ is_among same so_far.so_far
-        ∙ distinct_at words i word within is d)
+    ∙ distinct_at words i word within is d)
 
 -- one more of names that differ
 pub numbered_more : (names more words : List (List ℕ)) (i : ℕ) (lent word : List ℕ)
@@ -97,7 +97,7 @@ pub numbered_more : (names more words : List (List ℕ)) (i : ℕ) (lent word : 
     → lent ≡ word → AreDistinct words → more ≡ with_name names lent → more ≡ take (i + 1) words
 numbered_more names more words i lent word so_far within is same d added =
     let none : is_among word names ≡ false = ap (is_among word) so_far
-        ∙ distinct_at words i word within is d in
+    ∙ distinct_at words i word within is d in
     added_new names more word none (added ∙ ap (with_name names) same)
-        ∙ ap (λ l. l ++ word ∷ []) so_far
+    ∙ ap (λ l. l ++ word ∷ []) so_far
     ∙ sym (take_more words i word within ∙ ap (λ w. take i words ++ w ∷ []) (sym is))

@@ -1,5 +1,5 @@
 -- The statements of calls, one by one.
-use Rattle.std.proofs.Common.{◌≡◌, ◌+◌, ◌<◌, ◌^◌, ℕ, List, [], ◌∷◌, ◌++◌, Bool, true, false, All, Option, None, Some, length, map, take, get_or, position, refl, sym, ap, subst, ◌∙◌, true≢false, arith}
+use Rattle.std.proofs.Common.{◌≡◌, ◌+◌, ◌<◌, ℕ, List, [], ◌∷◌, ◌++◌, true, None, Some, length, take, get_or, position, sym, ap, subst, ◌∙◌, true≢false}
 use Rattle.std.specs.List.{position_or_len}
 use Rattle.std.specs.Str.{bytes_eq}
 use Rattle.std.proofs.lemmas.List.{take_more, map-append}
@@ -15,10 +15,10 @@ module _ (natives : List (List ℕ)) (calls : List Call) (i : ℕ) (lent : List 
   pub call_lost : None ≡ position (bytes_eq lent) natives → AreFound natives calls → ⊥
   call_lost none found =
       let there : is_among call.name natives ≡ true =
-          subst (λ (it : Call). is_among it.name natives ≡ true) (sym is) (All-get_or
-          (λ (it : Call). is_among it.name natives ≡ true) calls i call within found) in
+      subst (λ (it : Call). is_among it.name natives ≡ true) (sym is) (All-get_or
+      (λ (it : Call). is_among it.name natives ≡ true) calls i call within found) in
       true≢false (sym there ∙ ap (λ n. is_among n natives) (sym same)
-          ∙ not_placed lent natives none)
+      ∙ not_placed lent natives none)
 
   pub call_found : (stmts more : List stmt.Stmt) (held : stmt.Stmt) (place : ℕ)
       → AreSoFar natives calls i stmts → Some place ≡ position (bytes_eq lent) natives
@@ -27,7 +27,7 @@ module _ (natives : List (List ℕ)) (calls : List Call) (i : ℕ) (lent : List 
   call_found stmts more held place so_far some made added =
       let it = placed lent natives place some in
       let grown : take (i + 1) calls ≡ take i calls ++ call ∷ [] = take_more calls i call within
-          ∙ ap (λ w. take i calls ++ w ∷ []) (sym is) in
+      ∙ ap (λ w. take i calls ++ w ∷ []) (sym is) in
       record {
         found = subst (AreFound natives) (sym grown) (All-push
             (λ (it : Call). is_among it.name natives ≡ true) (take i calls) call so_far.found

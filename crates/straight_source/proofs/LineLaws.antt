@@ -1,5 +1,5 @@
 -- What can't stand where a line was looked for in vain.
-use Rattle.std.proofs.Common.{◌≡◌, ◌≢◌, ◌^◌, ◌<◌, ◌≤◌, ℕ, List, [], ◌∷◌, ◌++◌, Option, None, Some, false, true, codes, length, refl, sym, ap, ◌∙◌, true≢false, append_assoc, arith, rules}
+use Rattle.std.proofs.Common.{◌≡◌, ◌≢◌, ◌^◌, ◌<◌, ℕ, List, [], ◌∷◌, ◌++◌, Option, None, Some, true, codes, refl, sym, ap, ◌∙◌, append_assoc, arith, rules}
 use Rattle.std.specs.Fmt.{decimal}
 use Rattle.std.specs.List.{list_all}
 use Rattle.std.proofs.lemmas.Str.Parse.{numerals_by_value}
@@ -28,9 +28,9 @@ pub no_native : (bytes rest run tail : List ℕ) → bytes ≡ codes "native " +
     → bytes ≢ native_line name ++ x
 no_native bytes rest run tail e is none name x word same =
     let shape : native_line name ++ x ≡ codes "native " ++ (name ++ 40 ∷ (codes "v);\n" ++ x)) =
-        ap (λ l. codes "native " ++ l) (append_assoc name (codes "(v);\n") x) in
+    ap (λ l. codes "native " ++ l) (append_assoc name (codes "(v);\n") x) in
     let behind = same_tail bytes (codes "native ") rest (name ++ 40 ∷ (codes "v);\n" ++ x)) e
-        (same ∙ shape) in
+    (same ∙ shape) in
     none x (run_is is_word_byte rest run tail name 40 (codes "v);\n" ++ x) is word refl behind).1
 
 -- ---- calls
@@ -39,7 +39,7 @@ pub call_shape : (call : Call) (x : List ℕ) → call_line call ++ x ≡ codes 
     (call.name ++ 40 ∷ (decimal call.number ++ 41 ∷ (codes ";\n" ++ x)))
 call_shape call x = ap (λ l. codes "  " ++ l)
     (append_assoc call.name (codes "(" ++ (decimal call.number ++ codes ");\n")) x
-        ∙ ap (λ l. call.name ++ 40 ∷ l) (append_assoc (decimal call.number) (codes ");\n") x))
+    ∙ ap (λ l. call.name ++ 40 ∷ l) (append_assoc (decimal call.number) (codes ");\n") x))
 
 call_name : (bytes rest run tail : List ℕ) → bytes ≡ codes "  " ++ rest
     → IsRun is_word_byte rest run tail
@@ -47,7 +47,7 @@ call_name : (bytes rest run tail : List ℕ) → bytes ≡ codes "  " ++ rest
     → tail ≡ 40 ∷ (decimal call.number ++ 41 ∷ (codes ";\n" ++ x))
 call_name bytes rest run tail e is call x good same =
     (run_is is_word_byte rest run tail call.name 40 _ is good.name refl (same_tail bytes
-        (codes "  ") rest _ e (same ∙ call_shape call x))).1
+    (codes "  ") rest _ e (same ∙ call_shape call x))).1
 
 pub no_call_name : (bytes rest run tail : List ℕ) → bytes ≡ codes "  " ++ rest
     → IsRun is_word_byte rest run tail
@@ -67,7 +67,7 @@ call_number : (bytes rest run tail next digits behind : List ℕ) → bytes ≡ 
     → (digits ≡ decimal call.number) × (behind ≡ codes ");\n" ++ x)
 call_number bytes rest run tail next digits behind e is f js call x good same =
     run_is is_digit next digits behind (decimal call.number) 41 (codes ";\n" ++ x) js
-        (decimal_digits call.number good.number) refl
+    (decimal_digits call.number good.number) refl
     (same_tail tail (codes "(") next _ f (call_name bytes rest run tail e is call x good same))
 
 pub no_call_end : (bytes rest run tail next digits behind : List ℕ) → bytes ≡ codes "  " ++ rest
@@ -85,7 +85,7 @@ pub no_call_number : (bytes rest run tail next digits behind : List ℕ)
     → (call : Call) (x : List ℕ) → IsCall call → bytes ≢ call_line call ++ x
 no_call_number bytes rest run tail next digits behind e is f js none call x good same =
     none call.number good.number (call_number bytes rest run tail next digits behind e is f js
-        call x good same).0
+    call x good same).0
 
 -- ---- the end
 
@@ -99,8 +99,8 @@ end_number : (bytes rest digits behind : List ℕ) → bytes ≡ codes "  exit "
     × (behind ≡ codes ";\n}\n")
 end_number bytes rest digits behind e js n small same =
     run_is is_digit rest digits behind (decimal n) 59 (codes "\n}\n") js
-        (decimal_digits n small) refl (same_tail bytes (codes "  exit ") rest _ e
-        (same ∙ end_shape n))
+    (decimal_digits n small) refl (same_tail bytes (codes "  exit ") rest _ e
+    (same ∙ end_shape n))
 
 pub no_end : (bytes rest digits behind : List ℕ) → (bytes ≢ codes "}\n")
     → bytes ≡ codes "  exit " ++ rest → IsRun is_digit rest digits behind

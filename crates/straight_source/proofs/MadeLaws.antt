@@ -1,11 +1,10 @@
 -- A program that was made from the parts of a source.
-use Rattle.std.proofs.Common.{◌≡◌, ◌+◌, ◌<◌, ◌≤◌, ◌^◌, ◌↔◌, ℕ, zero, suc, pos, List, [], ◌∷◌, ◌++◌, Bool, true, false, ◌||◌, cond, if◌then◌else◌, All, IsTrue, Option, None, Some, Result, Ok, Err, IfOk, filter, length, map, get_or, refl, sym, ap, ap₂, subst, ◌∙◌, true≢false, arith}
+use Rattle.std.proofs.Common.{◌≡◌, ◌<◌, ◌≤◌, ◌^◌, ◌↔◌, ℕ, zero, suc, pos, List, [], ◌∷◌, ◌++◌, Bool, true, false, ◌||◌, cond, All, IsTrue, Option, None, Some, Result, Ok, Err, IfOk, filter, length, get_or, refl, sym, ap, ap₂, subst, ◌∙◌, true≢false, arith}
 use Rattle.std.specs.List.{position_or_len}
 use Rattle.std.specs.Str.{bytes_eq}
 use Rattle.std.specs.Cmp.Lexicographic.{bytes_decides}
-use Rattle.std.proofs.lemmas.List.Elements.{All-get_or, All-from_get_or, All-head, All-tail, All-nil, All-cons}
 use Rattle.pawn_program.specs.Program as node
-use Rattle.pawn_program.specs.View.{stmt_view, stmts_view, function_view, program_view}
+use Rattle.pawn_program.specs.View.{stmts_view, program_view}
 use Rattle.pawn_program.specs.declared.node.Expr as expr
 use Rattle.pawn_program.specs.declared.node.Arg as arg
 use Rattle.pawn_program.specs.declared.node.Stmt as stmt
@@ -19,11 +18,11 @@ use Rattle.pawn_program.specs.declared.program.Program as program
 use Rattle.pawn_program.proofs.ViewLaws.{expr_view-Native, stmt_view-Block}
 use Rattle.straight_source.specs.declared.form.Form.{Form}
 use Rattle.straight_source.specs.declared.form.Call.{Call}
-use Rattle.straight_source.specs.Names.{AreDistinct, IsName, IsWord, is_among}
-use Rattle.straight_source.specs.Parts.{IsCall, IsSpelled}
-use Rattle.straight_source.specs.Means.{IsForm, names_called, natives_called, call_of, exit_of, stmts_of, with_main, program_of}
+use Rattle.straight_source.specs.Names.{AreDistinct, IsName, is_among}
+use Rattle.straight_source.specs.Parts.{IsSpelled}
+use Rattle.straight_source.specs.Means.{IsForm, names_called, natives_called, exit_of, stmts_of, with_main}
 use Rattle.straight_source.proofs.DistinctLaws.{either}
-use Rattle.straight_source.specs.Held.{held_call, held_exit, held_calls, AreFound, AreCalls, AreStatements, IsMade}
+use Rattle.straight_source.specs.Held.{held_exit, held_calls, AreFound, AreCalls, AreStatements, IsMade}
 
 -- ---- the natives that are called
 
@@ -48,8 +47,8 @@ pub called_as : {E : Type 0} (r : Result (List (List ℕ)) E) (form : Form) (cal
     → IfOk r (λ list. list ≡ natives_called form)
 called_as (Ok list) form calls natives names c same n is =
     called_is form names list (λ name. same name
-        ∙ ap (λ it. is_among name (names_called it)) c) (is ∙ ap (filter
-        (λ name. is_among name names)) n)
+    ∙ ap (λ it. is_among name (names_called it)) c) (is ∙ ap (filter
+    (λ name. is_among name names)) n)
 called_as (Err fault) form calls natives names c same n is = is
 
 module _ (p : List ℕ → Bool) where
@@ -58,7 +57,7 @@ module _ (p : List ℕ → Bool) where
   among_filter q [] e = refl
   among_filter q (n ∷ names) e =
       let it = either (bytes_eq q n) (is_among q names) e in
-          by (p n) it.0 (among_filter q names it.1)
+      by (p n) it.0 (among_filter q names it.1)
     where
       by : (b : Bool) → bytes_eq q n ≡ false → is_among q (filter p names) ≡ false
           → is_among q (cond b (n ∷ filter p names) (filter p names)) ≡ false
@@ -94,8 +93,8 @@ pub stmts_views : (natives : List (List ℕ)) (calls : List Call) (exit : Option
 stmts_views natives [] exit = exit_views exit
 stmts_views natives (call ∷ calls) exit =
     ap₂ (λ e rest. node.then_stmt (node.Do e) rest) (expr_view-Native (position_or_len
-        (bytes_eq call.name) natives) (arg.Value (expr.Const (pos call.number)) ∷ []))
-        (stmts_views natives calls exit)
+    (bytes_eq call.name) natives) (arg.Value (expr.Const (pos call.number)) ∷ []))
+    (stmts_views natives calls exit)
 
 -- as code meets them
 module _ (made : Option (List stmt.Stmt)) (numbers natives : List (List ℕ))
@@ -120,29 +119,75 @@ module _ (made : Option (List stmt.Stmt)) (numbers natives : List (List ℕ))
 pub main_is : (natives : List (List ℕ)) (stmts : List stmt.Stmt) (slots params : List slot.Slot)
     (no_bodies bodies : List body.Body) (no_functions functions : List function.Function)
     (automata : List automaton.Automaton) (tags : List tag.Tag) (publics : List item.Public)
-        → slots ≡ [] → params ≡ [] → no_bodies ≡ [] → no_functions ≡ []
+    → slots ≡ [] → params ≡ [] → no_bodies ≡ [] → no_functions ≡ []
     → bodies ≡ no_bodies ++ record { slots = slots; stmt = stmt.Block stmts } ∷ []
-    → functions ≡ no_functions ++ record { params = params; tag = 0; dispatch = None; bodies =
-    bodies } ∷ []
+    → functions ≡ no_functions ++ record {
+      params = params;
+      tag = 0;
+      dispatch = None;
+      bodies =
+          bodies;
+    } ∷ []
     → automata ≡ [] → tags ≡ [] → publics ≡ []
-    → program_view (record { functions = functions; natives = natives; automata =
-    automata; tags = tags; publics = publics; entry = Some 0; dynamic =
-    pos 4096 }) ≡ with_main natives (stmts_view stmts)
+    → program_view (record {
+      functions = functions;
+      natives = natives;
+      automata =
+          automata;
+      tags = tags;
+      publics = publics;
+      entry = Some 0;
+      dynamic =
+          pos 4096;
+    }) ≡ with_main natives (stmts_view stmts)
 main_is natives stmts slots params no_bodies bodies no_functions functions automata tags publics
     s p nb nf b f a t u =
     let one : bodies ≡ record { slots = []; stmt = stmt.Block stmts } ∷ [] = b
-        ∙ ap (λ l. l ++ record { slots = slots; stmt = stmt.Block stmts } ∷ []) nb
-        ∙ ap (λ it. record { slots = it; stmt = stmt.Block stmts } ∷ []) s in
-    let all : functions ≡ record { params = []; tag = 0; dispatch = None; bodies =
-        record { slots = []; stmt = stmt.Block stmts } ∷ [] } ∷ [] =
-    f ∙ ap (λ l. l ++ record { params = params; tag = 0; dispatch = None; bodies =
-        bodies } ∷ []) nf ∙ ap₂ (λ x y. record { params = x; tag = 0; dispatch = None; bodies =
-        y } ∷ []) p one in
-    (λ i. program_view (record { functions = all i; natives = natives; automata = a i; tags =
-        t i; publics = u i; entry = Some 0; dynamic = pos 4096 }))
-    ∙ ap (λ it. record (with_main natives (stmts_view stmts)) { functions = record { params =
-    []; tag = 0; dispatch = None; bodies = record { slots = []; stmt =
-    it } ∷ [] } ∷ [] }) (stmt_view-Block stmts)
+    ∙ ap (λ l. l ++ record { slots = slots; stmt = stmt.Block stmts } ∷ []) nb
+    ∙ ap (λ it. record { slots = it; stmt = stmt.Block stmts } ∷ []) s in
+    let all : functions ≡ record {
+      params = [];
+      tag = 0;
+      dispatch = None;
+      bodies =
+          record { slots = []; stmt = stmt.Block stmts } ∷ [];
+    } ∷ [] =
+    f ∙ ap (λ l. l ++ record {
+      params = params;
+      tag = 0;
+      dispatch = None;
+      bodies =
+          bodies;
+    } ∷ []) nf ∙ ap₂ (λ x y. record {
+      params = x;
+      tag = 0;
+      dispatch = None;
+      bodies =
+          y;
+    } ∷ []) p one in
+    (λ i. program_view (record {
+      functions = all i;
+      natives = natives;
+      automata = a i;
+      tags =
+          t i;
+      publics = u i;
+      entry = Some 0;
+      dynamic = pos 4096;
+    }))
+    ∙ ap (λ it. record (with_main natives (stmts_view stmts)) {
+      functions = record {
+        params =
+            [];
+        tag = 0;
+        dispatch = None;
+        bodies = record {
+          slots = [];
+          stmt =
+              it;
+        } ∷ [];
+      } ∷ [];
+    }) (stmt_view-Block stmts)
 
 -- ---- no source, or one
 
@@ -204,32 +249,37 @@ module _ (form : Form) (lent natives : List (List ℕ)) (is_good : Bool) (true_i
 
   module _ (names : List (List ℕ)) (lends : names ≡ natives) (is : natives ≡ natives_called form)
       (stmts : Option (List stmt.Stmt)) (are : AreStatements names form.calls form.exit stmts)
-      where
-    pub no_source : stmts ≡ None → IsForm form → ⊥
-    no_source none form_good =
-        subst (AreStatements names form.calls form.exit) none are
-            (subst (λ it. AreFound it form.calls) (sym (lends
-            ∙ is)) ((found_both form).1 form_good.declared))
+    where
+      pub no_source : stmts ≡ None → IsForm form → ⊥
+      no_source none form_good =
+          subst (AreStatements names form.calls form.exit) none are
+          (subst (λ it. AreFound it form.calls) (sym (lends
+          ∙ is)) ((found_both form).1 form_good.declared))
 
-    pub is_source : (some : List stmt.Stmt) (made : program.Program) → stmts ≡ Some some
-        → IsSpelled form → length form.calls ≤ 10000
-        → program_view made ≡ with_main natives (stmts_view some) → IsMade form (Some made)
-    is_source some made e spelled few view =
-        let it = subst (AreStatements names form.calls form.exit) e are in (
-          record {
-            names = names_are.0;
-            differ = names_are.1;
-            declared = (found_both form).0 (subst (λ names. AreFound names form.calls) (lends
-                ∙ is) it.0);
-            numbers = λ k d within. (spelled.calls k d within).number;
-            exit = spelled.exit;
-            few = few;
-          },
-          view ∙ ap (with_main natives) it.1 ∙ ap₂ (λ a b. with_main a
-              (stmts_of b form.calls form.exit)) is (lends ∙ is),
-        )
+      pub is_source : (some : List stmt.Stmt) (made : program.Program) → stmts ≡ Some some
+          → IsSpelled form → length form.calls ≤ 10000
+          → program_view made ≡ with_main natives (stmts_view some) → IsMade form (Some made)
+      is_source some made e spelled few view =
+          let it = subst (AreStatements names form.calls form.exit) e are in (
+            record {
+              names = names_are.0;
+              differ = names_are.1;
+              declared = (found_both form).0 (subst (λ names. AreFound names form.calls) (lends
+                  ∙ is) it.0);
+              numbers = λ k d within. (spelled.calls k d within).number;
+              exit = spelled.exit;
+              few = few;
+            },
+            view ∙ ap (with_main natives) it.1 ∙ ap₂ (λ a b. with_main a
+                (stmts_of b form.calls form.exit)) is (lends ∙ is),
+          )
 
 pub called_few : (form : Form) (natives names : List (List ℕ)) → names ≡ natives
     → natives ≡ natives_called form → length form.natives < 2 ^ 32 → length names < 2 ^ 32
-called_few form natives names e is few = omega (arith, ap length (e ∙ is), filter_less
-    (λ name. is_among name (names_called form.calls)) form.natives, few)
+called_few form natives names e is few = omega (
+  arith,
+  ap length (e ∙ is),
+  filter_less
+      (λ name. is_among name (names_called form.calls)) form.natives,
+  few,
+)

@@ -12,4 +12,4 @@ pub parsed_same : {E : Type 0} (r : Result ℕ E) (n m : ℕ) (text digits : Lis
     → ParsesUnsigned 32 10 text r → m ≡ n
 parsed_same r n m text digits is t d small parses =
     ok_same r m n is (parse-decimal 32 n text r (omega (arith, small)) (omega (arith, small))
-        (t ∙ d) parses)
+    (t ∙ d) parses)

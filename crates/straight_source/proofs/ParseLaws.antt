@@ -1,5 +1,5 @@
 -- A source has the parts that were read from it, or none.
-use Rattle.std.proofs.Common.{◌≡◌, ◌≢◌, ◌+◌, ◌^◌, ◌<◌, ◌≤◌, ℕ, List, [], ◌∷◌, ◌++◌, Option, None, Some, All, codes, length, slice_index, refl, sym, ap, ap₂, subst, ◌∙◌, append_assoc, append-nil, length-append, arith}
+use Rattle.std.proofs.Common.{◌≡◌, ◌≢◌, ◌≤◌, ℕ, List, [], ◌∷◌, ◌++◌, Option, None, Some, All, codes, length, slice_index, refl, sym, ap, ap₂, subst, ◌∙◌, append_assoc, append-nil, length-append, arith}
 use Rattle.std.specs.List.{flat_map}
 use Rattle.std.specs.Fmt.{decimal}
 use Rattle.std.proofs.lemmas.Fmt.{decimal_injective}
@@ -43,17 +43,17 @@ module _ {A : Type 0} (line : A → List ℕ) (Good : A → Type 0) where
     lines_same [] [] x y ga gb nx ny e = (refl, e)
     lines_same [] (b ∷ others) x y ga gb nx ny e =
         absurd (nx b (flat_map line others ++ y) (All-head Good b others gb) (e ∙ append_assoc
-            (line b) (flat_map line others) y))
+        (line b) (flat_map line others) y))
     lines_same (a ∷ things) [] x y ga gb nx ny e =
         absurd (ny a (flat_map line things ++ x) (All-head Good a things ga) (sym e
-            ∙ append_assoc (line a) (flat_map line things) x))
+        ∙ append_assoc (line a) (flat_map line things) x))
     lines_same (a ∷ things) (b ∷ others) x y ga gb nx ny e =
         let one = same a b (flat_map line things ++ x) (flat_map line others ++ y)
-            (All-head Good a things ga) (All-head Good b others gb)
+        (All-head Good a things ga) (All-head Good b others gb)
         (sym (append_assoc (line a) (flat_map line things) x) ∙ e
-            ∙ append_assoc (line b) (flat_map line others) y) in
+        ∙ append_assoc (line b) (flat_map line others) y) in
         let rest = lines_same things others x y (All-tail Good a things ga)
-            (All-tail Good b others gb) nx ny one.1 in
+        (All-tail Good b others gb) nx ny one.1 in
         (ap₂ (λ f o. f ∷ o) one.0 rest.0, rest.1)
 
 -- ---- natives
@@ -66,9 +66,9 @@ native_same : (a b x y : List ℕ) → IsWord a → IsWord b → native_line a +
     → (a ≡ b) × (x ≡ y)
 native_same a b x y ga gb e =
     let behind = same_tail _ (codes "native ") (a ++ 40 ∷ (codes "v);\n" ++ x)) (b ++ 40 ∷
-        (codes "v);\n" ++ y)) (native_shape a x) (e ∙ native_shape b y) in
+    (codes "v);\n" ++ y)) (native_shape a x) (e ∙ native_shape b y) in
     let it = run_same is_word_byte a b 40 40 (codes "v);\n" ++ x)
-        (codes "v);\n" ++ y) ga gb refl refl behind in
+    (codes "v);\n" ++ y) ga gb refl refl behind in
     (it.0, same_tail _ (codes "(v);\n") x y refl it.1)
 
 -- what begins otherwise is no native line
@@ -98,11 +98,13 @@ call_same : (a b : Call) (x y : List ℕ) → IsCall a → IsCall b
 call_same a b x y ga gb e =
     let names = call_name_same a b x y ga gb e in
     let digits = run_same is_digit (decimal a.number) (decimal b.number) 41 41 (codes ";\n" ++ x)
-        (codes ";\n" ++ y) (decimal_digits a.number ga.number)
-        (decimal_digits b.number gb.number) refl refl
-    (same_tail _ (codes "(") _ _ refl names.1) in
-    (call_is a b names.0 (decimal_injective a.number b.number (omega (arith, ga.number)) (omega
-        (arith, gb.number)) digits.0), same_tail _ (codes ");\n") x y refl digits.1)
+    (codes ";\n" ++ y) (decimal_digits a.number ga.number)
+    (decimal_digits b.number gb.number) refl refl
+    (same_tail _ (codes "(") _ _ refl names.1) in (
+      call_is a b names.0 (decimal_injective a.number b.number (omega (arith, ga.number)) (omega
+          (arith, gb.number)) digits.0),
+      same_tail _ (codes ");\n") x y refl digits.1,
+    )
 
 end_no_call : (exit : Option ℕ) (call : Call) (rest : List ℕ) → IsCall call
     → exit_line exit ++ codes "}\n" ≢ call_line call ++ rest
@@ -111,8 +113,8 @@ end_no_call None call rest good e = let h : 125 ≡ 32 = ap (λ l. slice_index l
 end_no_call (Some n) call rest good e =
     let behind = same_tail _ (codes "  ") _ _ (end_shape n) (e ∙ call_shape call rest) in
     let it = run_same is_word_byte (codes "exit") call.name 32 40
-        (decimal n ++ 59 ∷ codes "\n}\n") (decimal call.number ++ 41 ∷
-        (codes ";\n" ++ rest)) refl good.name refl refl behind in
+    (decimal n ++ 59 ∷ codes "\n}\n") (decimal call.number ++ 41 ∷
+    (codes ";\n" ++ rest)) refl good.name refl refl behind in
     let h : 32 ≡ 40 = ap (λ l. slice_index l 0) it.1 in absurd (omega (arith, h))
 
 -- ---- the whole
@@ -123,7 +125,7 @@ module _ (source rest : List ℕ) (natives : List (List ℕ))
   natives_found : (natives ≡ form.natives) × (rest ≡ codes "main() {\n" ++ body_of form)
   natives_found =
       lines_same native_line IsWord native_same natives form.natives rest
-          (codes "main() {\n" ++ body_of form) begins.good spelled.natives
+      (codes "main() {\n" ++ body_of form) begins.good spelled.natives
       last (main_no_native (body_of form)) (sym begins.joined ∙ same)
 
   pub no_main : ((x : List ℕ) → rest ≢ codes "main() {\n" ++ x) → ⊥
@@ -134,9 +136,9 @@ module _ (source rest : List ℕ) (natives : List (List ℕ))
     calls_found : (calls ≡ form.calls) × (tail ≡ exit_line form.exit ++ codes "}\n")
     calls_found =
         lines_same call_line IsCall call_same calls form.calls tail
-            (exit_line form.exit ++ codes "}\n") begun.good spelled.calls
+        (exit_line form.exit ++ codes "}\n") begun.good spelled.calls
         over (end_no_call form.exit) (sym begun.joined
-            ∙ same_tail rest (codes "main() {\n") body (body_of form) head natives_found.1)
+        ∙ same_tail rest (codes "main() {\n") body (body_of form) head natives_found.1)
 
     pub no_end_of : IsEnd tail None → ⊥
     no_end_of none = none form.exit spelled.exit calls_found.1
@@ -165,31 +167,40 @@ end_same (Some m) None ea eb e = let h : 32 ≡ 125 = ap (λ l. slice_index l 0)
     absurd (omega (arith, h))
 end_same (Some m) (Some n) ea eb e =
     let behind = same_tail _ (codes "  exit ") (decimal m ++ 59 ∷ codes "\n}\n")
-        (decimal n ++ 59 ∷ codes "\n}\n") (end_shape m) (e ∙ end_shape n) in
+    (decimal n ++ 59 ∷ codes "\n}\n") (end_shape m) (e ∙ end_shape n) in
     let it = run_same is_digit (decimal m) (decimal n) 59 59 (codes "\n}\n") (codes "\n}\n")
-        (decimal_digits m ea) (decimal_digits n eb) refl refl behind in
+    (decimal_digits m ea) (decimal_digits n eb) refl refl behind in
     ap Some (decimal_injective m n (omega (arith, ea)) (omega (arith, eb)) it.0)
 
 pub forms_same : (a b : Form) → IsSpelled a → IsSpelled b → source_of a ≡ source_of b → a ≡ b
 forms_same a b sa sb e =
     let natives = lines_same native_line IsWord native_same a.natives b.natives
-        (codes "main() {\n" ++ body_of a) (codes "main() {\n" ++ body_of b) sa.natives sb.natives
+    (codes "main() {\n" ++ body_of a) (codes "main() {\n" ++ body_of b) sa.natives sb.natives
     (main_no_native (body_of a)) (main_no_native (body_of b)) e in
     let calls = lines_same call_line IsCall call_same a.calls b.calls
-        (exit_line a.exit ++ codes "}\n") (exit_line b.exit ++ codes "}\n") sa.calls sb.calls
+    (exit_line a.exit ++ codes "}\n") (exit_line b.exit ++ codes "}\n") sa.calls sb.calls
     (end_no_call a.exit) (end_no_call b.exit) (same_tail _ (codes "main() {\n") (body_of a)
-        (body_of b) refl natives.1) in
+    (body_of b) refl natives.1) in
     let exits = end_same a.exit b.exit sa.exit sb.exit calls.1 in
     λ i. record { natives = natives.0 i; calls = calls.0 i; exit = exits i }
 
 -- each line has a byte at least
 pub natives_short : (form : Form) (source : List ℕ) → source ≡ source_of form
     → length form.natives ≤ length source
-natives_short form source e = omega (arith, ap length e, length-append
-    (flat_map native_line form.natives) (codes "main() {\n" ++ body_of form), lines_long
-    form.natives)
+natives_short form source e = omega (
+  arith,
+  ap length e,
+  length-append
+      (flat_map native_line form.natives) (codes "main() {\n" ++ body_of form),
+  lines_long
+      form.natives,
+)
   where
     lines_long : (natives : List (List ℕ)) → length natives ≤ length (flat_map native_line natives)
     lines_long [] = omega arith
-    lines_long (name ∷ natives) = omega (arith, lines_long natives, length-append
-        (native_line name) (flat_map native_line natives))
+    lines_long (name ∷ natives) = omega (
+      arith,
+      lines_long natives,
+      length-append
+          (native_line name) (flat_map native_line natives),
+    )

@@ -1,5 +1,5 @@
 -- A source is read as its program, and refused where it has none.
-use Rattle.std.proofs.Common.{◌≡◌, ◌≤◌, ◌<◌, ◌^◌, ◌||◌, ℕ, List, [], ◌∷◌, Bool, true, false, true≢false, All, None, Some, get_or, length, refl, sym, ap, subst, ◌∙◌, arith}
+use Rattle.std.proofs.Common.{◌≡◌, ◌≤◌, ◌<◌, ◌^◌, ◌||◌, ℕ, List, [], ◌∷◌, Bool, true, false, true≢false, All, None, Some, get_or, length, refl, sym, subst, ◌∙◌, arith}
 use Rattle.std.specs.Str.{bytes_eq}
 use Rattle.std.specs.Cmp.Lexicographic.{bytes_decides}
 use Rattle.std.proofs.lemmas.List.Elements.{All-head, All-tail}
@@ -8,10 +8,9 @@ use Rattle.pawn_program.specs.declared.program.Program as held
 use Rattle.pawn_program.specs.View.{program_view}
 use Rattle.gen_straight.specs.Theorems.{IsSmall}
 use Rattle.straight_source.specs.declared.form.Form.{Form}
-use Rattle.straight_source.specs.declared.form.Call.{Call}
 use Rattle.straight_source.specs.Names.{IsName, IsWord, is_among}
 use Rattle.straight_source.specs.Parts.{IsSpelled, IsParsed}
-use Rattle.straight_source.specs.Means.{IsForm, Means, program_of}
+use Rattle.straight_source.specs.Means.{IsForm, Means}
 use Rattle.straight_source.specs.Held.{IsMade}
 use Rattle.straight_source.specs.Answers.{IsProgramOf}
 use Rattle.straight_source.proofs.ParseLaws.{forms_same, natives_short}
@@ -34,8 +33,11 @@ word_among q (n ∷ words) all among = by (bytes_eq q n) refl among (word_among 
 spelled_of : (form : Form) → IsForm form → IsSpelled form
 spelled_of form good = record {
   natives = λ k d within. (good.names k d within).word;
-  calls = λ k d within. record { name = word_among (get_or form.calls k d).name form.natives
-      good.names (good.declared k d within); number = good.numbers k d within };
+  calls = λ k d within. record {
+    name = word_among (get_or form.calls k d).name form.natives
+        good.names (good.declared k d within);
+    number = good.numbers k d within;
+  };
   exit = good.exit;
 }
 
@@ -52,7 +54,7 @@ pub no_form : (source : List ℕ) (form : Form) → IsParsed source (Some form) 
     → (program : Program) → ¬ Means source program
 no_form source form parsed none program means =
     none (subst IsForm (forms_same means.form form (spelled_of means.form means.good) parsed.0
-        (sym means.spelled ∙ parsed.1)) means.good)
+    (sym means.spelled ∙ parsed.1)) means.good)
 
 pub is_program : (source : List ℕ) (form : Form) (made : held.Program)
     → IsParsed source (Some form) → IsMade form (Some made) → length source ≤ 2 ^ 30

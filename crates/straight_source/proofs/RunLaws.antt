@@ -1,5 +1,5 @@
 -- The run of a kind of bytes at the front: what it is, and that there is only one.
-use Rattle.std.proofs.Common.{◌≡◌, ◌+◌, ◌≤◌, ℕ, zero, suc, List, [], ◌∷◌, ◌++◌, Bool, true, false, cond, ◌&&◌, length, take, drop, refl, subst, append-nil, sym, ap, ap₂, ◌∙◌, true≢false, arith}
+use Rattle.std.proofs.Common.{◌≡◌, ◌+◌, ℕ, zero, suc, List, [], ◌∷◌, ◌++◌, Bool, true, false, cond, ◌&&◌, take, drop, refl, subst, append-nil, sym, ap, ap₂, ◌∙◌, true≢false, arith}
 use Rattle.std.specs.List.{list_all, prefix_len}
 use Rattle.straight_source.specs.Runs.{IsRun}
 
@@ -50,7 +50,7 @@ module _ (p : ℕ → Bool) where
   run_as bytes run rest n e front back =
       let is = subst (Front bytes) (sym e) (run_of bytes) in
       subst (λ r. IsRun p bytes r rest) (sym front) (subst (IsRun p bytes (take n bytes))
-          (sym back) is)
+      (sym back) is)
 
   -- a run ends at the first byte of another kind
   pub run_same : (a b : List ℕ) (c d : ℕ) (x y : List ℕ) → list_all p a ≡ true
@@ -59,15 +59,15 @@ module _ (p : ℕ → Bool) where
   run_same [] [] c d x y ha hb hc hd e = (refl, e)
   run_same [] (b ∷ bs) c d x y ha hb hc hd e =
       let first : c ≡ b = cc in absurd (true≢false (sym (both (p b) (list_all p bs) hb).0
-          ∙ ap p (sym first) ∙ hc))
+      ∙ ap p (sym first) ∙ hc))
   run_same (a ∷ l) [] c d x y ha hb hc hd e =
       let first : a ≡ d = cc in absurd (true≢false (sym (both (p a) (list_all p l) ha).0
-          ∙ ap p first ∙ hd))
+      ∙ ap p first ∙ hd))
   run_same (a ∷ l) (b ∷ bs) c d x y ha hb hc hd e =
       let first : a ≡ b = cc in
       let rest : l ++ c ∷ x ≡ bs ++ d ∷ y = cc in
       let it = run_same l bs c d x y (both (p a) (list_all p l) ha).1 (both (p b)
-          (list_all p bs) hb).1 hc hd rest in
+      (list_all p bs) hb).1 hc hd rest in
       (ap₂ (λ f o. f ∷ o) first it.0, it.1)
 
   -- a run that was read is the one that the bytes begin with

@@ -1,10 +1,9 @@
 -- The program of a source is straight, and small.
-use Rattle.std.proofs.Common.{◌≡◌, ◌≢◌, true≢false, codes, slice_index, ◌+◌, ◌*◌, ◌<◌, ◌≤◌, ◌^◌, ℕ, pos, List, [], ◌∷◌, ◌++◌, Bool, true, false, ◌||◌, cond, All, Option, None, Some, FitsSigned, filter, length, sum_by, refl, sym, ap, subst, ◌∙◌, rules, arith, length-append}
+use Rattle.std.proofs.Common.{◌≡◌, ◌≢◌, true≢false, codes, slice_index, ◌+◌, ◌*◌, ◌<◌, ◌≤◌, ◌^◌, ℕ, pos, List, [], ◌∷◌, ◌++◌, Bool, true, false, cond, All, Option, None, Some, FitsSigned, filter, length, sum_by, refl, sym, ap, ◌∙◌, rules, arith, length-append}
 use Rattle.std.specs.Int.{w32}
 use Rattle.std.specs.List.{flat_map, list_all}
 use Rattle.std.proofs.lemmas.List.Sums.{sum_by-cons}
 use Rattle.std.proofs.lemmas.List.Elements.{All-head, All-tail, All-nil, All-cons}
-use Rattle.pawn_program.specs.Program.{Stmts, no_stmts, then_stmt}
 use Rattle.pawn_meaning.specs.Weight.{stmts_weight}
 use Rattle.gen_straight.specs.Straight.{IsStraight, IsNativeName, AreStraight}
 use Rattle.gen_straight.specs.Theorems.{IsSmall, all_statements, AllCallWithFew}
@@ -32,9 +31,15 @@ module _ (natives : List (List ℕ)) where
       → AreStraight (length natives) (stmts_of natives calls exit)
   stmts_straight [] exit found numbers small = exit_straight exit small
   stmts_straight (call ∷ calls) exit found numbers small = (
-    (found_within call.name natives (All-head (λ (it : Call). is_among it.name natives ≡ true)
-        call calls found), (fits call.number (All-head
-        (λ (it : Call). it.number < 2 ^ 31) call calls numbers), tt)),
+    (
+      found_within call.name natives (All-head (λ (it : Call). is_among it.name natives ≡ true)
+          call calls found),
+      (
+        fits call.number (All-head
+            (λ (it : Call). it.number < 2 ^ 31) call calls numbers),
+        tt,
+      ),
+    ),
     stmts_straight calls exit (All-tail (λ (it : Call). is_among it.name natives ≡ true) call
         calls found) (All-tail (λ (it : Call). it.number < 2 ^ 31) call calls numbers) small,
   )
@@ -81,8 +86,12 @@ some_bytes [] letter = absurd (true≢false (sym letter))
 some_bytes (byte ∷ name) letter = omega arith
 
 native_name : (name : List ℕ) → IsName name → IsNativeName name
-native_name name is = record { no_zero = bytes_no_zero name is.word; least =
-    some_bytes name is.begins; most = is.most }
+native_name name is = record {
+  no_zero = bytes_no_zero name is.word;
+  least =
+      some_bytes name is.begins;
+  most = is.most;
+}
 
 module _ (p : List ℕ → Bool) where
   names_good : (names : List (List ℕ)) → All IsName names → All IsNativeName (filter p names)
@@ -102,15 +111,24 @@ module _ (p : List ℕ → Bool) where
     where
       line : length (native_line name ++ flat_map native_line names) ≡ length name + 12 + length
           (flat_map native_line names)
-      line = omega (arith, length-append (native_line name)
-          (flat_map native_line names), length-append name (codes "(v);\n"))
+      line = omega (
+        arith,
+        length-append (native_line name)
+            (flat_map native_line names),
+        length-append name (codes "(v);\n"),
+      )
 
       by : (b : Bool) → sum_by (λ name. length name + 9) (filter p names) ≤ length
           (flat_map native_line names)
           → sum_by (λ name. length name + 9) (cond b (name ∷ filter p names)
           (filter p names)) ≤ length (native_line name ++ flat_map native_line names)
-      by true rest = omega (arith, rest, line, sum_by-cons (λ name. length name + 9) name
-          (filter p names))
+      by true rest = omega (
+        arith,
+        rest,
+        line,
+        sum_by-cons (λ name. length name + 9) name
+            (filter p names),
+      )
       by false rest = omega (arith, rest, line)
 
 module _ (form : Form) (source : List ℕ) (good : IsForm form) (spelled : source ≡ source_of form)
@@ -129,9 +147,15 @@ module _ (form : Form) (source : List ℕ) (good : IsForm form) (spelled : sourc
     entry = refl;
     dynamic = refl;
     names = names_good (λ name. is_among name (names_called form.calls)) form.natives good.names;
-    names_fit = omega (arith, names_size (λ name. is_among name
-        (names_called form.calls)) form.natives, ap length spelled, length-append
-        (flat_map native_line form.natives) (codes "main() {\n" ++ body_of form), short);
+    names_fit = omega (
+      arith,
+      names_size (λ name. is_among name
+          (names_called form.calls)) form.natives,
+      ap length spelled,
+      length-append
+          (flat_map native_line form.natives) (codes "main() {\n" ++ body_of form),
+      short,
+    );
     memory = omega (arith, calls_weight (natives_called form) form.calls form.exit, good.few);
   }
 

@@ -1,5 +1,5 @@
 -- What reading a source answers.
-use Rattle.std.specs.Prelude.{◌≡◌, ◌≤◌, ℕ, List, Result, Ok, Err}
+use Rattle.std.specs.Prelude.{ℕ, List, Result, Ok, Err}
 use Rattle.pawn_program.specs.Program as plain
 use Rattle.pawn_program.specs.declared.program.Program.{Program}
 use Rattle.pawn_program.specs.View.{program_view}

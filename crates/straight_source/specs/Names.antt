@@ -1,7 +1,7 @@
 -- The names that a source may declare so far: a lower-case letter, and up to 30 such letters and digits.
 -- Key words, predefined constants and `main` are none (Language Guide, "Identifiers", "Reserved words",
 -- "Predefined constants").
-use Rattle.std.specs.Prelude.{◌≡◌, ◌≤◌, ℕ, List, [], ◌∷◌, Bool, true, false, ◌||◌, None, codes, length, slice_index, IsTrue}
+use Rattle.std.specs.Prelude.{◌≡◌, ◌≤◌, ℕ, List, [], ◌∷◌, Bool, true, false, ◌||◌, None, codes, length, slice_index}
 use Rattle.std.specs.List.{list_all, list_any}
 use Rattle.std.specs.Str.{bytes_eq}
 use Rattle.pawn_lex.specs.Class.{is_between}

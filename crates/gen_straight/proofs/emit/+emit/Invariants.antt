@@ -6,4 +6,4 @@ use Rattle.gen_straight.proofs.emit.+emit.Given as goal
 abbrev pub invariant-emit_stmts-loop-stmt : goal.invariant-emit_stmts-loop-stmt
 invariant-emit_stmts-loop-stmt l =
     l.code ++ cells_of (stmts_code (stmts_view (drop l.stmt-index l.stmt-items))) ≡ l.fn.code ++
-        cells_of (stmts_code (stmts_view l.stmt-items))
+    cells_of (stmts_code (stmts_view l.stmt-items))

@@ -7,6 +7,6 @@ use Rattle.gen_straight.proofs.emit.emit_function.Goals as goal
 pub emit_body-requires : goal.emit_body-requires
 emit_body-requires c =
     viewed (λ (body : Body). FitsStmt body.stmt) body_view c.args.function.now.bodies
-        c.as_slice-body-items.result.now c.loop-body.body-index c.body-item.result
-        c.body-item.result
+    c.as_slice-body-items.result.now c.loop-body.body-index c.body-item.result
+    c.body-item.result
     c.as_slice-body-items.ensures c.loop-body-test.true c.body-item.is c.requires

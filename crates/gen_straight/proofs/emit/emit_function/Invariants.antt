@@ -7,5 +7,5 @@ use Rattle.gen_straight.proofs.emit.emit_function.Given as goal
 abbrev pub invariant-loop-body : goal.invariant-loop-body
 invariant-loop-body l =
     l.code ++ cells_of (flat_map body_code (map body_view
-        (drop l.body-index l.body-items))) ≡ l.fn.code ++ cells_of (flat_map body_code
-        (map body_view l.body-items))
+    (drop l.body-index l.body-items))) ≡ l.fn.code ++ cells_of (flat_map body_code
+    (map body_view l.body-items))

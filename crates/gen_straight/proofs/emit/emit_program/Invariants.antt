@@ -7,5 +7,5 @@ use Rattle.gen_straight.proofs.emit.emit_program.Given as goal
 abbrev pub invariant-loop-function : goal.invariant-loop-function
 invariant-loop-function l =
     l.code ++ cells_of (flat_map function_code (map function_view
-        (drop l.function-index l.function-items))) ≡ cells_of (program_code
-        (program_view l.program))
+    (drop l.function-index l.function-items))) ≡ cells_of (program_code
+    (program_view l.program))

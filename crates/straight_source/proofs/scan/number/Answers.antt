@@ -1,4 +1,4 @@
-use Rattle.std.proofs.Common.{◌≡◌, ℕ, Ok, Err, Result, sym, ap, subst, ◌∙◌, true≢false, arith}
+use Rattle.std.proofs.Common.{Err, sym, ap, subst, ◌∙◌, true≢false, arith}
 use Rattle.std.specs.Fmt.{decimal}
 use Rattle.std.specs.Str.{IsUtf8}
 use Rattle.std.proofs.lemmas.Str.{IsUtf8-from_ascii}
@@ -19,8 +19,8 @@ returns-in_default-parse c = λ n small is. absurd (cc (parse-decimal 32 n c.in-
 pub returns-else-number : goal.returns-else-number
 returns-else-number c = λ n small is.
     let number = parsed_same c.parse.result n c.in-Ok-parse.number c.in-Ok.text.now
-        c.args.digits.now c.in-Ok-parse.is (c.in-Ok.ensures.cases.0) is small
-        c.parse.ensures.value.0 in
+    c.args.digits.now c.in-Ok-parse.is (c.in-Ok.ensures.cases.0) is small
+    c.parse.ensures.value.0 in
     elim c.else-number.branch [
       | else-number-via-then-number+else-is_decimal w ↦ true≢false (sym (w.is_decimal.ensures.1
           (is ∙ ap decimal (sym number))) ∙ w.if-is_decimal.false)

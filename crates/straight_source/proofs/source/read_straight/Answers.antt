@@ -15,13 +15,13 @@ program_of-requires-clause-few c = few_natives c.args.source.now c.in-Ok-Some.fo
 pub returns-in-Ok-None-program_of : goal.returns-in-Ok-None-program_of
 returns-in-Ok-None-program_of c =
     no_form c.args.source.now c.in-Ok-Some.form (subst (IsParsed c.args.source.now)
-        c.in-Ok-Some.field-0-is c.in-Ok-Some.ensures)
+    c.in-Ok-Some.field-0-is c.in-Ok-Some.ensures)
     (subst (IsMade c.in-Ok-Some.form) c.in-Ok-None-program_of.field-0-is
-        c.in-Ok-None-program_of.ensures)
+    c.in-Ok-None-program_of.ensures)
 
 pub returns : goal.returns
 returns c =
     is_program c.args.source.now c.in-Ok-Some.form c.in-Ok-Some-program_of.program
-        (subst (IsParsed c.args.source.now) c.in-Ok-Some.field-0-is c.in-Ok-Some.ensures)
+    (subst (IsParsed c.args.source.now) c.in-Ok-Some.field-0-is c.in-Ok-Some.ensures)
     (subst (IsMade c.in-Ok-Some.form) c.in-Ok-Some-program_of.field-0-is
-        c.in-Ok-Some-program_of.ensures) c.requires
+    c.in-Ok-Some-program_of.ensures) c.requires
