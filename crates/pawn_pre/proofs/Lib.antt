@@ -6,7 +6,6 @@ pub mod MirrorEnds
 pub mod MirrorInclude
 pub mod MirrorKept
 pub mod MirrorParts
-pub mod NameLaws
 pub mod PageLaws
 pub mod RemainingLaws
 pub mod WalkLaws

@@ -6,7 +6,6 @@ mod fault;
 mod include;
 mod level;
 mod line;
-mod names;
 mod source;
 mod state;
 #[cfg(test)]

@@ -15,8 +15,8 @@ use super::fault::PreFault;
 use super::include::{Named, include_name};
 use super::level::Level;
 use super::line::Lines;
-use super::names::Names;
 use super::work::Work;
+use name_table::Names;
 use pawn_base::{Bytes, Memory};
 use pawn_cells::Place;
 use pawn_lines::read_rows;
@@ -52,6 +52,16 @@ impl Model for Walk {
       below = walk.below.items;
       work = walk.work;
     } };
+}
+
+/// The name of a file by its number.
+fn file_name(names: &Names, file: u64) -> &[u8]
+    ensures { result.now ≡ name_of names.now file }
+{
+    match names.get(file as usize) {
+        Some(name) => name,
+        None => &[],
+    }
 }
 
 /// Reads a file whose name is plain text.
@@ -113,7 +123,7 @@ impl Walk {
         ensures { IsFault
             (Fault kind place (name_of self.now.names place.file)) result }
     {
-        match Bytes::from_slice(alloc, self.names.name(place.file)) {
+        match Bytes::from_slice(alloc, file_name(&self.names, place.file)) {
             Ok(name) => PreFault::Source { kind, place, name },
             Err(Memory) => PreFault::Memory,
         }

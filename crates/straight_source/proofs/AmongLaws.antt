@@ -6,8 +6,7 @@ use Rattle.std.specs.Cmp.Lexicographic.{bytes_decides}
 use Rattle.std.proofs.lemmas.List.{take_more, map-append}
 use Rattle.std.proofs.lemmas.Bool.{ltb-true, lt-ltb}
 use Rattle.straight_source.specs.declared.form.Call.{Call}
-use Rattle.straight_source.specs.Names.{is_among}
-use Rattle.straight_source.specs.Numbered.{with_name}
+use Rattle.name_table.specs.Among.{is_among, with_name}
 use Rattle.straight_source.specs.Means.{names_called}
 
 or_assoc : (a b c : Bool) → ((a || b) || c) ≡ (a || (b || c))

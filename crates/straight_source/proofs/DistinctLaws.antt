@@ -5,8 +5,9 @@ use Rattle.std.specs.Cmp.Lexicographic.{nat_list_eq_equiv}
 use Rattle.std.proofs.lemmas.List.{take_more}
 use Rattle.std.proofs.lemmas.List.Elements.{All-push}
 use Rattle.std.proofs.Math.Seq.{drop-cons}
-use Rattle.straight_source.specs.Names.{AreDistinct, IsName, is_among}
-use Rattle.straight_source.specs.Numbered.{with_name, AreChecked}
+use Rattle.name_table.specs.Among.{is_among, with_name}
+use Rattle.straight_source.specs.Names.{AreDistinct, IsName}
+use Rattle.straight_source.specs.Checked.{AreChecked}
 
 flips : (a b : List ℕ) → bytes_eq a b ≡ bytes_eq b a
 flips a b = nat_list_eq_equiv.symm a b

@@ -6,7 +6,7 @@ use Rattle.std.proofs.lemmas.List.{take_more, map-append}
 use Rattle.std.proofs.lemmas.List.Elements.{All-push, All-get_or}
 use Rattle.pawn_program.specs.declared.node.Stmt as stmt
 use Rattle.straight_source.specs.declared.form.Call.{Call}
-use Rattle.straight_source.specs.Names.{is_among}
+use Rattle.name_table.specs.Among.{is_among}
 use Rattle.straight_source.specs.Held.{held_call, held_calls, AreFound, AreSoFar}
 use Rattle.straight_source.proofs.AmongLaws.{placed, not_placed}
 

@@ -1,6 +1,5 @@
 pub mod AmongLaws
 pub mod DistinctLaws
-pub mod KeyLaws
 pub mod LineLaws
 pub mod NumberLaws
 pub mod RunLaws

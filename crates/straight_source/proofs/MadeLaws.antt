@@ -18,7 +18,8 @@ use Rattle.pawn_program.specs.declared.program.Program as program
 use Rattle.pawn_program.proofs.ViewLaws.{expr_view-Native, stmt_view-Block}
 use Rattle.straight_source.specs.declared.form.Form.{Form}
 use Rattle.straight_source.specs.declared.form.Call.{Call}
-use Rattle.straight_source.specs.Names.{AreDistinct, IsName, is_among}
+use Rattle.name_table.specs.Among.{is_among}
+use Rattle.straight_source.specs.Names.{AreDistinct, IsName}
 use Rattle.straight_source.specs.Parts.{IsSpelled}
 use Rattle.straight_source.specs.Means.{IsForm, names_called, natives_called, exit_of, stmts_of, with_main}
 use Rattle.straight_source.proofs.DistinctLaws.{either}

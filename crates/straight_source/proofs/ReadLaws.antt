@@ -8,7 +8,8 @@ use Rattle.pawn_program.specs.declared.program.Program as held
 use Rattle.pawn_program.specs.View.{program_view}
 use Rattle.gen_straight.specs.Theorems.{IsSmall}
 use Rattle.straight_source.specs.declared.form.Form.{Form}
-use Rattle.straight_source.specs.Names.{IsName, IsWord, is_among}
+use Rattle.name_table.specs.Among.{is_among}
+use Rattle.straight_source.specs.Names.{IsName, IsWord}
 use Rattle.straight_source.specs.Parts.{IsSpelled, IsParsed}
 use Rattle.straight_source.specs.Means.{IsForm, Means}
 use Rattle.straight_source.specs.Held.{IsMade}

@@ -9,7 +9,8 @@ use Rattle.gen_straight.specs.Straight.{IsStraight, IsNativeName, AreStraight}
 use Rattle.gen_straight.specs.Theorems.{IsSmall, all_statements, AllCallWithFew}
 use Rattle.straight_source.specs.declared.form.Form.{Form}
 use Rattle.straight_source.specs.declared.form.Call.{Call}
-use Rattle.straight_source.specs.Names.{IsName, IsWord, is_word_byte, is_letter, is_among}
+use Rattle.name_table.specs.Among.{is_among}
+use Rattle.straight_source.specs.Names.{IsName, IsWord, is_word_byte, is_letter}
 use Rattle.straight_source.specs.Parts.{IsExit}
 use Rattle.straight_source.specs.Spelling.{native_line, source_of, body_of}
 use Rattle.straight_source.specs.Means.{IsForm, names_called, natives_called, exit_of, stmts_of, program_of}

@@ -9,7 +9,7 @@ use Rattle.pawn_program.specs.declared.program.Program.{Program}
 use Rattle.pawn_program.specs.View.{program_view, stmts_view}
 use Rattle.straight_source.specs.declared.form.Form.{Form}
 use Rattle.straight_source.specs.declared.form.Call.{Call}
-use Rattle.straight_source.specs.Names.{is_among}
+use Rattle.name_table.specs.Among.{is_among}
 use Rattle.straight_source.specs.Means.{IsForm, stmts_of, program_of}
 
 abbrev pub held_call : ℕ → ℕ → stmt.Stmt

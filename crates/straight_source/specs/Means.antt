@@ -7,7 +7,8 @@ use Rattle.pawn_program.specs.Program.{Const, Native, Value, no_args, then_arg, 
 use Rattle.gen_straight.specs.Straight.{main_of}
 use Rattle.straight_source.specs.declared.form.Form.{Form}
 use Rattle.straight_source.specs.declared.form.Call.{Call}
-use Rattle.straight_source.specs.Names.{IsName, AreDistinct, is_among}
+use Rattle.name_table.specs.Among.{is_among}
+use Rattle.straight_source.specs.Names.{IsName, AreDistinct}
 use Rattle.straight_source.specs.Parts.{IsExit}
 use Rattle.straight_source.specs.Spelling.{source_of}
 

@@ -2,8 +2,8 @@
 -- Key words, predefined constants and `main` are none (Language Guide, "Identifiers", "Reserved words",
 -- "Predefined constants").
 use Rattle.std.specs.Prelude.{◌≡◌, ◌≤◌, ℕ, List, [], ◌∷◌, Bool, true, false, ◌||◌, None, codes, length, slice_index}
-use Rattle.std.specs.List.{list_all, list_any}
-use Rattle.std.specs.Str.{bytes_eq}
+use Rattle.std.specs.List.{list_all}
+use Rattle.name_table.specs.Among.{is_among}
 use Rattle.pawn_lex.specs.Class.{is_between}
 use Rattle.pawn_lex.specs.Keys.{key_of}
 
@@ -18,11 +18,9 @@ is_word_byte byte = is_letter byte || is_digit byte
 
 -- what a name can't be, besides a key word
 abbrev pub taken : List (List ℕ)
-taken = codes "main" ∷ codes "true" ∷ codes "false" ∷ codes "cellbits" ∷ codes "cellmax" ∷ codes
-    "cellmin" ∷ codes "charbits" ∷ []
-
-abbrev pub is_among : List ℕ → List (List ℕ) → Bool
-is_among name names = list_any (bytes_eq name) names
+taken =
+    codes "main" ∷ codes "true" ∷ codes "false" ∷ codes "cellbits" ∷ codes "cellmax"
+    ∷ codes "cellmin" ∷ codes "charbits" ∷ []
 
 -- no name is one of those behind it
 abbrev pub AreDistinct : List (List ℕ) → Type 0

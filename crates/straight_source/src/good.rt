@@ -1,7 +1,8 @@
 ghost use Rattle.std.specs.Prelude.{◌≡◌, ◌↔◌, slice_index, All, IsTrue, IfOk};
-ghost use Rattle.straight_source.specs.Names.{AreDistinct, IsName, IsWord, is_letter, is_among, taken};
+ghost use Rattle.name_table.specs.Among.{is_among};
+ghost use Rattle.straight_source.specs.Names.{AreDistinct, IsName, IsWord, is_letter, taken};
 
-use super::names::Names;
+use name_table::Names;
 use pawn_base::{Bytes, Memory};
 use pawn_lex::key_of;
 use std::alloc::Global;

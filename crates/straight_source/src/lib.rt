@@ -6,7 +6,6 @@
 mod form;
 mod good;
 mod line;
-mod names;
 mod parse;
 mod program;
 mod scan;

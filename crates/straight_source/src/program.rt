@@ -2,13 +2,14 @@ ghost use Rattle.std.specs.Prelude.{◌≡◌, ◌<◌, ◌≤◌, ◌^◌, ℕ,
 ghost use Rattle.std.specs.Str.{bytes_eq};
 ghost use Rattle.pawn_program.specs.View.{program_view, stmts_view};
 ghost use Rattle.straight_source.specs.Parts.{IsSpelled};
-ghost use Rattle.straight_source.specs.Names.{AreDistinct, is_among};
+ghost use Rattle.name_table.specs.Among.{is_among};
+ghost use Rattle.straight_source.specs.Names.{AreDistinct};
 ghost use Rattle.straight_source.specs.Means as means;
 ghost use Rattle.straight_source.specs.Held.{held_call, held_exit, AreCalls, AreStatements, IsMade};
 
 use super::form::{Call, Form};
 use super::good::are_names;
-use super::names::Names;
+use name_table::Names;
 use pawn_base::{Bytes, List, Memory};
 use pawn_program::{Arg, Body, Expr, Function, Program, Stmt};
 use std::alloc::Global;

@@ -1,4 +1,4 @@
-use Rattle.straight_source.specs.Numbered.{AreChecked}
+use Rattle.straight_source.specs.Checked.{AreChecked}
 use Rattle.straight_source.proofs.good.are_names.Given as goal
 
 abbrev pub invariant-loop-word : goal.invariant-loop-word

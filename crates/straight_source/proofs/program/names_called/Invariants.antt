@@ -1,5 +1,5 @@
 use Rattle.std.proofs.Common.{◌≡◌, ℕ, List, take}
-use Rattle.straight_source.specs.Names.{is_among}
+use Rattle.name_table.specs.Among.{is_among}
 use Rattle.straight_source.specs.Means as means
 use Rattle.straight_source.proofs.program.names_called.Given as goal
 

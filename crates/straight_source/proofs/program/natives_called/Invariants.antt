@@ -1,5 +1,5 @@
 use Rattle.std.proofs.Common.{◌≡◌, filter, take}
-use Rattle.straight_source.specs.Names.{is_among}
+use Rattle.name_table.specs.Among.{is_among}
 use Rattle.straight_source.proofs.program.natives_called.Given as goal
 
 abbrev pub invariant-loop-name : goal.invariant-loop-name

@@ -1,0 +1,10 @@
+-- A name among others, and names that are added one by one, each once.
+use Rattle.std.specs.Prelude.{ℕ, List, [], ◌∷◌, ◌++◌, Bool, if◌then◌else◌}
+use Rattle.std.specs.List.{list_any}
+use Rattle.std.specs.Str.{bytes_eq}
+
+abbrev pub is_among : List ℕ → List (List ℕ) → Bool
+is_among name names = list_any (bytes_eq name) names
+
+abbrev pub with_name : List (List ℕ) → List ℕ → List (List ℕ)
+with_name names name = if is_among name names then names else names ++ name ∷ []
