@@ -1,9 +1,9 @@
 -- A set with keys of bytes, seen as a list of names.
-use Rattle.std.proofs.Common.{◌≡◌, ◌+◌, ℕ, suc, List, [], ◌∷◌, ◌++◌, Bool, true, false, ◌||◌, not, cond, nat_lt, length, if◌then◌else◌, Option, None, Some, map, position, refl, sym, ap, ap₂, ◌∙◌}
+use Rattle.std.proofs.Common.{◌≡◌, ◌+◌, ℕ, suc, List, [], ◌∷◌, ◌++◌, false, ◌||◌, not, cond, nat_lt, length, if◌then◌else◌, None, Some, map, position, refl, sym, ap, ap₂, ◌∙◌}
 use Rattle.std.specs.List.{list_any, position_or_len}
 use Rattle.std.specs.Str.{bytes_eq}
 use Rattle.std.proofs.lemmas.List.{map-append}
-use Rattle.name_table.specs.Among.{is_among, with_name}
+use Rattle.name_table.specs.Among.{is_among}
 
 module _ {K : Type 0} (bytes_of : K → List ℕ) where
   pub among_map : (name : List ℕ) (keys : List K)
