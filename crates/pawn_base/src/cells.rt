@@ -1,4 +1,4 @@
-ghost use Rattle.std.specs.Prelude.{◌≡◌, [], ◌∷◌, ◌++◌, ◌↔◌, length, IsTrue, IfOk, OnOk, OnErr};
+ghost use Rattle.std.specs.Prelude.{◌≡◌, ◌<◌, [], ◌∷◌, ◌++◌, ◌↔◌, length, slice_set, IsTrue, IfOk, OnOk, OnErr};
 ghost use Rattle.pawn_base.specs.Cells.{AreCells};
 
 use super::memory::Memory;
@@ -63,6 +63,14 @@ impl Cells {
     {
         self.items.extend_from_slice(more.items.as_slice())?;
         Ok(())
+    }
+
+    /// Writes a cell in the place of the one that is counted so from 0.
+    pub fn set(&mut self, index: usize, cell: i32)
+        requires { index < length self.now }
+        ensures { self.new ≡ slice_set self.old index cell }
+    {
+        self.items[index] = cell;
     }
 
     pub fn len(&self) -> usize

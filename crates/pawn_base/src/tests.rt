@@ -39,7 +39,8 @@ fn cells_grow(rt: HostRuntime) -> Result<(), Fail> {
     cells.push(i32::MIN)?;
     let more = Cells::from_slice(rt.alloc(), &[0, -1, i32::MAX])?;
     cells.append(&more)?;
-    assert_eq!(rt; cells.as_slice(), [i32::MIN, 0, -1, i32::MAX].as_slice());
+    cells.set(2, 7);
+    assert_eq!(rt; cells.as_slice(), [i32::MIN, 0, 7, i32::MAX].as_slice());
     assert_eq!(rt; cells.len(), 4);
     Ok(())
 }

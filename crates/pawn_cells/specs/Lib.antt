@@ -1,2 +1,4 @@
 pub mod Cells
+pub mod Constants
+pub mod Operators
 pub mod Signs

@@ -1,10 +1,18 @@
-//! Cells, the one type of value in Pawn: 32 bits in two's complement. Nothing here takes memory.
+//! Cells, the one type of value in Pawn: 32 bits in two's complement; the operators on them, and the
+//! constants that every source has. Nothing here takes memory.
 #![tactic(auto)]
 
 mod cell;
+mod constant;
+mod operator;
 mod place;
 #[cfg(test)]
 mod tests;
 
 pub use cell::Cell;
+pub use constant::{Constant, predefined};
+pub use operator::{
+    ASSIGNMENT_LEVEL, CHOICE_LEVEL, COMPARISON_LEVEL, Comparison, Logical, Operator, PREFIX_LEVEL,
+    Prefix,
+};
 pub use place::Place;

@@ -1,136 +1,122 @@
-use super::{Cell, Place};
+use super::{Cell, Comparison, Logical, Operator, Place, Prefix, predefined};
 use std::test::Fail;
 
 const LEAST: i32 = i32::MIN;
 
 const GREATEST: i32 = i32::MAX;
 
-/// The cell that an `Option` has, or an error.
-fn cell_in(answer: Option<Cell>) -> Result<i32, Fail> {
-    Ok(answer.ok_or("no cell")?.0)
-}
+/// Operators, their operands and what they give.
+const OPERATIONS: [(Operator, i32, i32, Option<i32>); 38] = [
+    (Operator::Add, GREATEST, 1, Some(LEAST)),
+    (Operator::Add, LEAST, LEAST, Some(0)),
+    (Operator::Subtract, LEAST, 1, Some(GREATEST)),
+    (Operator::Subtract, -7, 2, Some(-9)),
+    (Operator::Multiply, 65536, 65536, Some(0)),
+    (Operator::Multiply, LEAST, -1, Some(LEAST)),
+    (Operator::Divide, -7, 2, Some(-4)),
+    (Operator::Divide, 7, -2, Some(-4)),
+    (Operator::Divide, -7, -2, Some(3)),
+    (Operator::Divide, 1, LEAST, Some(-1)),
+    (Operator::Divide, LEAST, -1, Some(LEAST)),
+    (Operator::Divide, LEAST, GREATEST, Some(-2)),
+    (Operator::Divide, 1, 0, None),
+    (Operator::Remainder, -7, 2, Some(1)),
+    (Operator::Remainder, 7, -2, Some(-1)),
+    (Operator::Remainder, -7, -2, Some(-1)),
+    (Operator::Remainder, 1, LEAST, Some(LEAST + 1)),
+    (Operator::Remainder, LEAST, -1, Some(0)),
+    (Operator::Remainder, LEAST, GREATEST, Some(GREATEST - 1)),
+    (Operator::Remainder, 0, 0, None),
+    (Operator::ShiftLeft, 1, 31, Some(LEAST)),
+    (Operator::ShiftLeft, 1, 33, Some(2)),
+    (Operator::ShiftLeft, 1, -1, Some(LEAST)),
+    (Operator::ShiftRight, -5, 1, Some(-3)),
+    (Operator::ShiftRight, -1, 32, Some(-1)),
+    (Operator::ShiftRight, LEAST, 4, Some(LEAST / 16)),
+    (Operator::ShiftUnsigned, -5, 1, Some(0x7FFF_FFFD)),
+    (Operator::ShiftUnsigned, -1, 33, Some(GREATEST)),
+    (Operator::ShiftUnsigned, -1, -1, Some(1)),
+    (Operator::And, 0x0F0F, 0x00FF, Some(0x000F)),
+    (Operator::And, -1, LEAST, Some(LEAST)),
+    (Operator::Or, 0x0F0F, 0x00FF, Some(0x0FFF)),
+    (Operator::Xor, 0x0F0F, 0x00FF, Some(0x0FF0)),
+    (Operator::Xor, -1, LEAST, Some(GREATEST)),
+    (Operator::Equal, LEAST, LEAST, Some(1)),
+    (Operator::Equal, -1, 1, Some(0)),
+    (Operator::NotEqual, LEAST, LEAST, Some(0)),
+    (Operator::NotEqual, -1, 1, Some(1)),
+];
+
+/// Two numbers, and which comparisons of them hold, in the order `<`, `<=`, `>`, `>=`.
+const COMPARISONS: [(i32, i32, [bool; 4]); 3] = [
+    (0, 0, [false, true, false, true]),
+    (-1, 0, [true, true, false, false]),
+    (GREATEST, LEAST, [false, false, true, true]),
+];
+
+/// Predefined constants: the value, and whether the tag is `bool`.
+const CONSTANTS: [(&[u8], i32, bool); 7] = [
+    (b"true", 1, true),
+    (b"false", 0, true),
+    (b"EOS", 0, false),
+    (b"cellbits", 32, false),
+    (b"cellmax", GREATEST, false),
+    (b"cellmin", LEAST, false),
+    (b"charbits", 8, false),
+];
 
 #[test]
-fn arithmetic(rt: HostRuntime) {
-    for (a, b, sum, difference, product) in [
-        (0, 0, 0, 0, 0),
-        (GREATEST, 1, LEAST, GREATEST - 1, GREATEST),
-        (LEAST, 1, LEAST + 1, GREATEST, LEAST),
-        (LEAST, -1, GREATEST, LEAST + 1, LEAST),
-        (LEAST, LEAST, 0, 0, 0),
-        (GREATEST, GREATEST, -2, 0, 1),
-        (65536, 65536, 131072, 0, 0),
-        (-7, 2, -5, -9, -14),
-    ] {
-        assert_eq!(rt; Cell(a).add(Cell(b)).0, sum, "{a} + {b}");
-        assert_eq!(rt; Cell(a).sub(Cell(b)).0, difference, "{a} - {b}");
-        assert_eq!(rt; Cell(a).mul(Cell(b)).0, product, "{a} * {b}");
-    }
-    for (a, negative, logical, inverted) in [
-        (0, 0, 1, -1),
-        (1, -1, 0, -2),
-        (-1, 1, 0, 0),
-        (GREATEST, LEAST + 1, 0, LEAST),
-        (LEAST, LEAST, 0, GREATEST),
-    ] {
-        assert_eq!(rt; Cell(a).neg().0, negative, "- {a}");
-        assert_eq!(rt; Cell(a).not().0, logical, "! {a}");
-        assert_eq!(rt; Cell(a).invert().0, inverted, "~ {a}");
-    }
-}
-
-#[test]
-fn division(rt: HostRuntime) -> Result<(), Fail> {
-    for (a, d, quotient, rest) in [
-        (-7, 2, -4, 1),
-        (7, -2, -4, -1),
-        (7, 2, 3, 1),
-        (-7, -2, 3, -1),
-        (-6, 2, -3, 0),
-        (6, -2, -3, 0),
-        (0, -5, 0, 0),
-        (1, LEAST, -1, LEAST + 1),
-        (-1, GREATEST, -1, GREATEST - 1),
-        (LEAST, 1, LEAST, 0),
-        (LEAST, -1, LEAST, 0),
-        (LEAST, 2, LEAST / 2, 0),
-        (LEAST, GREATEST, -2, GREATEST - 1),
-        (GREATEST, LEAST, -1, -1),
-        (GREATEST, -1, LEAST + 1, 0),
-    ] {
-        assert_eq!(rt; cell_in(Cell(a).floor_div(Cell(d)))?, quotient, "{a} / {d}");
-        assert_eq!(rt; cell_in(Cell(a).floor_rem(Cell(d)))?, rest, "{a} % {d}");
-    }
-    for a in [0, 1, -1, LEAST, GREATEST] {
-        assert_eq!(rt; Cell(a).floor_div(Cell(0)), None, "{a} / 0");
-        assert_eq!(rt; Cell(a).floor_rem(Cell(0)), None, "{a} % 0");
-    }
-    Ok(())
-}
-
-#[test]
-fn bits(rt: HostRuntime) {
-    for (a, count, left, right, right_unsigned) in [
-        (1, 0, 1, 1, 1),
-        (1, 31, LEAST, 0, 0),
-        (1, 32, 1, 1, 1),
-        (1, 33, 2, 0, 0),
-        (1, -1, LEAST, 0, 0),
-        (-1, 0, -1, -1, -1),
-        (-1, 31, LEAST, -1, 1),
-        (-1, 32, -1, -1, -1),
-        (-1, 33, -2, -1, GREATEST),
-        (-1, -1, LEAST, -1, 1),
-        (LEAST, 4, 0, LEAST / 16, 0x0800_0000),
-        (-5, 1, -10, -3, 0x7FFF_FFFD),
-    ] {
-        assert_eq!(rt; Cell(a).shl(Cell(count)).0, left, "{a} << {count}");
-        assert_eq!(rt; Cell(a).shr(Cell(count)).0, right, "{a} >> {count}");
+fn operators(rt: HostRuntime) {
+    for (operator, a, b, want) in OPERATIONS {
+        let cell = operator.apply(Cell(a), Cell(b));
         assert_eq!(rt;
-            Cell(a).ushr(Cell(count)).0,
-            right_unsigned,
-            "{a} >>> {count}"
+            cell,
+            want.map(|value| Cell(value)),
+            "{operator:?} of {a} and {b}"
         );
-    }
-    for (a, b, both, either, one) in [
-        (0x0F0F, 0x00FF, 0x000F, 0x0FFF, 0x0FF0),
-        (-1, LEAST, LEAST, -1, GREATEST),
-        (-2, 1, 0, -1, -1),
-    ] {
-        assert_eq!(rt; Cell(a).and(Cell(b)).0, both, "{a} & {b}");
-        assert_eq!(rt; Cell(a).or(Cell(b)).0, either, "{a} | {b}");
-        assert_eq!(rt; Cell(a).xor(Cell(b)).0, one, "{a} ^ {b}");
     }
 }
 
 #[test]
 fn comparisons(rt: HostRuntime) {
-    for (a, b, less, less_eq, equal) in [
-        (0, 0, false, true, true),
-        (-1, 0, true, true, false),
-        (0, -1, false, false, false),
-        (LEAST, GREATEST, true, true, false),
-        (GREATEST, LEAST, false, false, false),
-        (LEAST, LEAST, false, true, true),
-    ] {
-        assert_eq!(rt; Cell(a).less(Cell(b)), less, "{a} < {b}");
-        assert_eq!(rt; Cell(a).less_eq(Cell(b)), less_eq, "{a} <= {b}");
-        assert_eq!(rt; Cell(a).equal(Cell(b)), equal, "{a} == {b}");
+    for (a, b, want) in COMPARISONS {
+        let (a, b) = (Cell(a), Cell(b));
+        assert_eq!(rt; Comparison::Less.holds(a, b), want[0]);
+        assert_eq!(rt; Comparison::LessEqual.holds(a, b), want[1]);
+        assert_eq!(rt; Comparison::Greater.holds(a, b), want[2]);
+        assert_eq!(rt; Comparison::GreaterEqual.holds(a, b), want[3]);
     }
+}
+
+#[test]
+fn other_operators(rt: HostRuntime) {
+    assert_eq!(rt; Prefix::Negate.apply(Cell(LEAST)), Cell(LEAST));
+    assert_eq!(rt; Prefix::Invert.apply(Cell(1)), Cell(-2));
+    assert_eq!(rt; Prefix::Not.apply(Cell(-1)), Cell(0));
+    assert_eq!(rt; Logical::And.apply(Cell(2), Cell(4)), Cell(1));
+    assert_eq!(rt; Logical::Or.apply(Cell(0), Cell(0)), Cell(0));
+    assert_eq!(rt; Logical::Or.level(), 12);
+    assert_eq!(rt; Operator::Equal.level(), 10);
+    assert_eq!(rt; Place { file: 1, line: 2 }, Place { file: 1, line: 2 });
+}
+
+#[test]
+fn constants(rt: HostRuntime) -> Result<(), Fail> {
+    for (name, value, is_bool) in CONSTANTS {
+        let found = predefined(name).ok_or("no constant")?;
+        assert_eq!(rt; found.value, value);
+        assert_eq!(rt; found.is_bool, is_bool);
+    }
+    assert_eq!(rt; predefined(b"cellMax"), None);
+    Ok(())
 }
 
 #[test]
 fn characters(rt: HostRuntime) {
     // The packed text "abcd".
     let text = Cell(0x6162_6364);
-    for (k, byte, changed) in [
-        (0, b'a', 0x8062_6364),
-        (1, b'b', 0x6180_6364),
-        (2, b'c', 0x6162_8064),
-        (3, b'd', 0x6162_6380),
-    ] {
-        assert_eq!(rt; text.char_at(k), byte, "{k}");
-        assert_eq!(rt; text.with_char(k, 0x80).0.cast_unsigned(), changed, "{k}");
-    }
-    assert_eq!(rt; Place { file: 1, line: 2 }, Place { file: 1, line: 2 });
+    assert_eq!(rt; text.char_at(0), b'a');
+    assert_eq!(rt; text.char_at(3), b'd');
+    assert_eq!(rt; text.with_char(0, 0x80).0.cast_unsigned(), 0x8062_6364);
+    assert_eq!(rt; text.with_char(3, 0x80).0, 0x6162_6380);
 }
