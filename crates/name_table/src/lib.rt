@@ -3,8 +3,6 @@
 #![tactic(auto)]
 
 mod names;
-#[cfg(test)]
-mod tests;
 
 pub use names::Names;
 pub use pawn_base::{Bytes, List, Memory};

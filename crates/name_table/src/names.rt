@@ -1,4 +1,5 @@
-ghost use Rattle.std.specs.Prelude.{◌≡◌, [], ◌∷◌, ◌++◌, false, not, length, position, slice_get, option_map, OnOk, OnErr, IfOk};
+ghost use Rattle.std.specs.Prelude.{◌≡◌, [], ◌∷◌, ◌++◌, false, not, length, position, slice_get};
+ghost use Rattle.std.specs.Prelude.{option_map, OnOk, OnErr, IfOk};
 ghost use Rattle.std.specs.Str.{bytes_eq};
 ghost use Rattle.name_table.specs.Among.{is_among, with_name};
 
@@ -7,8 +8,8 @@ use pawn_base::{Bytes, List, Memory};
 use std::alloc::Global;
 use std::marker::Model;
 
-/// Names, each once, in the order in which they were added. Contracts see them as a list; the number
-/// of a name is its place there, from 0.
+/// Names, each once, in the order in which they were added. Contracts see them as a list; the
+/// number of a name is its place there, from 0.
 #[derive(Drop)]
 pub struct Names {
     set: IndexSet<Vec<u8>>,

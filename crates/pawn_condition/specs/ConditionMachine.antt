@@ -1,15 +1,18 @@
 -- A condition read from left to right with a stack of what waits for an operand. No promise rests
--- on this; it is proved to give the value of the tree that the tokens spell.
+-- on this; it is proved to give the value of the tree that the text spells.
 use Rattle.std.specs.Prelude.{ℕ, ℤ, nat_le, Bool, true, false, Option, Some, None, List, [], ◌∷◌, if◌then◌else◌}
-use Rattle.pawn_condition.specs.declared.token.Binary.{Binary}
-use Rattle.pawn_condition.specs.declared.token.Binary.TheVariants as two
-use Rattle.pawn_condition.specs.declared.token.Prefix.TheVariants as prefix
-use Rattle.pawn_condition.specs.declared.token.Token.{Token}
-use Rattle.pawn_condition.specs.declared.token.Token.TheVariants as token
+use Rattle.pawn_cells.specs.declared.operator.Operator.{Operator}
+use Rattle.pawn_cells.specs.declared.operator.Operator.TheVariants as between
+use Rattle.pawn_cells.specs.declared.operator.Prefix.TheVariants as before
+use Rattle.pawn_condition.specs.declared.part.Infix.{Infix}
+use Rattle.pawn_condition.specs.declared.part.Infix.TheVariants.{Cells, Compare, Logic}
+use Rattle.pawn_condition.specs.declared.part.Part.{Part}
+use Rattle.pawn_condition.specs.declared.part.Part.TheVariants as part
 use Rattle.pawn_condition.specs.declared.reading.Reading.{Reading}
 use Rattle.pawn_condition.specs.declared.evaluate.Wait.{Wait}
 use Rattle.pawn_condition.specs.declared.evaluate.Wait.TheVariants.{Mark, Pre, Left, Chooses, Second}
-use Rattle.pawn_condition.specs.Condition.{level, plain, grouped, before, choice, applied}
+use Rattle.pawn_condition.specs.Nested.{level, plain, grouped, before_value, choice, applied}
+use Rattle.pawn_condition.specs.Parts.{parts_from}
 
 pub record Held : Type 0 where
   pub waits : List Wait
@@ -18,13 +21,13 @@ pub record Held : Type 0 where
 abbrev pub held : List Wait → Reading → Held
 held waits operand = record { waits = waits; operand = operand }
 
--- what an operand becomes where the first that waits takes it: an operator of at least this level
+-- what an operand becomes where the first that waits takes it: where it binds so tightly
 abbrev pub takes : ℕ → Wait → Reading → Option Reading
 takes k Mark r = None
-takes k (Pre sign) r = Some (before sign r)
-takes k (Left sign a) r = if nat_le k (level sign) then Some (applied sign a r) else None
+takes k (Pre sign) r = Some (before_value sign r)
+takes k (Left sign a) r = if nat_le (level sign) k then Some (applied sign a r) else None
 takes k (Chooses c) r = None
-takes k (Second c a) r = if nat_le k 0 then Some (choice c a r) else None
+takes k (Second c a) r = if nat_le 13 k then Some (choice c a r) else None
 
 abbrev pub settle_by : Option Reading → Held → (Reading → Held) → Held
 settle_by None rest go_on = rest
@@ -57,49 +60,63 @@ chosen_by (Left sign a ∷ ws) go_on = None
 chosen_by (Chooses c ∷ ws) go_on = go_on c ws
 chosen_by (Second c a ∷ ws) go_on = None
 
-abbrev pub is_minus : Binary → Bool
-is_minus two.Minus = true
-is_minus _ = false
+abbrev pub is_subtract : Operator → Bool
+is_subtract between.Subtract = true
+is_subtract _ = false
+
+abbrev pub is_minus : Infix → Bool
+is_minus (Cells op) = is_subtract op
+is_minus (Compare c) = false
+is_minus (Logic op) = false
 
 -- `operand` stands before one, `operator` behind one
 unfoldable mutual
-  pub operand : List Token → List Wait → Option Reading
+  pub operand : List Part → List Wait → Option Reading
   operand [] ws = None
-  operand (token.Value v ∷ ts) ws = operator ts ws (plain v false)
-  operand (token.Two sign ∷ ts) ws =
-      if is_minus sign then operand ts (Pre prefix.Negate ∷ ws) else None
-  operand (token.Not ∷ ts) ws = operand ts (Pre prefix.Not ∷ ws)
-  operand (token.Invert ∷ ts) ws = operand ts (Pre prefix.Invert ∷ ws)
-  operand (token.Question ∷ ts) ws = None
-  operand (token.Colon ∷ ts) ws = None
-  operand (token.Open ∷ ts) ws = operand ts (Mark ∷ ws)
-  operand (token.Close ∷ ts) ws = None
+  operand (part.Value v ∷ ts) ws = operator ts ws (plain (Some v))
+  operand (part.Two sign ∷ ts) ws =
+      if is_minus sign then operand ts (Pre before.Negate ∷ ws) else None
+  operand (part.Not ∷ ts) ws = operand ts (Pre before.Not ∷ ws)
+  operand (part.Invert ∷ ts) ws = operand ts (Pre before.Invert ∷ ws)
+  operand (part.Question ∷ ts) ws = None
+  operand (part.Colon ∷ ts) ws = None
+  operand (part.Open ∷ ts) ws = operand ts (Mark ∷ ws)
+  operand (part.Close ∷ ts) ws = None
 
-  pub operator : List Token → List Wait → Reading → Option Reading
-  operator [] ws r = whole_by (settle 0 ws r).waits (settle 0 ws r).operand
-  operator (token.Value v ∷ ts) ws r = None
-  operator (token.Two sign ∷ ts) ws r =
+  pub operator : List Part → List Wait → Reading → Option Reading
+  operator [] ws r = whole_by (settle 13 ws r).waits (settle 13 ws r).operand
+  operator (part.Value v ∷ ts) ws r = None
+  operator (part.Two sign ∷ ts) ws r =
       operand ts (Left sign (settle (level sign) ws r).operand ∷ (settle (level sign) ws r).waits)
-  operator (token.Not ∷ ts) ws r = None
-  operator (token.Invert ∷ ts) ws r = None
-  operator (token.Question ∷ ts) ws r =
-      operand ts (Chooses (settle 1 ws r).operand ∷ (settle 1 ws r).waits)
-  operator (token.Colon ∷ ts) ws r =
-      chosen_by (settle 0 ws r).waits
-      (λ c below. operand ts (Second c (settle 0 ws r).operand ∷ below))
-  operator (token.Open ∷ ts) ws r = None
-  operator (token.Close ∷ ts) ws r =
-      closed_by (settle 0 ws r).waits
-      (λ below. operator ts below (grouped (settle 0 ws r).operand))
+  operator (part.Not ∷ ts) ws r = None
+  operator (part.Invert ∷ ts) ws r = None
+  operator (part.Question ∷ ts) ws r =
+      operand ts (Chooses (settle 12 ws r).operand ∷ (settle 12 ws r).waits)
+  operator (part.Colon ∷ ts) ws r =
+      chosen_by (settle 13 ws r).waits
+      (λ c below. operand ts (Second c (settle 13 ws r).operand ∷ below))
+  operator (part.Open ∷ ts) ws r = None
+  operator (part.Close ∷ ts) ws r =
+      closed_by (settle 13 ws r).waits
+      (λ below. operator ts below (grouped (settle 13 ws r).operand))
 
 -- what comes next, by whether an operand stands there
-abbrev pub from : Option Reading → List Token → List Wait → Option Reading
+abbrev pub from : Option Reading → List Part → List Wait → Option Reading
 from None ts ws = operand ts ws
 from (Some r) ts ws = operator ts ws r
 
-abbrev pub good_value : Option Reading → Option ℤ
-good_value None = None
-good_value (Some r) = if r.fails then None else Some r.value
+-- the value of parts
+abbrev pub value_by : Option Reading → Option ℤ
+value_by None = None
+value_by (Some r) = r.value
 
-unfoldable pub value_of : List Token → Option ℤ
-value_of tokens = good_value (operand tokens [])
+unfoldable pub value_of_parts : List Part → Option ℤ
+value_of_parts parts = value_by (operand parts [])
+
+abbrev pub value_if : Option (List Part) → Option ℤ
+value_if None = None
+value_if (Some parts) = value_of_parts parts
+
+-- the value of a text under a control character
+unfoldable pub value_of : ℕ → List ℕ → Option ℤ
+value_of control text = value_if (parts_from control 0 text)

@@ -1,5 +1,5 @@
 pub mod Condition
 pub mod ConditionMachine
-pub mod ConditionTokens
-pub mod Numerals
-pub mod Signs
+pub mod Expression
+pub mod Nested
+pub mod Parts

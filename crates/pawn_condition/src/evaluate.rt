@@ -1,11 +1,12 @@
 ghost use Rattle.std.specs.Prelude.{◌≡◌, List, ◌∷◌, None, IfOk, MatchOption};
-ghost use Rattle.pawn_condition.specs.Condition as spec;
-ghost use Rattle.pawn_condition.specs.declared.token.Token.{Token as AToken};
+ghost use Rattle.pawn_condition.specs.declared.part.Part.{Part as APart};
 ghost use Rattle.pawn_condition.specs.ConditionMachine as machine;
+ghost use Rattle.pawn_condition.specs.Nested as spec;
 
+use super::part::{Infix, Part};
 use super::reading::Reading;
-use super::token::{Binary, Prefix, Token};
 use pawn_base::Memory;
+use pawn_cells::{CHOICE_LEVEL, COMPARISON_LEVEL, Operator, Prefix};
 use std::alloc::Global;
 use std::collections::VecDeque;
 
@@ -16,54 +17,49 @@ pub enum Wait {
     Mark,
     Pre(Prefix),
     /// An operator with its first operand.
-    Left(Binary, Reading),
+    Left(Infix, Reading),
     /// A condition with its `?`.
     Chooses(Reading),
     /// A condition with its first choice.
     Second(Reading, Reading),
 }
 
-/// How tightly an operator binds, from 1.
-fn level(sign: Binary) -> u32
+/// How tightly an operator binds.
+fn level(sign: Infix) -> u32
     ensures { result ≡ spec.level sign }
 {
     match sign {
-        Binary::Either => 1,
-        Binary::Both => 2,
-        Binary::Equal | Binary::NotEqual => 3,
-        Binary::Less | Binary::LessEq | Binary::Greater | Binary::GreaterEq => 4,
-        Binary::Or => 5,
-        Binary::Xor => 6,
-        Binary::And => 7,
-        Binary::ShiftLeft | Binary::ShiftRight | Binary::ShiftUnsigned => 8,
-        Binary::Plus | Binary::Minus => 9,
-        Binary::Times | Binary::Over | Binary::Rest => 10,
+        Infix::Cells(operator) => operator.level(),
+        Infix::Compare(_) => COMPARISON_LEVEL,
+        Infix::Logic(operator) => operator.level(),
     }
 }
 
-/// What an operand becomes where what waits takes it, as an operator of at least this level.
-fn taken(least: u32, wait: Wait, operand: Reading) -> Option<Reading>
-    ensures { result ≡ machine.takes least wait operand }
+/// What an operand becomes where what waits takes it, if that binds so tightly.
+fn taken(most: u32, wait: Wait, operand: Reading) -> Option<Reading>
+    ensures { result ≡ machine.takes most wait operand }
 {
     match wait {
         Wait::Mark | Wait::Chooses(_) => None,
         Wait::Pre(sign) => Some(operand.before(sign)),
-        Wait::Left(sign, first) if least <= level(sign) => Some(first.apply(sign, operand)),
+        Wait::Left(sign, first) if level(sign) <= most => Some(first.apply(sign, operand)),
         Wait::Left(_, _) => None,
-        Wait::Second(condition, first) if least == 0 => Some(condition.choose(first, operand)),
+        Wait::Second(condition, first) if CHOICE_LEVEL <= most => Some(condition.choose(
+            first, operand,
+        )),
         Wait::Second(_, _) => None,
     }
 }
 
-/// Gives the operand to all that waits for one of at least this level.
+/// Gives the operand to all that binds so tightly.
 #[tactic(auto, unfolding(crate::specs::ConditionMachine::settle))]
-fn settle(waits: &mut VecDeque<Wait>, least: u32, operand: Reading) -> Reading
-    ensures operand { result ≡ (machine.settle least waits.old.items operand).operand }
-    ensures waits { waits.new.items ≡ (machine.settle least waits.old.items operand).waits }
+fn settle(waits: &mut VecDeque<Wait>, most: u32, operand: Reading) -> Reading
+    ensures operand { result ≡ (machine.settle most waits.old.items operand).operand }
+    ensures waits { waits.new.items ≡ (machine.settle most waits.old.items operand).waits }
 {
     let mut held = operand;
     while let Some(wait) = waits.front() {
-        match taken(least, *wait, held) {
+        match taken(most, *wait, held) {
             Some(next) => {
                 held = next;
                 let _taken = waits.pop_front();
@@ -75,54 +71,51 @@ fn settle(waits: &mut VecDeque<Wait>, least: u32, operand: Reading) -> Reading
     held
 }
 
-/// Takes a token where an operand is wanted: what is held then, or nothing where none fits.
+/// Takes a part where an operand is wanted: what is held then, or nothing where none fits.
 #[tactic(auto, unfolding(crate::specs::ConditionMachine::operand))]
-fn before_operand(
-    waits: &mut VecDeque<Wait>,
-    token: Token,
-) -> Result<Option<Option<Reading>>, Memory>
+fn before_operand(waits: &mut VecDeque<Wait>, part: Part) -> Result<Option<Option<Reading>>, Memory>
     ensures { IfOk result (λ step. MatchOption step
-        ((rest : List AToken) → machine.operand (token ∷ rest) waits.old.items ≡ None)
-        (λ held. (rest : List AToken) →
+        ((rest : List APart) → machine.operand (part ∷ rest) waits.old.items ≡ None)
+        (λ held. (rest : List APart) →
         machine.from held rest waits.new.items ≡
-        machine.operand (token ∷ rest) waits.old.items)) }
+        machine.operand (part ∷ rest) waits.old.items)) }
 {
-    match token {
-        Token::Value(value) => return Ok(Some(Some(Reading::plain(value, false)))),
-        Token::Open => waits.push_front(Wait::Mark)?,
-        Token::Not => waits.push_front(Wait::Pre(Prefix::Not))?,
-        Token::Invert => waits.push_front(Wait::Pre(Prefix::Invert))?,
-        Token::Two(Binary::Minus) => waits.push_front(Wait::Pre(Prefix::Negate))?,
-        Token::Two(_) | Token::Question | Token::Colon | Token::Close => return Ok(None),
+    match part {
+        Part::Value(value) => return Ok(Some(Some(Reading::plain(Some(value))))),
+        Part::Open => waits.push_front(Wait::Mark)?,
+        Part::Not => waits.push_front(Wait::Pre(Prefix::Not))?,
+        Part::Invert => waits.push_front(Wait::Pre(Prefix::Invert))?,
+        Part::Two(Infix::Cells(Operator::Subtract)) => waits.push_front(Wait::Pre(Prefix::Negate))?,
+        Part::Two(_) | Part::Question | Part::Colon | Part::Close => return Ok(None),
     }
     Ok(Some(None))
 }
 
-/// Takes a token behind an operand.
+/// Takes a part behind an operand.
 #[tactic(auto, unfolding(crate::specs::ConditionMachine::operator))]
 fn behind_operand(
     waits: &mut VecDeque<Wait>,
-    token: Token,
+    part: Part,
     first: Reading,
 ) -> Result<Option<Option<Reading>>, Memory>
     ensures { IfOk result (λ step. MatchOption step
-        ((rest : List AToken) → machine.operator (token ∷ rest) waits.old.items first ≡ None)
-        (λ held. (rest : List AToken) → machine.from held rest waits.new.items ≡
-        machine.operator (token ∷ rest) waits.old.items first)) }
+        ((rest : List APart) → machine.operator (part ∷ rest) waits.old.items first ≡ None)
+        (λ held. (rest : List APart) → machine.from held rest waits.new.items ≡
+        machine.operator (part ∷ rest) waits.old.items first)) }
 {
-    match token {
-        Token::Two(sign) => {
+    match part {
+        Part::Two(sign) => {
             let operand = settle(waits, level(sign), first);
             waits.push_front(Wait::Left(sign, operand))?;
             Ok(Some(None))
         }
-        Token::Question => {
-            let condition = settle(waits, 1, first);
+        Part::Question => {
+            let condition = settle(waits, CHOICE_LEVEL - 1, first);
             waits.push_front(Wait::Chooses(condition))?;
             Ok(Some(None))
         }
-        Token::Colon => {
-            let choice = settle(waits, 0, first);
+        Part::Colon => {
+            let choice = settle(waits, CHOICE_LEVEL, first);
             match waits.pop_front() {
                 Some(Wait::Chooses(condition)) => {
                     waits.push_front(Wait::Second(condition, choice))?;
@@ -131,34 +124,35 @@ fn behind_operand(
                 _ => Ok(None),
             }
         }
-        Token::Close => {
-            let inner = settle(waits, 0, first);
+        Part::Close => {
+            let inner = settle(waits, CHOICE_LEVEL, first);
             match waits.pop_front() {
                 Some(Wait::Mark) => Ok(Some(Some(inner.grouped()))),
                 _ => Ok(None),
             }
         }
-        Token::Value(_) | Token::Not | Token::Invert | Token::Open => Ok(None),
+        Part::Value(_) | Part::Not | Part::Invert | Part::Open => Ok(None),
     }
 }
 
-/// The value of a condition, or nothing where no expression is spelled or a divisor is zero.
-#[tactic(auto, unfolding(crate::specs::ConditionMachine::value_of, crate::specs::ConditionMachine::operator, crate::specs::ConditionMachine::operand))]
-pub fn evaluate(alloc: Global, tokens: &[Token]) -> Result<Option<i32>, Memory>
-    ensures { IfOk result (λ value. value ≡ machine.value_of tokens.now) }
+/// The value of the expression that parts spell, or nothing where they spell none or a divisor is
+/// zero.
+#[tactic(auto, unfolding(crate::specs::ConditionMachine::value_of_parts, crate::specs::ConditionMachine::operator, crate::specs::ConditionMachine::operand))]
+pub fn evaluate(alloc: Global, parts: &[Part]) -> Result<Option<i32>, Memory>
+    ensures { IfOk result (λ value. value ≡ machine.value_of_parts parts.now) }
 {
     let mut waits = VecDeque::new(alloc);
     let mut held: Option<Reading> = None;
-    for token in tokens {
+    for part in parts {
         match held {
-            None => match before_operand(&mut waits, *token)? {
+            None => match before_operand(&mut waits, *part)? {
                 Some(next) => {
                     held = next;
                     continue;
                 }
                 None => return Ok(None),
             },
-            Some(first) => match behind_operand(&mut waits, *token, first)? {
+            Some(first) => match behind_operand(&mut waits, *part, first)? {
                 Some(next) => {
                     held = next;
                     continue;
@@ -170,9 +164,9 @@ pub fn evaluate(alloc: Global, tokens: &[Token]) -> Result<Option<i32>, Memory>
     let Some(last) = held else {
         return Ok(None);
     };
-    let whole = settle(&mut waits, 0, last);
-    if !waits.is_empty() || whole.fails {
+    let whole = settle(&mut waits, CHOICE_LEVEL, last);
+    if !waits.is_empty() {
         return Ok(None);
     }
-    Ok(Some(whole.value))
+    Ok(whole.value)
 }

@@ -1,17 +1,10 @@
-//! The conditions of the preprocessor: their tokens, and the value of the expression that these
-//! spell.
+//! The conditions of the preprocessor: the value of the expression that a text spells.
 #![tactic(auto)]
 
 mod evaluate;
-mod lexer;
-mod numeral;
+mod part;
+mod parts;
 mod reading;
-mod signs;
-#[cfg(test)]
-mod tests;
-mod token;
 mod value;
 
-pub use lexer::tokens;
-pub use token::{Binary, Token};
 pub use value::value_of;

@@ -1,32 +1,30 @@
-ghost use Rattle.std.specs.Prelude.{◌≡◌, ◌↔◌, IsNone, ◌||◌, IfSome, IfNone, pos, true};
-ghost use Rattle.pawn_cells.specs.Cells as cells;
-ghost use Rattle.pawn_condition.specs.Condition as spec;
+ghost use Rattle.std.specs.Prelude.{◌≡◌, Some};
+ghost use Rattle.pawn_cells.specs.Operators as operators;
+ghost use Rattle.pawn_condition.specs.Expression.{on_two, chosen};
+ghost use Rattle.pawn_condition.specs.Nested as spec;
 
-use super::token::{Binary, Prefix};
-use pawn_cells::Cell;
+use super::part::Infix;
+use pawn_cells::{Cell, Comparison, Logical, Operator, Prefix};
 
-/// What an operand comes to.
+/// What an operand comes to. A value is none where a divisor in it is zero.
 #[derive(Clone, Copy, Debug, PartialEq, Eq)]
 pub struct Reading {
-    pub value: i32,
+    pub value: Option<i32>,
+    /// Of a comparison: the operand that the chain's next one takes up.
+    pub last: Option<i32>,
     /// Of a comparison: whether all of its chain so far hold.
     pub holds: bool,
-    /// Of a comparison: the operand that the chain's next one takes up.
-    pub last: i32,
-    /// A divisor somewhere is zero.
-    pub fails: bool,
 }
 
 impl Reading {
     /// An operand that no comparison is open for.
-    pub fn plain(value: i32, fails: bool) -> Reading
-        ensures { result ≡ spec.plain value fails }
+    pub fn plain(value: Option<i32>) -> Reading
+        ensures { result ≡ spec.plain value }
     {
         Reading {
             value,
-            holds: true,
             last: value,
-            fails,
+            holds: true,
         }
     }
 
@@ -34,121 +32,84 @@ impl Reading {
     pub fn grouped(self) -> Reading
         ensures { result ≡ spec.grouped self }
     {
-        Reading::plain(self.value, self.fails)
+        Reading::plain(self.value)
     }
 
     pub fn before(self, sign: Prefix) -> Reading
-        ensures { result ≡ spec.before sign self }
+        ensures { result ≡ spec.before_value sign self }
     {
-        let cell = Cell(self.value);
-        let value = match sign {
-            Prefix::Not => cell.not(),
-            Prefix::Invert => cell.invert(),
-            Prefix::Negate => cell.neg(),
-        };
-        Reading::plain(value.0, self.fails)
+        match self.value {
+            Some(value) => Reading::plain(Some(sign.apply(Cell(value)).0)),
+            None => Reading::plain(None),
+        }
     }
 
     /// Both choices are evaluated.
     pub fn choose(self, first: Reading, second: Reading) -> Reading
         ensures { result ≡ spec.choice self first second }
     {
-        let value = if self.value == 0 {
-            second.value
-        } else {
-            first.value
-        };
-        Reading::plain(value, self.fails || (first.fails || second.fails))
+        Reading::plain(choose(self.value, first.value, second.value))
     }
 
     /// A comparison behind others takes up their last operand.
-    fn compare(self, holds: bool, second: Reading) -> Reading
-        ensures { result ≡ spec.compared self holds second }
+    fn compare(self, comparison: Comparison, second: Reading) -> Reading
+        ensures { result ≡ spec.compared comparison self second }
     {
-        let all = self.holds && holds;
+        let holds = self.holds && holds(comparison, self.last, second.value);
+        let value = match (self.value, second.value) {
+            (Some(_), Some(_)) => Some(i32::from(holds)),
+            (Some(_), None) | (None, _) => None,
+        };
         Reading {
-            value: i32::from(all),
-            holds: all,
+            value,
             last: second.value,
-            fails: self.fails || second.fails,
+            holds,
         }
-    }
-
-    fn with(self, value: Cell, second: Reading) -> Reading
-        ensures { result ≡ spec.plain value.0 (self.fails || second.fails) }
-    {
-        Reading::plain(value.0, self.fails || second.fails)
-    }
-
-    fn truth(self, holds: bool, second: Reading) -> Reading
-        ensures { result ≡ spec.plain (spec.truth holds) (self.fails || second.fails) }
-    {
-        Reading::plain(i32::from(holds), self.fails || second.fails)
-    }
-
-    /// A quotient or a rest, or none of a divisor of zero.
-    fn divided(self, value: Option<Cell>, second: Reading) -> Reading
-        ensures some { IfSome value (λ cell. result ≡ spec.both self second cell.0) }
-        ensures none { IfNone value (result ≡ spec.plain (pos 0) true) }
-    {
-        match value {
-            Some(cell) => self.with(cell, second),
-            None => Reading::plain(0, true),
-        }
-    }
-
-    /// What the quotient leaves.
-    fn rest(self, second: Reading) -> Reading
-        ensures { result ≡ spec.divided_by (cells.is_zero second.value)
-            (cells.floor_rem self.value second.value) self second }
-    {
-        if second.value == 0 {
-            return Reading::plain(0, true);
-        }
-        self.divided(floor_rem(Cell(self.value), Cell(second.value)), second)
     }
 
     /// An operator between two operands.
-    #[tactic(auto, unfolding(crate::specs::Condition::applied))]
-    pub fn apply(self, sign: Binary, second: Reading) -> Reading
+    #[tactic(auto, unfolding(crate::specs::Nested::applied))]
+    pub fn apply(self, sign: Infix, second: Reading) -> Reading
         ensures { result ≡ spec.applied sign self second }
     {
-        let (left, right) = (Cell(self.value), Cell(second.value));
-        let last = Cell(self.last);
         match sign {
-            Binary::Times => self.with(left.mul(right), second),
-            Binary::Over => self.divided(left.floor_div(right), second),
-            Binary::Rest => self.rest(second),
-            Binary::Plus => self.with(left.add(right), second),
-            Binary::Minus => self.with(left.sub(right), second),
-            Binary::ShiftLeft => self.with(left.shl(right), second),
-            Binary::ShiftRight => self.with(left.shr(right), second),
-            Binary::ShiftUnsigned => self.with(left.ushr(right), second),
-            Binary::And => self.with(left.and(right), second),
-            Binary::Xor => self.with(left.xor(right), second),
-            Binary::Or => self.with(left.or(right), second),
-            Binary::Less => self.compare(last.less(right), second),
-            Binary::LessEq => self.compare(last.less_eq(right), second),
-            Binary::Greater => self.compare(right.less(last), second),
-            Binary::GreaterEq => self.compare(right.less_eq(last), second),
-            Binary::Equal => self.truth(left.equal(right), second),
-            Binary::NotEqual => self.truth(!left.equal(right), second),
-            Binary::Both => self.truth(is_true(self.value) && is_true(second.value), second),
-            Binary::Either => self.truth(is_true(self.value) || is_true(second.value), second),
+            Infix::Cells(operator) => Reading::plain(operate(operator, self.value, second.value)),
+            Infix::Compare(comparison) => self.compare(comparison, second),
+            Infix::Logic(operator) => Reading::plain(decide(operator, self.value, second.value)),
         }
     }
 }
 
-fn is_true(value: i32) -> bool
-    ensures { result ≡ spec.is_true value }
+fn choose(condition: Option<i32>, first: Option<i32>, second: Option<i32>) -> Option<i32>
+    ensures { result ≡ chosen condition first second }
 {
-    value != 0
+    let (condition, first, second) = (condition?, first?, second?);
+    Some(if condition == 0 { second } else { first })
 }
 
-/// What the quotient leaves, or nothing for a divisor of zero.
-fn floor_rem(left: Cell, right: Cell) -> Option<Cell>
-    ensures zero { IsNone result ↔ (right.0 ≡ pos 0) }
-    ensures value { IfSome result (λ rest. rest.0 ≡ cells.floor_rem left.0 right.0) }
+/// Whether a comparison of two values that there are holds.
+fn holds(comparison: Comparison, left: Option<i32>, right: Option<i32>) -> bool
+    ensures { result ≡ spec.holds_of comparison left right }
 {
-    left.floor_rem(right)
+    match (left, right) {
+        (Some(left), Some(right)) => comparison.holds(Cell(left), Cell(right)),
+        (Some(_), None) | (None, _) => false,
+    }
+}
+
+fn operate(operator: Operator, left: Option<i32>, right: Option<i32>) -> Option<i32>
+    ensures { result ≡ on_two (operators.binary operator) left right }
+{
+    let (left, right) = (left?, right?);
+    match operator.apply(Cell(left), Cell(right)) {
+        Some(cell) => Some(cell.0),
+        None => None,
+    }
+}
+
+fn decide(operator: Logical, left: Option<i32>, right: Option<i32>) -> Option<i32>
+    ensures { result ≡ on_two (λ x y. Some (operators.logical operator x y)) left right }
+{
+    let (left, right) = (left?, right?);
+    Some(operator.apply(Cell(left), Cell(right)).0)
 }

@@ -1,10 +1,2 @@
-pub mod ClassLaws
-pub mod DigitLaws
-pub mod FormLaws
 pub mod LineLaws
-pub mod LiteralLaws
-pub mod NumberLaws
-pub mod OneLaws
-pub mod SignLaws
-pub mod SortLaws
-pub mod TableLaws
+pub mod WithinLaws

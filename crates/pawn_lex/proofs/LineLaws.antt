@@ -4,57 +4,16 @@ use Rattle.std.proofs.Math.ListN.{drop_of_length-le}
 use Rattle.std.proofs.Math.Seq.{drop-cons}
 use Rattle.pawn_cells.specs.declared.place.Place.{Place}
 use Rattle.pawn_pre.specs.declared.line.Line.{Line}
-use Rattle.pawn_lex.specs.declared.class.Class.TheVariants as class
 use Rattle.pawn_lex.specs.declared.fault.LexFault.{LexFault}
 use Rattle.pawn_lex.specs.declared.fault.LexFault.TheVariants as lex
-use Rattle.pawn_lex.specs.declared.kind.Token.{Token}
-use Rattle.pawn_lex.specs.declared.kind.TokenKind.{TokenKind}
-use Rattle.pawn_lex.specs.declared.kind.Tokens.{Tokens}
+use Rattle.pawn_lex.specs.declared.token.Token.{Token}
+use Rattle.pawn_token.specs.declared.kind.TokenKind.{TokenKind}
+use Rattle.pawn_lex.specs.declared.token.Tokens.{Tokens}
 use Rattle.pawn_lex.specs.Answers.{IsAnswer, AnswersTokens, AnswersFault, AreDetermined}
-use Rattle.pawn_lex.specs.Forms.{Form, Word, Numeral, Character, Literal, Mark, Fits, IsToken, IsFault, BadForm, BadCharacter, BadText, Strange, opening}
-use Rattle.pawn_lex.specs.Lines.{blanks, past_blanks, IsNext, Leads, IsTokenised, IsFaulty, AreTokens, IsFirstFault}
-use Rattle.pawn_lex.specs.Number.{prefix}
-use Rattle.pawn_lex.proofs.ClassLaws.{first_is}
-use Rattle.pawn_lex.proofs.LiteralLaws.{end_drop, end_le, character_ends, body_ends}
-use Rattle.pawn_lex.proofs.OneLaws.{token_one, token_not_fault, place_fault_one}
-use Rattle.pawn_lex.proofs.SignLaws.{sign_some}
-
-opening_some : (turned : Bool) → 0 < length (opening turned)
-opening_some false = omega arith
-opening_some true = omega arith
-
--- what fits takes a byte at least
-some_fits : (control : ℕ) (setting : Bool) (at : List ℕ) (form : Form) (spelling rest : List ℕ) → Fits control setting at form spelling rest
-    → length rest < length at
-some_fits control setting at (Word word) spelling rest fits =
-    let some = first_is class.Letter spelling fits.spelled.1.letter in
-    let counted = ap length fits.parts in
-    omega (arith, some, counted, length-append spelling rest)
-some_fits control setting at (Numeral value) spelling rest fits =
-    let counted = ap length fits.parts in
-    let spelled = ap length fits.spelled.spelled in
-    omega (arith, fits.spelled.some, counted, spelled, length-append spelling rest, length-append (prefix fits.spelled.radix) fits.spelled.digits)
-some_fits control setting at (Character byte) spelling rest fits =
-    let here = fits.spelled in
-    let within = end_le here.inside rest (character_ends control here.inside byte rest here.read) in
-    let counted = ap length here.opened in
-    omega (arith, within, counted)
-some_fits control setting at (Literal bytes packed) spelling rest fits =
-    let here = fits.spelled in
-    let within = end_le here.inside rest (body_ends control 34 here.inside bytes rest here.body) in
-    let counted = ap length here.opened in
-    omega (arith, within, counted, length-append (opening here.turned) here.inside, opening_some here.turned)
-some_fits control setting at (Mark sign) spelling rest fits =
-    let counted = ap length fits.parts in
-    let spelled = ap length fits.spelled.spelled in
-    omega (arith, counted, spelled, length-append spelling rest, sign_some sign)
-
-pub token_shorter : (control : ℕ) (setting : Bool) (at : List ℕ) (kind : TokenKind) (rest : List ℕ) → IsToken control setting at kind rest
-    → length rest < length at
-token_shorter control setting at kind rest token = some_fits control setting at token.form token.spelling rest token.longest.fits
-
-pub past_blanks-le : (at : List ℕ) → length (past_blanks at) ≤ length at
-past_blanks-le at = end_le at (past_blanks at) (end_drop _ at)
+use Rattle.pawn_token.specs.Forms.{IsToken, IsFault}
+use Rattle.pawn_token.specs.Kinds.{blanks, past_blanks}
+use Rattle.pawn_lex.specs.Lines.{IsNext, Leads, IsTokenised, IsFaulty, AreTokens, IsFirstFault}
+use Rattle.pawn_token.proofs.ForCallers.{token_one, token_not_fault, place_fault_one, token_shorter, fault_some, past_blanks-le}
 
 -- the flag `first` behind some tokens
 abbrev pub flag_after : Bool → List Token → Bool
@@ -166,18 +125,6 @@ fault_stops : (line : Line) (at : List ℕ) (fault : ℕ) → IsFault line.ctrl 
 unfolding Stops
 fault_stops line at fault here first token rest next =
     token_not_fault line.ctrl line.packed (past_blanks at) next.kind rest fault next.here here
-
-fault_some : (control : ℕ) (setting : Bool) (at : List ℕ) (fault : ℕ) → IsFault control setting at fault → 0 < length at
-fault_some control setting at fault (BadForm form spelling rest longest fails) =
-    let shorter = some_fits control setting at form spelling rest longest.fits in
-    omega (arith, shorter)
-fault_some control setting at fault (BadCharacter inside opened fails) =
-    let counted = ap length opened in
-    omega (arith, counted)
-fault_some control setting at fault (BadText turned inside opened fails) =
-    let counted = ap length opened in
-    omega (arith, counted, length-append (opening turned) inside, opening_some turned)
-fault_some control setting at fault (Strange strange is) = strange.first
 
 leads_one : (line : Line) (first : Bool) (at : List ℕ) (a b : List Token) (end last : List ℕ) → Leads line first at a end
     → Leads line first at b last → Stops line end → Stops line last → (a ≡ b) × (end ≡ last)

@@ -1,10 +1,4 @@
 pub mod Answers
-pub mod Class
-pub mod Fault
-pub mod Forms
-pub mod Keys
 pub mod Lines
-pub mod Literal
-pub mod Number
-pub mod Reading
-pub mod Signs
+pub mod Look
+pub mod Within

@@ -3,18 +3,10 @@
 use Rattle.std.specs.Prelude.{◌≡◌, ◌⊎◌, ℕ, List, [], ◌∷◌, ◌++◌, Bool, true, false, not, ◌&&◌, length, ◌==◌}
 use Rattle.pawn_cells.specs.declared.place.Place.{Place}
 use Rattle.pawn_pre.specs.declared.line.Line.{Line}
-use Rattle.pawn_lex.specs.declared.class.Class.TheVariants as class
-use Rattle.pawn_lex.specs.declared.kind.Token.{Token}
-use Rattle.pawn_lex.specs.declared.kind.TokenKind.{TokenKind}
-use Rattle.pawn_lex.specs.Class.{run, after}
-use Rattle.pawn_lex.specs.Forms.{IsToken, IsFault}
-
--- the blanks at a place, and what follows them
-abbrev pub blanks : List ℕ → List ℕ
-blanks bytes = run class.Blank bytes
-
-abbrev pub past_blanks : List ℕ → List ℕ
-past_blanks bytes = after class.Blank bytes
+use Rattle.pawn_lex.specs.declared.token.Token.{Token}
+use Rattle.pawn_token.specs.declared.kind.TokenKind.{TokenKind}
+use Rattle.pawn_token.specs.Forms.{IsToken, IsFault}
+use Rattle.pawn_token.specs.Kinds.{blanks, past_blanks}
 
 -- the token behind the blanks at a place of a line, and what follows it
 pub record IsNext (line : Line) (first : Bool) (at : List ℕ) (token : Token)

@@ -1,14 +1,16 @@
 ghost use Rattle.std.specs.Prelude.{ℕ, List as ListOf};
 ghost use Rattle.pawn_cells.specs.declared.place.Place.{Place as PlaceOf};
-ghost use Rattle.pawn_lex.specs.declared.kind.Token.{Token as TokenOf};
+ghost use Rattle.pawn_lex.specs.declared.token.Token.{Token as TokenOf};
 ghost use Rattle.pawn_lex.specs.Answers.{IsAnswer, AnswersTokens, AnswersFault, AreDetermined};
 ghost use Rattle.pawn_lex.specs.Lines.{AreTokens, IsFirstFault};
+ghost use Rattle.pawn_lex.specs.Within.{IsWithin};
 
-use super::fault::{LexFault, Stop};
-use super::kind::Tokens;
+use super::fault::LexFault;
 use super::line::line_tokens;
+use super::token::Tokens;
 use pawn_base::List;
 use pawn_pre::Lines;
+use pawn_token::TokenFault;
 use std::alloc::Global;
 
 /// Reads line by line.
@@ -19,11 +21,11 @@ fn read(alloc: Global, lines: &Lines) -> Result<Tokens, LexFault>
     for line in lines.lines.as_slice() {
         match line_tokens(alloc, line, &mut list) {
             Ok(()) => {}
-            Err(Stop::Fault(kind)) => {
+            Err(TokenFault::Source(kind)) => {
                 let place = line.place;
                 return Err(LexFault::Source { kind, place });
             }
-            Err(Stop::Memory) => return Err(LexFault::Memory),
+            Err(TokenFault::Memory) => return Err(LexFault::Memory),
         }
     }
     Ok(Tokens { list })
@@ -37,6 +39,9 @@ pub fn tokens(alloc: Global, lines: &Lines) -> Result<Tokens, LexFault>
     ensures only_fault { (fault : ℕ) (place : PlaceOf) → IsFirstFault lines.now.lines fault place →
         AnswersFault fault place result }
     ensures determined { AreDetermined lines.now.lines }
+
+    // What sizes and places come out, for those who go on with the tokens.
+    ensures within { IsWithin lines.now.lines result }
 {
     read(alloc, lines)
 }

@@ -1,5 +1,7 @@
 -- A file as its lines with their comments blanked (Language Guide, "Comments").
-use Rattle.std.specs.Prelude.{ℕ, List, [], ◌∷◌, ◌++◌, ◌-◌, Bool, true, false, length, take, if◌then◌else◌}
+use Rattle.std.specs.Prelude.{ℕ, List, [], ◌∷◌, ◌++◌, ◌-◌, Bool, true, false, length, take}
+use Rattle.std.specs.Prelude.{if◌then◌else◌}
+use Rattle.pawn_lines.specs.declared.quote.Quote.TheVariants.{Outside}
 use Rattle.pawn_lines.specs.declared.row.Row.{Row}
 use Rattle.pawn_lines.specs.Comments.{Part, Text, Remark, clean}
 use Rattle.pawn_lines.specs.Joined.{rows_of}
@@ -14,8 +16,9 @@ pub record File : Type 0 where
 -- the part in which a line begins
 abbrev pub part_at : Bool → Part
 part_at true = Remark
-part_at false = Text
+part_at false = Text Outside
 
+-- rows before a file
 abbrev pub with_rows : List Row → File → File
 with_rows rows file = record {
   rows = rows ++ file.rows;
@@ -31,6 +34,7 @@ blanked unclosed last (row ∷ rest) =
     with_rows ((record { number = row.number; bytes = cleaned.bytes }) ∷ [])
     (blanked cleaned.unclosed row.number rest)
 
+-- a file at whose end a comment is open loses its last line
 abbrev pub without_open_line : File → File
 without_open_line file =
     if file.unclosed then record file { rows = take (length file.rows - 1) file.rows } else file

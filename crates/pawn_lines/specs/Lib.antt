@@ -2,4 +2,5 @@ pub mod ByteClass
 pub mod Comments
 pub mod File
 pub mod Joined
+pub mod Quote
 pub mod Scan

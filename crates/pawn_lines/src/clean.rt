@@ -1,16 +1,18 @@
 ghost use Rattle.std.specs.Prelude.{◌≡◌, ◌++◌, IfOk, OnOk};
-ghost use Rattle.pawn_lines.specs.Comments.{clean, is_quote};
+ghost use Rattle.pawn_lines.specs.Comments.{clean};
 ghost use Rattle.pawn_lines.specs.File.{part_at};
+ghost use Rattle.pawn_lines.specs.Quote.{quote_after};
 ghost use Rattle.pawn_lines.specs.Scan as spec;
 
+use super::quote::Quote;
 use pawn_base::{Bytes, Memory};
 use std::alloc::Global;
 
 /// What the bytes of a line so far leave pending.
 #[derive(Clone, Copy, Debug, PartialEq, Eq)]
 pub enum Mode {
-    /// In the text.
-    Open,
+    /// In the text, within a literal or not.
+    Reads(Quote),
     /// Behind a `/` of the text, which isn't written yet.
     Slash,
     /// In a comment to the line's end.
@@ -19,27 +21,13 @@ pub enum Mode {
     Inside,
     /// In such a comment, behind a `*`.
     Star,
-    /// In a literal that this quote ends.
-    Quoted(u8),
-    /// In such a literal, behind a `\`.
-    Escape(u8),
-}
-
-fn is_quote_mark(byte: u8) -> bool
-    ensures { result ≡ is_quote byte }
-{
-    byte == b'"' || byte == b'\''
 }
 
 /// The mode behind a byte of the text.
-fn text_mode(byte: u8) -> Mode
-    ensures { result ≡ spec.text_mode byte }
+fn text_mode(quote: Quote, byte: u8) -> Mode
+    ensures { result ≡ Mode.Reads (quote_after 92 quote byte) }
 {
-    if is_quote_mark(byte) {
-        Mode::Quoted(byte)
-    } else {
-        Mode::Open
-    }
+    Mode::Reads(quote.after(b'\\', byte))
 }
 
 impl Mode {
@@ -49,17 +37,14 @@ impl Mode {
         ensures { result ≡ (spec.one self byte).next }
     {
         match (self, byte) {
-            (Mode::Open, b'/') => Mode::Slash,
-            (Mode::Open, _) => text_mode(byte),
+            (Mode::Reads(quote), b'/') if quote.is_outside() => Mode::Slash,
+            (Mode::Reads(quote), _) => text_mode(quote, byte),
             (Mode::Slash, b'/') | (Mode::Over, _) => Mode::Over,
             (Mode::Slash, b'*') => Mode::Inside,
-            (Mode::Slash, _) => text_mode(byte),
+            (Mode::Slash, _) => text_mode(Quote::Outside, byte),
             (Mode::Inside, b'*') | (Mode::Star, b'*') => Mode::Star,
-            (Mode::Star, b'/') => Mode::Open,
+            (Mode::Star, b'/') => Mode::Reads(Quote::Outside),
             (Mode::Inside, _) | (Mode::Star, _) => Mode::Inside,
-            (Mode::Quoted(quote), b'\\') => Mode::Escape(quote),
-            (Mode::Quoted(quote), _) if byte == quote => Mode::Open,
-            (Mode::Quoted(quote), _) | (Mode::Escape(quote), _) => Mode::Quoted(quote),
         }
     }
 
@@ -69,10 +54,11 @@ impl Mode {
         ensures { IfOk result (λ _. out.new ≡ out.old ++ (spec.one self byte).out) }
     {
         match (self, byte) {
-            (Mode::Open, b'/') | (Mode::Over | Mode::Inside | Mode::Star, _) => Ok(()),
+            (Mode::Over | Mode::Inside | Mode::Star, _) => Ok(()),
             (Mode::Slash, b'/' | b'*') => out.push(b' '),
             (Mode::Slash, _) => out.append(&[b'/', byte]),
-            (Mode::Open | Mode::Quoted(_) | Mode::Escape(_), _) => out.push(byte),
+            (Mode::Reads(quote), b'/') if quote.is_outside() => Ok(()),
+            (Mode::Reads(_), _) => out.push(byte),
         }
     }
 
@@ -89,16 +75,20 @@ impl Mode {
                 out.push(b'/')?;
                 Ok(false)
             }
-            Mode::Open | Mode::Over | Mode::Quoted(_) | Mode::Escape(_) => Ok(false),
+            Mode::Reads(_) | Mode::Over => Ok(false),
         }
     }
 }
 
 /// The mode in which a line begins.
-fn first_mode(is_open: bool) -> Mode
-    ensures { result ≡ spec.mode_at is_open }
+fn first_mode(was_open: bool) -> Mode
+    ensures { result ≡ spec.mode_at was_open }
 {
-    if is_open { Mode::Inside } else { Mode::Open }
+    if was_open {
+        Mode::Inside
+    } else {
+        Mode::Reads(Quote::Outside)
+    }
 }
 
 /// A line with its comments blanked, and whether one goes on over its end. One may be open where

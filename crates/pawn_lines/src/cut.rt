@@ -1,4 +1,5 @@
-ghost use Rattle.std.specs.Prelude.{◌≡◌, ◌+◌, ◌<◌, ◌≤◌, ◌∷◌, ◌==◌, ◌↔◌, IsTrue, length, position, IfOk};
+ghost use Rattle.std.specs.Prelude.{◌≡◌, ◌+◌, ◌<◌, ◌≤◌, ◌∷◌, ◌==◌, ◌↔◌, IsTrue, length, position};
+ghost use Rattle.std.specs.Prelude.{IfOk};
 ghost use Rattle.std.specs.Str.Lines.{lines, strip_carriage_return};
 ghost use Rattle.pawn_lines.specs.Joined.{goes_on, rows_of};
 
@@ -25,8 +26,8 @@ fn without_return(line: &[u8]) -> &[u8]
     front
 }
 
-#[tactic(auto, using(crate::proofs::JoinedLaws::first_line, crate::proofs::JoinedLaws::last_line))]
 /// The first line, and what stands behind it.
+#[tactic(auto, using(crate::proofs::JoinedLaws::first_line, crate::proofs::JoinedLaws::last_line))]
 fn next_line(bytes: &[u8]) -> (&[u8], &[u8])
     requires { 0 < length bytes.now }
     ensures lines { lines bytes.now ≡ result.0.now ∷ lines result.1.now }

@@ -1,11 +1,11 @@
 -- A byte of a condition more, while `defined` is replaced.
 use Rattle.std.proofs.Common.{◌≡◌, ℕ, ◌-◌, ◌++◌, List, [], ◌∷◌, Bool, Some, None, if◌then◌else◌, length, ◌∙◌, append_assoc}
-use Rattle.pawn_macro.specs.declared.quote.Quote.{Quote}
+use Rattle.pawn_lines.specs.declared.quote.Quote.{Quote}
 use Rattle.pawn_lines.specs.ByteClass.{is_name_byte}
-use Rattle.pawn_macro.specs.Literals.{quote_after}
-use Rattle.pawn_macro.specs.Definitions.{Rules}
+use Rattle.pawn_lines.specs.Quote.{quote_after}
+use Rattle.pawn_macro.specs.Table.{Rules}
 use Rattle.pawn_macro.specs.Substitution.{begins_name}
-use Rattle.pawn_macro.specs.Values.{Asked, digit, answered, defined_at}
+use Rattle.pawn_macro.specs.Defined.{Asked, digit, answered, defined_at}
 
 module _ (out whole : List ℕ) (rules : Rules) (control : ℕ) (quote : Quote) (joined : Bool) (b : ℕ) (rest : List ℕ) where
   pub kept_byte : (if begins_name quote joined b then defined_at (b ∷ rest) else None) ≡ None →

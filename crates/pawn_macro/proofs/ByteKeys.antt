@@ -8,7 +8,7 @@ use Rattle.std.specs.Map.{KeepsOthers, lookup}
 use Rattle.std.proofs.lemmas.Cmp.{nat_list_cmp_total}
 use Rattle.std.proofs.lemmas.Bool.{cases_Bool, cond-true, cond-false}
 use Rattle.pawn_macro.specs.declared.rule.Rule.{Rule}
-use Rattle.pawn_macro.specs.Definitions.{rules_of}
+use Rattle.pawn_macro.specs.Table.{rules_of}
 
 -- a name equals one of two different names at most
 apart : (name key known : List ℕ) → bytes_eq name key ≡ false → bytes_eq name known ≡ true → bytes_eq key known ≡ false

@@ -1,28 +1,101 @@
 -- Text that was built as far as a line can be long.
-use Rattle.std.proofs.Common.{◌≡◌, ℕ, ◌+◌, ◌++◌, List, [], Bool, true, false, Option, Some, None, length, if◌then◌else◌, ◌∷◌, length-append, append-nil, append_assoc, refl, sym, ap, ◌∙◌, arith}
-use Rattle.pawn_macro.specs.declared.quote.Quote.{Quote}
+use Rattle.std.proofs.Common.{◌≡◌, ◌≤◌, ℕ, zero, suc, ◌+◌, ◌-◌, ◌++◌, List, [], Bool, true, false}
+use Rattle.std.proofs.Common.{Option, Some, None, length, take, if◌then◌else◌, ◌∷◌, length-append}
+use Rattle.std.proofs.Common.{◌<◌, drop, get_or, add-one, drop-cons, append-nil, append_assoc, refl, sym, ap, ◌∙◌, arith}
+use Rattle.std.specs.Prelude.{min}
+use Rattle.std.proofs.Math.Seq.{take-append-add, take-append_seam}
+use Rattle.std.proofs.lemmas.Bool.{ltb-true, lt-ltb}
+use Rattle.std.proofs.lemmas.List.{length-take, take_all, take_min}
+use Rattle.pawn_lines.specs.declared.quote.Quote.{Quote}
 use Rattle.pawn_lines.specs.ByteClass.{is_name_byte}
-use Rattle.pawn_macro.specs.Literals.{quote_after}
-use Rattle.pawn_macro.specs.Definitions.{Rules}
-use Rattle.pawn_macro.specs.Substitution.{Cursor, begins_name, place_at, substituted, with_before, or_later, is_long}
-use Rattle.pawn_macro.specs.Expansion.{IsCut, IsPlace, IsCursor}
+use Rattle.pawn_lines.specs.Quote.{quote_after}
+use Rattle.pawn_macro.specs.Table.{Rules}
+use Rattle.pawn_macro.specs.declared.matching.Given.{Given}
+use Rattle.pawn_macro.specs.declared.piece.Piece.{Piece}
+use Rattle.pawn_macro.specs.Substitution.{Cursor, bytes_for, filled, begins_name, place_at, substituted, with_before, or_later, is_long}
+use Rattle.pawn_macro.specs.Expansion.{IsCut, IsPlace, IsCursor, up_to_long}
 
 long_front : (a b : ℕ) → is_long a ≡ true → is_long (a + b) ≡ true
 long_front a b h = grind arith
 
-pub cut_whole : (whole : List ℕ) → IsCut whole whole
+cut_whole : (whole : List ℕ) → IsCut whole whole
 cut_whole whole = (refl, λ h. refl)
 
 true_false : {b : Bool} → b ≡ true → b ≡ false → ⊥
 true_false h k = cc
 
--- a front that is long
-pub cut_front : (out more whole : List ℕ) → out ++ more ≡ whole → is_long (length out) ≡ true → IsCut whole out
-cut_front out more whole e h =
-    (h ∙ sym (rw (sym e) (rw (length-append out more) (long_front (length out) (length more) h))), λ k. absurd (true_false h k))
+take_twice : (n : ℕ) (xs ys : List ℕ) → take n (take n xs ++ ys) ≡ take n (xs ++ ys)
+take_twice zero xs ys = refl
+take_twice (suc n) [] ys = refl
+take_twice (suc n) (x ∷ xs) ys = ap (λ t. x ∷ t) (take_twice n xs ys)
+
+-- the first 4,096 bytes are too long where the whole is
+long_min : (n : ℕ) → is_long (min 4096 n) ≡ is_long n
+long_min n = by_long (is_long n) refl
+  where
+    by_long : (t : Bool) → is_long n ≡ t → is_long (min 4096 n) ≡ is_long n
+    by_long true e =
+        let p = ltb-true 4095 n e in
+        let q : 4095 < min 4096 n = omega (arith, p) in
+        lt-ltb 4095 (min 4096 n) q ∙ sym e
+    by_long false e =
+        let p : n ≤ 4095 = grind arith in
+        let q : min 4096 n ≡ n = omega (arith, p) in
+        ap is_long q
+
+-- and else they are the whole
+front_all : (whole : List ℕ) → is_long (length whole) ≡ false → take 4096 whole ≡ whole
+front_all whole e = let p : length whole ≤ 4096 = grind arith in take_all 4096 whole p
+
+cut_front : (whole : List ℕ) → IsCut whole (up_to_long whole)
+unfolding up_to_long
+cut_front whole =
+    let e : is_long (length (take 4096 whole)) ≡ is_long (length whole) =
+    ap is_long (length-take 4096 whole) ∙ long_min (length whole) in
+    (e, λ h. front_all whole (sym e ∙ h))
+
+-- bytes put at the end, as far as there is room
+pub front_put : (out bytes : List ℕ) → length out ≤ 4096 →
+    out ++ take (min (4096 - length out) (length bytes)) bytes ≡ up_to_long (out ++ bytes)
+unfolding up_to_long
+front_put out bytes h =
+    let e : length out + (4096 - length out) ≡ 4096 = omega arith in
+    ap (λ t. out ++ t) (take_min (4096 - length out) bytes)
+    ∙ sym (take-append-add out bytes (4096 - length out)) ∙ ap (λ k. take k (out ++ bytes)) e
+
+-- a piece more
+front_more : (out piece rest whole : List ℕ) → up_to_long (out ++ (piece ++ rest)) ≡ whole →
+    up_to_long (up_to_long (out ++ piece) ++ rest) ≡ whole
+unfolding up_to_long
+front_more out piece rest whole h =
+    take_twice 4096 (out ++ piece) rest ∙ ap (λ t. take 4096 t) (append_assoc out piece rest) ∙ h
+
+pub front_more_at : (out new : List ℕ) (given : List Given) (text : List Piece) (i : ℕ) (d : Piece) (whole : List ℕ) →
+    i < length text → up_to_long (out ++ filled given (drop i text)) ≡ whole →
+    new ≡ up_to_long (out ++ bytes_for given (get_or text i d)) →
+    up_to_long (new ++ filled given (drop (i + 1) text)) ≡ whole
+unfolding filled
+front_more_at out new given text i d whole h e put =
+    rw (put, add-one) (front_more out _ _ _ (rw (drop-cons text i d h) at e))
+
+-- a text that is long already
+pub front_full : (out more whole : List ℕ) → up_to_long (out ++ more) ≡ whole → length out ≡ 4096 → out ≡ whole
+unfolding up_to_long
+front_full out more whole h e =
+    sym (take-append_seam out more) ∙ ap (λ k. take k (out ++ more)) e ∙ h
+
+-- a text that is whole
+pub front_whole : (out more whole : List ℕ) → up_to_long (out ++ more) ≡ whole → length out ≤ 4096 → more ≡ [] → out ≡ whole
+unfolding up_to_long
+front_whole out more whole h e none =
+    sym (take_all 4096 out e) ∙ ap (λ t. take 4096 t) (sym (append-nil out) ∙ ap (λ t. out ++ t) (sym none)) ∙ h
+
+pub length-up_to_long : (bytes : List ℕ) → length (up_to_long bytes) ≤ 4096
+unfolding up_to_long
+length-up_to_long bytes = omega (arith, length-take 4096 bytes)
 
 -- the same bytes behind both
-pub cut_append : (whole out rest : List ℕ) → IsCut whole out → IsCut (whole ++ rest) (out ++ rest)
+cut_append : (whole out rest : List ℕ) → IsCut whole out → IsCut (whole ++ rest) (out ++ rest)
 cut_append whole out rest h = by_long (is_long (length out)) refl
   where
     by_long : (b : Bool) → is_long (length out) ≡ b → IsCut (whole ++ rest) (out ++ rest)
@@ -31,6 +104,10 @@ cut_append whole out rest h = by_long (is_long (length out)) refl
         λ bytes k. rw (length-append bytes rest) (long_front (length bytes) (length rest) k) in
         (long out e ∙ sym (long whole (sym h.0 ∙ e)), λ k. absurd (true_false (long out e) k))
     by_long false e = rw (h.1 e) (cut_whole (whole ++ rest))
+
+-- such bytes with the same behind them
+pub cut_behind : (whole out rest : List ℕ) → out ≡ up_to_long whole → IsCut (whole ++ rest) (out ++ rest)
+cut_behind whole out rest e = rw e (cut_append whole (up_to_long whole) rest (cut_front whole))
 
 -- how long a line is behind some bytes
 pub cut_sum : (n : ℕ) (whole out : List ℕ) → IsCut whole out → is_long (n + length out) ≡ is_long (n + length whole)

@@ -1,8 +1,8 @@
 -- A piece more in front.
 use Rattle.std.proofs.Common.{◌≡◌, ℕ, List, [], ◌∷◌, Bool, true, false, Option, Some, None, drop, cond, refl, ap}
-use Rattle.pawn_macro.specs.declared.quote.Quote.{Quote}
+use Rattle.pawn_lines.specs.declared.quote.Quote.{Quote}
 use Rattle.pawn_macro.specs.declared.piece.Piece.TheVariants.{Byte, Param}
-use Rattle.pawn_macro.specs.Patterns.{pieces, is_parameter, param_at, next_quote}
+use Rattle.pawn_macro.specs.Piece.{pieces, is_parameter, param_at, next_quote}
 
 some_when : (t : Bool) (d e : ℕ) → cond t (Some d) None ≡ Some e → (t ≡ true) × (d ≡ e)
 some_when true d e h = (refl, cc)

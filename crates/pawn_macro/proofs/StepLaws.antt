@@ -1,7 +1,7 @@
 -- The steps of a line, by what the first place gives.
 use Rattle.std.proofs.Common.{◌≡◌, ℕ, ◌+◌, ◌-◌, ◌<◌, ◌++◌, zero, suc, List, [], true, false, Option, Some, None, Ok, Err, length, refl, sym, ap, ◌∙◌, arith}
-use Rattle.pawn_macro.specs.declared.quote.Quote.TheVariants.{Outside}
-use Rattle.pawn_macro.specs.Definitions.{Rules}
+use Rattle.pawn_lines.specs.declared.quote.Quote.TheVariants.{Outside}
+use Rattle.pawn_macro.specs.Table.{Rules}
 use Rattle.pawn_macro.specs.Substitution.{Cursor, substituted, steps, expanded, is_long}
 use Rattle.pawn_macro.specs.Expansion.{IsCursor}
 use Rattle.pawn_macro.proofs.CutLaws.{cut_sum, cut_same}

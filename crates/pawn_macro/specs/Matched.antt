@@ -3,6 +3,7 @@ use Rattle.std.specs.Prelude.{◌≡◌, Option, Some, None}
 use Rattle.pawn_macro.specs.declared.matching.TailMatch.{TailMatch}
 use Rattle.pawn_macro.specs.Matching.{Match}
 
+-- the same match, or none
 abbrev pub IsMatched : Option Match → Option TailMatch → Type 0
 IsMatched found None = found ≡ None
 IsMatched found (Some m) = found ≡ Some (record { given = m.given; rest = m.rest.now })

@@ -1,19 +1,21 @@
 -- Substitution in a line: a step goes from a line with a cursor to the next one, at most 1,000
 -- times (Language Guide, "Preprocessor", on text substitution).
-use Rattle.std.specs.Prelude.{ℕ, ◌+◌, ◌==◌, zero, suc, not, nat_lt, Option, Some, None, Result, Ok, Err, List, [], ◌∷◌, ◌++◌, length, take, drop, Bool, false, if◌then◌else◌, ◌&&◌}
+use Rattle.std.specs.Prelude.{ℕ, ◌+◌, ◌==◌, zero, suc, not, nat_lt, Option, Some, None, Result}
+use Rattle.std.specs.Prelude.{Ok, Err, List, [], ◌∷◌, ◌++◌, length, take, drop, Bool, false}
+use Rattle.std.specs.Prelude.{if◌then◌else◌, ◌&&◌}
 use Rattle.std.specs.Option.{option_map}
 use Rattle.std.specs.List.{find}
-use Rattle.pawn_macro.specs.declared.quote.Quote.{Quote}
-use Rattle.pawn_macro.specs.declared.quote.Quote.TheVariants.{Outside}
+use Rattle.pawn_lines.specs.declared.quote.Quote.{Quote}
+use Rattle.pawn_lines.specs.declared.quote.Quote.TheVariants.{Outside}
 use Rattle.pawn_macro.specs.declared.piece.Piece.{Piece}
 use Rattle.pawn_macro.specs.declared.piece.Piece.TheVariants.{Byte, Param}
 use Rattle.pawn_macro.specs.declared.matching.Given.{Given}
 use Rattle.pawn_macro.specs.declared.rule.Rule.{Rule}
 use Rattle.std.specs.FinMap.{get}
-use Rattle.pawn_macro.specs.Definitions.{Rules}
+use Rattle.pawn_macro.specs.Table.{Rules}
 use Rattle.pawn_lines.specs.ByteClass.{is_name_byte, is_name_start, name_len}
-use Rattle.pawn_macro.specs.Literals.{is_outside, quote_after}
-use Rattle.pawn_macro.specs.Patterns.{pieces}
+use Rattle.pawn_lines.specs.Quote.{is_outside, quote_after}
+use Rattle.pawn_macro.specs.Piece.{pieces}
 use Rattle.pawn_macro.specs.Matching.{Match, matched}
 
 -- what a parameter took; one that the tail lacks stays as it is
@@ -21,11 +23,15 @@ abbrev pub bytes_given : ℕ → Option Given → List ℕ
 bytes_given n None = 37 ∷ n ∷ []
 bytes_given n (Some given) = given.bytes
 
+-- the bytes in a piece's place
+abbrev pub bytes_for : List Given → Piece → List ℕ
+bytes_for given (Byte b) = b ∷ []
+bytes_for given (Param n) = bytes_given n (find (λ (g : Given). g.number == n) given)
+
+-- a text with what the parameters took
 unfoldable pub filled : List Given → List Piece → List ℕ
 filled given [] = []
-filled given (Byte b ∷ text) = b ∷ filled given text
-filled given (Param n ∷ text) =
-    bytes_given n (find (λ (g : Given). g.number == n) given) ++ filled given text
+filled given (piece ∷ text) = bytes_for given piece ++ filled given text
 
 -- the text in a match's place, and the line behind it
 abbrev pub replaced : ℕ → List ℕ → Match → List ℕ
@@ -51,11 +57,13 @@ pub record Cursor : Type 0 where
   pub before : List ℕ
   pub after : List ℕ
 
+-- a cursor, with more bytes before it
 unfoldable pub with_before : List ℕ → Option Cursor → Option Cursor
 with_before front None = None
 with_before front (Some cursor) =
     Some (record { before = front ++ cursor.before; after = cursor.after })
 
+-- a place here, or a later one
 abbrev pub or_later : Option (List ℕ) → Option Cursor → Option Cursor
 or_later None later = later
 or_later (Some after) later = Some (record { before = []; after = after })
@@ -72,6 +80,7 @@ substituted rules control quote joined (b ∷ rest) =
 abbrev pub is_long : ℕ → Bool
 is_long n = nat_lt 4095 n
 
+-- what a step comes to where so many may be made
 abbrev pub turn_by : Option Cursor → ℕ → List ℕ → List ℕ →
     (ℕ → List ℕ → List ℕ → Result (List ℕ) ℕ) → Result (List ℕ) ℕ
 turn_by None left done after go_on = Ok (done ++ after)
@@ -89,6 +98,7 @@ steps rules control (suc left) done after =
     turn_by (substituted rules control Outside false after) (suc left) done after
     (λ left' done' after'. steps rules control left done' after')
 
+-- a line with its names replaced; fault 9 too where it is too long before that
 unfoldable pub expanded : Rules → ℕ → List ℕ → Result (List ℕ) ℕ
 expanded rules control bytes =
     if is_long (length bytes) then Err 9 else steps rules control 1000 [] bytes

@@ -2,8 +2,7 @@ ghost use Rattle.std.specs.Prelude.{◌≡◌, ◌==◌, [], IfOk, position};
 ghost use Rattle.std.specs.List.{list_any};
 ghost use Rattle.std.specs.Option.{option_map};
 ghost use Rattle.pawn_lines.specs.ByteClass as class;
-ghost use Rattle.pawn_macro.specs.Patterns as patterns;
-ghost use Rattle.pawn_macro.specs.Defining as spec;
+ghost use Rattle.pawn_macro.specs.Define as spec;
 
 use super::piece::{Piece, follower, pieces};
 use super::rule::Rule;
@@ -20,9 +19,9 @@ pub struct Definition {
 }
 
 /// Each parameter stands once, and a byte follows it.
-#[tactic(auto, unfolding(crate::specs::Patterns::is_tail))]
+#[tactic(auto, unfolding(crate::specs::Define::is_tail))]
 fn is_tail(alloc: Global, tail: &[Piece]) -> Result<bool, Memory>
-    ensures { IfOk result (λ good. good ≡ patterns.is_tail [] tail.now) }
+    ensures { IfOk result (λ good. good ≡ spec.is_tail [] tail.now) }
 {
     let mut seen = VecDeque::new(alloc);
     let mut left = tail;
@@ -49,7 +48,7 @@ fn contains(seen: &VecDeque<u8>, number: u8) -> bool
 }
 
 fn is_param(number: u8, piece: Piece) -> bool
-    ensures { result ≡ patterns.is_param number piece }
+    ensures { result ≡ spec.is_param number piece }
 {
     match piece {
         Piece::Byte(_) => false,
@@ -58,13 +57,13 @@ fn is_param(number: u8, piece: Piece) -> bool
 }
 
 fn has_param(tail: &[Piece], number: u8) -> bool
-    ensures { result ≡ list_any (patterns.is_param number) tail.now }
+    ensures { result ≡ list_any (spec.is_param number) tail.now }
 {
     tail.iter().any(|other| is_param(number, *other))
 }
 
 fn is_known(tail: &[Piece], piece: Piece) -> bool
-    ensures { result ≡ patterns.is_known tail.now piece }
+    ensures { result ≡ spec.is_known tail.now piece }
 {
     match piece {
         Piece::Byte(_) => true,
@@ -74,7 +73,7 @@ fn is_known(tail: &[Piece], piece: Piece) -> bool
 
 /// A text's parameters stand in the tail.
 fn is_text(tail: &[Piece], text: &[Piece]) -> bool
-    ensures { result ≡ patterns.is_text tail.now text.now }
+    ensures { result ≡ spec.is_text tail.now text.now }
 {
     text.iter().all(|piece| is_known(tail, *piece))
 }
@@ -122,7 +121,8 @@ fn first_blank(bytes: &[u8]) -> Option<usize>
 
 /// The definition behind `#define`, or nothing where its pattern or text is bad: the pattern is a
 /// name and a tail up to the first blank, and the text uses only parameters of that tail (Language
-/// Guide, "Directives", on `#define`). Literals of the text are told apart by the control character.
+/// Guide, "Directives", on `#define`). Literals of the text are told apart by the control
+/// character.
 ///
 /// # Errors
 ///

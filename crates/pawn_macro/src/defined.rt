@@ -1,14 +1,13 @@
 ghost use Rattle.std.specs.Prelude.{◌≡◌, ◌≤◌, length, IfOk, if◌then◌else◌, None, false};
 ghost use Rattle.pawn_lines.specs.ByteClass.{past_blanks};
-ghost use Rattle.pawn_macro.specs.Values as spec;
+ghost use Rattle.pawn_macro.specs.Defined as spec;
 ghost use Rattle.pawn_macro.specs.AskedFor.{IsAsked};
 
 use super::define::begins_name;
-use super::expand::begins_whole_name;
-use super::quote::Quote;
+use super::substitution::begins_whole_name;
 use super::table::Table;
 use pawn_base::{Bytes, Memory};
-use pawn_lines::{is_name_byte, name_len, past_blanks};
+use pawn_lines::{Quote, is_name_byte, name_len, past_blanks};
 use std::alloc::Global;
 
 /// A name that `defined` asks for, and the bytes behind it.
@@ -80,7 +79,7 @@ impl Table {
     }
 
     /// A condition with each `defined NAME` replaced.
-    #[tactic(auto, unfolding(crate::specs::Values::answered))]
+    #[tactic(auto, unfolding(crate::specs::Defined::answered))]
     pub(crate) fn answered(&self, alloc: Global, control: u8, bytes: &[u8]) -> Result<Bytes, Memory>
         ensures { IfOk result (λ out.
             out ≡ spec.answered self.now control Quote.Outside false 0 bytes.now) }

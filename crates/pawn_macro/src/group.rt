@@ -1,10 +1,10 @@
 ghost use Rattle.std.specs.Prelude.{◌≡◌, ◌≤◌, Option, Some, None, [], IfOk, IfSome, length};
 ghost use Rattle.std.specs.Option.{option_map};
-ghost use Rattle.pawn_macro.specs.Matching as matching;
+ghost use Rattle.pawn_macro.specs.Group as spec;
 ghost use Rattle.pawn_macro.specs.Steps.{Steps};
 
-use super::quote::{Quote, is_quote_mark};
 use pawn_base::Memory;
+use pawn_lines::{Quote, is_quote_mark};
 use std::alloc::Global;
 use std::collections::VecDeque;
 
@@ -29,7 +29,7 @@ struct Group {
 
 /// The bracket that closes a group.
 fn closer_of(byte: u8) -> Option<u8>
-    ensures { result ≡ matching.closer_of byte }
+    ensures { result ≡ spec.closer_of byte }
 {
     match byte {
         b'(' => Some(b')'),
@@ -40,17 +40,17 @@ fn closer_of(byte: u8) -> Option<u8>
 }
 
 fn is_closer(byte: u8) -> bool
-    ensures { result ≡ matching.is_closer byte }
+    ensures { result ≡ spec.is_closer byte }
 {
     byte == b')' || byte == b']' || byte == b'}'
 }
 
 impl Group {
     /// Takes the next byte of a parameter that `end` follows.
-    #[tactic(auto, unfolding(crate::specs::Matching::look))]
+    #[tactic(auto, unfolding(crate::specs::Group::look))]
     fn take(&mut self, control: u8, end: u8, byte: u8) -> Result<Step, Memory>
         ensures { IfOk result (λ step. Steps
-            (matching.look control end self.old.awaited.items self.old.quote byte)
+            (spec.look control end self.old.awaited.items self.old.quote byte)
             step self.new.awaited.items self.new.quote) }
     {
         if !self.quote.is_outside() {
@@ -78,11 +78,11 @@ impl Group {
     }
 }
 
-#[tactic(auto, unfolding(crate::specs::Matching::reach))]
 /// How many bytes a parameter takes that `end` follows.
+#[tactic(auto, unfolding(crate::specs::Group::reach))]
 pub fn reach(alloc: Global, control: u8, end: u8, bytes: &[u8]) -> Result<Option<usize>, Memory>
     ensures taken { IfOk result (λ taken.
-        taken ≡ matching.reach control end [] Quote.Outside bytes.now) }
+        taken ≡ spec.reach control end [] Quote.Outside bytes.now) }
     ensures within { IfOk result (λ taken. IfSome taken (λ len. len ≤ length bytes.now)) }
 {
     let mut group = Group {

@@ -2,19 +2,16 @@
 //! force, the lines that it substitutes, and the conditions that are evaluated under it.
 #![tactic(auto)]
 
-mod condition;
 mod define;
 mod defined;
-mod expand;
+mod evaluation;
 mod group;
 mod matching;
 mod piece;
-mod quote;
 mod refusal;
 mod rule;
+mod substitution;
 mod table;
-#[cfg(test)]
-mod tests;
 
 pub use define::{Definition, read_definition, undefined};
 pub use piece::Piece;

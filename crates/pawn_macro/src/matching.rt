@@ -1,5 +1,6 @@
 ghost use Rattle.std.specs.Prelude.{◌≡◌, ◌≤◌, IfOk, IfSome, length};
-ghost use Rattle.pawn_macro.specs.Matching as matching;
+ghost use Rattle.pawn_macro.specs.Group.{reach_to};
+ghost use Rattle.pawn_macro.specs.Matching as spec;
 ghost use Rattle.pawn_macro.specs.Matched.{IsMatched};
 
 use super::group::reach;
@@ -29,7 +30,7 @@ fn param_len(
     end: Option<u8>,
     bytes: &[u8],
 ) -> Result<Option<usize>, Memory>
-    ensures taken { IfOk result (λ taken. taken ≡ matching.reach_to control end bytes.now) }
+    ensures taken { IfOk result (λ taken. taken ≡ reach_to control end bytes.now) }
     ensures within { IfOk result (λ taken. IfSome taken (λ len. len ≤ length bytes.now)) }
 {
     match end {
@@ -38,8 +39,8 @@ fn param_len(
     }
 }
 
-#[tactic(auto, unfolding(crate::specs::Matching::matched, crate::specs::Matching::with_given))]
 /// Matches a tail with the bytes behind its key.
+#[tactic(auto, unfolding(crate::specs::Matching::matched, crate::specs::Matching::with_given))]
 pub fn matched<'a>(
     alloc: Global,
     control: u8,
@@ -47,7 +48,7 @@ pub fn matched<'a>(
     bytes: &'a [u8],
 ) -> Result<Option<TailMatch<'a>>, Memory>
     ensures { IfOk result (λ found.
-        IsMatched (matching.matched control tail.now bytes.now) found) }
+        IsMatched (spec.matched control tail.now bytes.now) found) }
 {
     let mut given = List::new(alloc);
     let mut left = tail;

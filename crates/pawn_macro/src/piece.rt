@@ -1,9 +1,8 @@
 ghost use Rattle.std.specs.Prelude.{◌≡◌, ◌≤◌, IfOk, IfSome, length};
-ghost use Rattle.pawn_macro.specs.Patterns as patterns;
+ghost use Rattle.pawn_macro.specs.Piece as spec;
 
-use super::quote::Quote;
 use pawn_base::{List, Memory};
-use pawn_lines::is_digit;
+use pawn_lines::{Quote, is_digit};
 use std::alloc::Global;
 
 /// What a definition's tail and text are made of.
@@ -16,7 +15,7 @@ pub enum Piece {
 
 /// The byte that stands in front.
 pub fn follower(pieces: &[Piece]) -> Option<u8>
-    ensures { result ≡ patterns.follower pieces.now }
+    ensures { result ≡ spec.follower pieces.now }
 {
     match pieces {
         [Piece::Byte(byte), ..] => Some(*byte),
@@ -26,7 +25,7 @@ pub fn follower(pieces: &[Piece]) -> Option<u8>
 
 /// Where the byte behind this one stands, if literals are told apart.
 fn next_quote(control: Option<u8>, quote: Quote, byte: u8) -> Quote
-    ensures { result ≡ patterns.next_quote control quote byte }
+    ensures { result ≡ spec.next_quote control quote byte }
 {
     match control {
         None => Quote::Outside,
@@ -36,14 +35,14 @@ fn next_quote(control: Option<u8>, quote: Quote, byte: u8) -> Quote
 
 /// Whether a byte begins a parameter.
 fn is_parameter(quote: Quote, byte: u8, behind: u8) -> bool
-    ensures { result ≡ patterns.is_parameter quote byte behind }
+    ensures { result ≡ spec.is_parameter quote byte behind }
 {
     quote.is_outside() && byte == b'%' && is_digit(behind)
 }
 
 /// The parameter that a byte begins, by the bytes behind it.
 fn param_at(quote: Quote, byte: u8, behind: &[u8]) -> Option<u8>
-    ensures digit { result ≡ patterns.param_at quote byte behind.now }
+    ensures digit { result ≡ spec.param_at quote byte behind.now }
     ensures within { IfSome result (λ _. 1 ≤ length behind.now) }
 {
     match behind {
@@ -53,9 +52,9 @@ fn param_at(quote: Quote, byte: u8, behind: &[u8]) -> Option<u8>
 }
 
 /// Cuts bytes into pieces. With a control character there are no parameters in literals.
-#[tactic(auto, unfolding(crate::specs::Patterns::pieces), using(crate::proofs::PieceLaws::pieces_param, crate::proofs::PieceLaws::pieces_byte))]
+#[tactic(auto, unfolding(crate::specs::Piece::pieces), using(crate::proofs::PieceLaws::pieces_param, crate::proofs::PieceLaws::pieces_byte))]
 pub fn pieces(alloc: Global, control: Option<u8>, bytes: &[u8]) -> Result<List<Piece>, Memory>
-    ensures { IfOk result (λ list. list ≡ patterns.pieces control Quote.Outside bytes.now) }
+    ensures { IfOk result (λ list. list ≡ spec.pieces control Quote.Outside bytes.now) }
 {
     let mut list = List::new(alloc);
     let mut quote = Quote::Outside;

@@ -18,7 +18,7 @@ impl Model for Table {
     ghost use Rattle.std.specs.Coded.{coded_list, coded_ℕ};
     ghost use Rattle.std.specs.FinMap.{code};
     ghost use Rattle.pawn_macro.specs.contracts.rule.Rule as rule;
-    ghost use Rattle.pawn_macro.specs.Definitions.{Rules, rules_of};
+    ghost use Rattle.pawn_macro.specs.Table.{Rules, rules_of};
 
     ghost Value = { Rules };
 

@@ -1,7 +1,8 @@
 -- What each answer of files and of a sink says.
 use Rattle.std.specs.Prelude.{◌≡◌, ◌<◌, ◌≤◌, ℕ, List, Option, None, Some, length}
 use Rattle.pawn_outside.specs.declared.files.ReadAnswer.{ReadAnswer}
-use Rattle.pawn_outside.specs.declared.files.ReadAnswer.TheVariants.{Got, Missing, TooLarge, Failed, Memory}
+use Rattle.pawn_outside.specs.declared.files.ReadAnswer.TheVariants.{Got, Missing, TooLarge}
+use Rattle.pawn_outside.specs.declared.files.ReadAnswer.TheVariants.{Failed, Memory}
 use Rattle.pawn_outside.specs.declared.files.PutAnswer.{PutAnswer}
 use Rattle.pawn_outside.specs.declared.files.PutAnswer.TheVariants as put
 use Rattle.pawn_outside.specs.declared.sink.WriteAnswer.{WriteAnswer}
@@ -23,6 +24,7 @@ IsPut old name bytes put.Kept new = new ≡ with_put old name bytes
 IsPut old name bytes put.Failed new = without new name ≡ without old name
 IsPut old name bytes put.Memory new = new ≡ old
 
+-- a write takes all the bytes, or a prefix of them where it failed
 abbrev pub IsWrite : Option (List ℕ) → List ℕ → WriteAnswer → Option (List ℕ) → Type 0
 IsWrite old bytes write.Taken new = new ≡ with_more old bytes
 IsWrite old bytes write.Failed new = WroteFront old new bytes

@@ -4,6 +4,7 @@ use Rattle.std.specs.Ordering.{nat_cmp}
 use Rattle.std.specs.Cmp.Lexicographic.{slice_cmp}
 use Rattle.std.specs.FinMap.{FinMap, get, insert, remove}
 
+-- bytes by name
 abbrev pub Held : Type 0
 Held = FinMap (slice_cmp nat_cmp) (List ℕ)
 

@@ -2,6 +2,7 @@ pub mod Answers
 pub mod Held
 pub mod MemoryFiles
 pub mod MemorySink
+pub mod OnlyRead
 pub mod Rose
 pub mod Said
 pub mod Schedule

@@ -10,6 +10,7 @@ use Rattle.pawn_outside.specs.declared.files.PutAnswer.TheVariants as put
 use Rattle.pawn_outside.specs.Held.{Held}
 use Rattle.pawn_outside.specs.Schedule.{FailsNext, called, faulted}
 
+-- what is held, and which calls fail
 pub record FakeFiles : Type 0 where
   pub held : Held
   pub schedule : Schedule
@@ -21,7 +22,10 @@ fake_files_code =
     let schedules = coded× names (coded× coded_ℕ coded_ℕ) in
     code_by (Held × (List ℕ × (ℕ × ℕ))) (coded× (code names names) schedules)
     (λ f. (f.held, (f.schedule.fails, (f.schedule.calls, f.schedule.faults))))
-    (λ p. record { held = p.0; schedule = record { fails = p.1.0; calls = p.1.1.0; faults = p.1.1.1 } })
+    (λ p. record {
+      held = p.0;
+      schedule = record { fails = p.1.0; calls = p.1.1.0; faults = p.1.1.1 };
+    })
     (λ _. refl)
 
 -- the name holds these bytes
@@ -30,12 +34,15 @@ with_held files name bytes = record files { held = insert files.held name bytes 
 
 -- a call that isn't listed, and changed nothing but the count of calls
 abbrev pub IsAfterCall : FakeFiles → FakeFiles → Type 0
-IsAfterCall old new = (¬ FailsNext old.schedule) × (new ≡ record old { schedule = called old.schedule })
+IsAfterCall old new =
+    (¬ FailsNext old.schedule) × (new ≡ record old { schedule = called old.schedule })
 
 -- a listed call, which changed nothing but the counts
 abbrev pub IsAfterFault : FakeFiles → FakeFiles → Type 0
-IsAfterFault old new = FailsNext old.schedule × (new ≡ record old { schedule = faulted (called old.schedule) })
+IsAfterFault old new =
+    FailsNext old.schedule × (new ≡ record old { schedule = faulted (called old.schedule) })
 
+-- what a read leaves, by its answer
 abbrev pub IsAfterRead : FakeFiles → ReadAnswer → FakeFiles → Type 0
 IsAfterRead old (read.Got bytes) new = IsAfterCall old new
 IsAfterRead old read.Missing new = IsAfterCall old new
@@ -43,6 +50,7 @@ IsAfterRead old read.TooLarge new = IsAfterCall old new
 IsAfterRead old read.Failed new = IsAfterFault old new
 IsAfterRead old read.Memory new = IsAfterCall old new
 
+-- what a put leaves, by its answer
 abbrev pub IsAfterPut : FakeFiles → List ℕ → List ℕ → PutAnswer → FakeFiles → Type 0
 IsAfterPut old name bytes put.Kept new = IsAfterCall (with_held old name bytes) new
 IsAfterPut old name bytes put.Failed new = IsAfterFault old new

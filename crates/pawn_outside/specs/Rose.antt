@@ -5,5 +5,6 @@ use Rattle.std.specs.Prelude.{ℕ, ◌+◌, ◌-◌, ◌^◌, ◌≤◌, min}
 abbrev pub risen : ℕ → ℕ
 risen count = min (count + 1) (2 ^ 64 - 1)
 
+-- the count rose by one or more
 abbrev pub Rose : ℕ → ℕ → Type 0
 Rose before now = risen before ≤ now

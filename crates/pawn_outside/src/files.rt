@@ -51,7 +51,8 @@ pub trait Files {
         // Failed comes only where the count rose, and never where no call fails.
         ensures later { faults self.old ≤ faults self.new }
         ensures cause { result ≡ ReadAnswer.Failed → Rose (faults self.old) (faults self.new) }
-        ensures unfailing { never_fails self.old → never_fails self.new × (result ≢ ReadAnswer.Failed) };
+        ensures unfailing { never_fails self.old →
+            never_fails self.new × (result ≢ ReadAnswer.Failed) };
 
     /// Gives a name these bytes. Whatever the answer, all other names hold what they held.
     fn put(&mut self, name: &str, bytes: &[u8]) -> PutAnswer
@@ -60,5 +61,6 @@ pub trait Files {
         // Failed comes only where the count rose, and never where no call fails.
         ensures later { faults self.old ≤ faults self.new }
         ensures cause { result ≡ PutAnswer.Failed → Rose (faults self.old) (faults self.new) }
-        ensures unfailing { never_fails self.old → never_fails self.new × (result ≢ PutAnswer.Failed) };
+        ensures unfailing { never_fails self.old →
+            never_fails self.new × (result ≢ PutAnswer.Failed) };
 }

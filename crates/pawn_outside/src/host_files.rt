@@ -7,7 +7,8 @@ use std::io::{ErrorKind, Read};
 use std::marker::Model;
 use std::{fs, io};
 
-/// The files of the host. It tells nothing of what they hold: contracts see the count of its faults.
+/// The files of the host. It tells nothing of what they hold: contracts see the count of its
+/// faults.
 #[derive(Drop)]
 pub struct HostFiles<'a, R> {
     rt: &'a R,

@@ -13,8 +13,6 @@ mod memory_files;
 mod memory_sink;
 mod schedule;
 mod sink;
-#[cfg(test)]
-mod tests;
 
 pub use fault::SinkFault;
 pub use files::{Files, PutAnswer, ReadAnswer};

@@ -68,6 +68,13 @@ impl MemoryFiles {
         self.schedule.faults
     }
 
+    /// How many calls of `read` and `put` were made.
+    pub fn calls(&self) -> u64
+        ensures { result ≡ self.now.schedule.calls }
+    {
+        self.schedule.calls
+    }
+
     /// What a name holds.
     fn find(&self, name: &str) -> Option<&Bytes>
         ensures { option_copied result ≡ get self.now.held name.now }

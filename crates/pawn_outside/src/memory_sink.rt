@@ -63,6 +63,13 @@ impl MemorySink {
     {
         self.schedule.faults
     }
+
+    /// How many writes were made.
+    pub fn calls(&self) -> u64
+        ensures { result ≡ self.now.schedule.calls }
+    {
+        self.schedule.calls
+    }
 }
 
 impl Sink for MemorySink {

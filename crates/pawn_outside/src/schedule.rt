@@ -16,7 +16,8 @@ impl Schedule {
 
     /// No call yet. Those that the list names, counted from 1, are to fail.
     pub fn new(alloc: Global, fails: &[u32]) -> Result<Schedule, Memory>
-        ensures { IfOk result (λ schedule. schedule ≡ record { fails = fails.now; calls = 0; faults = 0 }) }
+        ensures { IfOk result (λ schedule. schedule ≡
+            record { fails = fails.now; calls = 0; faults = 0 }) }
     {
         let fails = List::from_vec(Vec::from_slice(alloc, fails)?);
         Ok(Schedule {

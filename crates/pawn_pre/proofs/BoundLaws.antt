@@ -15,15 +15,15 @@ use Rattle.pawn_pre.specs.declared.directive.Word.TheVariants as word
 use Rattle.pawn_pre.specs.declared.directive.Setting.{Setting}
 use Rattle.pawn_pre.specs.declared.directive.Setting.TheVariants as setting
 use Rattle.pawn_macro.specs.Substitution.{expanded}
-use Rattle.pawn_pre.specs.Directives.{pragma, quoted_byte}
+use Rattle.pawn_pre.specs.Directive.{pragma, quoted_byte}
 use Rattle.pawn_lines.specs.ByteClass.{past_blanks}
 use Rattle.pawn_cells.specs.Cells.{is_zero}
-use Rattle.pawn_macro.specs.Defining.{definition, undefined}
-use Rattle.pawn_macro.specs.Values.{Value, proceed, or_fault}
-use Rattle.pawn_pre.specs.OpenFiles.{OpenFile}
+use Rattle.pawn_macro.specs.Define.{definition, undefined}
+use Rattle.pawn_macro.specs.Evaluation.{Value, proceed, or_fault}
+use Rattle.pawn_pre.specs.Level.{Level}
 use Rattle.pawn_pre.specs.Lists.{first_of}
-use Rattle.pawn_pre.specs.Acts.{act, keep, with_line, line_of, is_in_chosen, begin_if, turn_elseif, elseif_by, elseif_part, turn_else, else_by, end_if, end_by, assert_true, define, undefine, without, set_pragma, pragma_by, in_chosen, if_chosen, push, replaced, condition_of, number_of, with_settings, is_set, with_definition, conditional, part_of}
-use Rattle.pawn_pre.specs.Walks.{Stack, lines_of, entered, first_stack}
+use Rattle.pawn_pre.specs.Work.{act, keep, with_line, line_of, is_in_chosen, begin_if, turn_elseif, elseif_by, elseif_part, turn_else, else_by, end_if, end_by, assert_true, define, undefine, without, set_pragma, pragma_by, in_chosen, if_chosen, push, replaced, condition_of, number_of, with_settings, is_set, with_definition, conditional, part_of}
+use Rattle.pawn_pre.specs.Walk.{Stack, lines_of, entered, first_stack}
 use Rattle.std.specs.Prelude.{IfOk}
 use Rattle.pawn_cells.specs.declared.place.Place.{Place}
 use Rattle.pawn_macro.specs.declared.refusal.Refusal.{Refusal}
@@ -31,7 +31,8 @@ use Rattle.pawn_macro.specs.declared.refusal.Refusal.TheVariants as refusal
 use Rattle.pawn_pre.specs.declared.fault.PreFault.{PreFault}
 use Rattle.pawn_pre.specs.Acted.{Acted}
 use Rattle.pawn_pre.specs.WalkAnswers.{IsTold}
-use Rattle.pawn_pre.specs.Bounds.{Leaves, IsBounded, IsSound, IsSoundStack, bytes_of, ArePlaced}
+use Rattle.pawn_pre.specs.Bounds.{IsBounded, bytes_of, ArePlaced}
+use Rattle.pawn_pre.specs.Sound.{Leaves, IsSound, IsSoundStack}
 
 -- the lines, their bytes and the file stay, and no line is more left
 record Same (w new : Work) : Type 0 where
@@ -196,7 +197,7 @@ kept_sound files w new number bytes e h =
     (kept_if files (is_in_chosen w) _ _ (kept_by files w number (expanded w.rules w.settings.control bytes) h) h)
 
 -- another innermost file of those begun
-pub top_sound : (files : ℕ) (w : Work) (top : OpenFile) → IsSound files w → top.file < files → IsSound files (record w { top = top })
+pub top_sound : (files : ℕ) (w : Work) (top : Level) → IsSound files w → top.file < files → IsSound files (record w { top = top })
 top_sound files w top h k = record { counted = h.counted; small = h.small; placed = h.placed; named = k }
 
 pub bounded : (p : Stack) → IsSoundStack p → IsBounded (lines_of p)
@@ -213,21 +214,21 @@ entered_sound p name bytes h =
             (λ line k. longer line.place.file k) p.work.lines h.work.placed;
         named = omega (arith, length-append p.names (name ∷ []));
       };
-      below = All-cons (λ (file : OpenFile). file.file < length (p.names ++ name ∷ [])) p.below p.work.top (longer p.work.top.file h.work.named)
-          (All-weaker (λ (file : OpenFile). file.file < length p.names) (λ (file : OpenFile). file.file < length (p.names ++ name ∷ []))
+      below = All-cons (λ (file : Level). file.file < length (p.names ++ name ∷ [])) p.below p.work.top (longer p.work.top.file h.work.named)
+          (All-weaker (λ (file : Level). file.file < length p.names) (λ (file : Level). file.file < length (p.names ++ name ∷ []))
           (λ file k. longer file.file k) p.below h.below);
     }
 
 pub first_sound : (name : List ℕ) (bytes : List ℕ) → IsSoundStack (first_stack name bytes)
 first_sound name bytes = record {
   work = record { counted = refl; small = omega arith; placed = All-none (λ (line : Line). line.place.file < 1); named = omega arith };
-  below = All-none (λ (file : OpenFile). file.file < 1);
+  below = All-none (λ (file : Level). file.file < 1);
 }
 
-pub next_sound : (p : Stack) (file : OpenFile) (rest : List OpenFile) → p.below ≡ file ∷ rest → IsSoundStack p →
+pub next_sound : (p : Stack) (file : Level) (rest : List Level) → p.below ≡ file ∷ rest → IsSoundStack p →
     IsSoundStack (record { names = p.names; below = rest; work = record p.work { top = file } })
 next_sound p file rest e h =
-    let P : OpenFile → Type 0 = λ f. f.file < length p.names in
+    let P : Level → Type 0 = λ f. f.file < length p.names in
     let all : All P (file ∷ rest) = subst (λ fs. All P fs) e h.below in
     record {
       work = top_sound (length p.names) p.work file h.work (All-first P rest file all);
@@ -245,7 +246,7 @@ told_leaves p new place (Err (refusal.Fault kind)) (Ok b) e h = absurd e
 told_leaves p new place (Err (refusal.Fault kind)) (Err r) e h = tt
 told_leaves p new place (Err refusal.Memory) result e h = subst (λ r. Leaves r new) (sym e) tt
 
-pub row_sound : (p : Stack) (top : OpenFile) → top.file ≡ p.work.top.file → IsSoundStack p → IsSoundStack (record p { work = record p.work { top = top } })
+pub row_sound : (p : Stack) (top : Level) → top.file ≡ p.work.top.file → IsSoundStack p → IsSoundStack (record p { work = record p.work { top = top } })
 row_sound p top e h = record { work = top_sound (length p.names) p.work top h.work (omega (arith, h.work.named)); below = h.below }
 
 pub kept_page : (p : Stack) (new : Work) (number : ℕ) (bytes : List ℕ) (done : Result (Unit {0}) Refusal) → IsSoundStack p →

@@ -3,18 +3,18 @@ use Rattle.std.proofs.Common.{◌≡◌, List, [], ◌∷◌, Bool, false, if◌
 use Rattle.pawn_outside.specs.Held.{Held}
 use Rattle.pawn_pre.specs.declared.state.Conditional.{Conditional}
 use Rattle.pawn_pre.specs.declared.state.Part.TheVariants.{Chosen, Waiting, Done}
-use Rattle.pawn_pre.specs.Acts.{conditional}
+use Rattle.pawn_pre.specs.Work.{conditional}
 use Rattle.pawn_pre.specs.Conditionals.{dropped_if, dropped_elseif, dropped_else}
 use Rattle.pawn_pre.specs.Kept.{size}
 use Rattle.pawn_pre.specs.Marks.{Mark, begun, kept, rules, settings, conditionals}
-use Rattle.pawn_pre.specs.OpenFiles.{OpenFile}
+use Rattle.pawn_pre.specs.Level.{Level}
 use Rattle.pawn_pre.specs.OpenLines.{Open, End, place, lines_of_rows}
 use Rattle.pawn_pre.specs.Outcome.{Outcome}
 use Rattle.pawn_pre.specs.Page.{turn}
 use Rattle.pawn_pre.specs.Partner.{Partner, partner}
 use Rattle.pawn_pre.specs.Turn.{Turn}
-use Rattle.pawn_macro.specs.Values.{Value}
-use Rattle.pawn_pre.specs.Walks.{Stack, Turned, On, Stopped}
+use Rattle.pawn_macro.specs.Evaluation.{Value}
+use Rattle.pawn_pre.specs.Walk.{Stack, Turned, On, Stopped}
 use Rattle.pawn_pre.proofs.PageLaws.{EndsBy}
 
 -- in a part that isn't chosen: none was so far, or one was, and whether the `#else` is past
@@ -53,7 +53,7 @@ abbrev pub marked : Mode → List Bool → List Bool
 marked Reads outer = outer
 marked (Drops way inner) outer = marked_by way outer
 
-abbrev pub shown : List Mark → Mode → List Bool → OpenFile → List OpenFile → Stack
+abbrev pub shown : List Mark → Mode → List Bool → Level → List Level → Stack
 shown marks mode outer top below = record {
   names = begun marks;
   below = below;
@@ -67,18 +67,18 @@ shown marks mode outer top below = record {
 }
 
 -- the open lines
-abbrev pub lines_in : OpenFile → List Open → List Open
+abbrev pub lines_in : Level → List Open → List Open
 lines_in file rest = lines_of_rows file.file file.rows (End (place file.file file.last) file.unclosed ∷ rest)
 
-unfoldable pub lines_below : List OpenFile → List Open
+unfoldable pub lines_below : List Level → List Open
 lines_below [] = []
 lines_below (file ∷ below) = lines_in file (lines_below below)
 
-abbrev pub lines_open : OpenFile → List OpenFile → List Open
+abbrev pub lines_open : Level → List Level → List Open
 lines_open top below = lines_in top (lines_below below)
 
 -- the files below are in chosen parts
-unfoldable pub Covers : List (List Bool) → List OpenFile → Type 0
+unfoldable pub Covers : List (List Bool) → List Level → Type 0
 Covers [] [] = Unit {0}
 Covers (outer ∷ lower) (file ∷ below) = (file.conditionals ≡ chosen outer) × Covers lower below
 Covers [] (file ∷ below) = ⊥
@@ -99,8 +99,8 @@ pub record Follows (value : Value) (map : Held) (s : Stack) (t : Turn) : Type 0 
   pub mode : Mode
   pub outer : List Bool
   pub lower : List (List Bool)
-  pub top : OpenFile
-  pub below : List OpenFile
+  pub top : Level
+  pub below : List Level
   pub shows : s ≡ shown marks mode outer top below
   pub opens : conditionals marks ≡ marked mode outer ∷ lower
   pub covers : Covers lower below

@@ -7,18 +7,18 @@ use Rattle.pawn_cells.specs.declared.place.Place.{Place}
 use Rattle.pawn_pre.specs.declared.directive.Word.{Word}
 use Rattle.pawn_pre.specs.declared.directive.Word.TheVariants as word
 use Rattle.pawn_pre.specs.declared.work.Work.{Work}
-use Rattle.pawn_pre.specs.Acts.{act, keep, begin_if, turn_elseif, turn_else, end_if, elseif_by, else_by, end_by, is_in_chosen, replaced, conditional, part_of}
+use Rattle.pawn_pre.specs.Work.{act, keep, begin_if, turn_elseif, turn_else, end_if, elseif_by, else_by, end_by, is_in_chosen, replaced, conditional, part_of}
 use Rattle.pawn_pre.specs.Conditionals.{if_by}
 use Rattle.pawn_pre.specs.Lists.{first_of}
 use Rattle.pawn_pre.specs.Marks.{Mark, Opens, Closes, begun, kept, rules, settings, conditionals}
-use Rattle.pawn_pre.specs.OpenFiles.{OpenFile, is_chosen}
+use Rattle.pawn_pre.specs.Level.{Level, is_chosen}
 use Rattle.pawn_pre.specs.OpenLines.{Open, Line, Plain, Directs, place}
 use Rattle.pawn_pre.specs.Page.{turn, condition_at}
 use Rattle.pawn_pre.specs.Partner.{Lacks, partner}
 use Rattle.pawn_pre.specs.Turn.{Turn, Goes, fault}
-use Rattle.pawn_macro.specs.Values.{Value}
-use Rattle.pawn_pre.specs.Walks as walks
-use Rattle.pawn_pre.specs.Walks.{Turned, On, Stopped, worked}
+use Rattle.pawn_macro.specs.Evaluation.{Value}
+use Rattle.pawn_pre.specs.Walk as walks
+use Rattle.pawn_pre.specs.Walk.{Turned, On, Stopped, worked}
 use Rattle.pawn_pre.proofs.Mirror.{Way, Waits, Passes, Drops, Covers, Follows, Mirrors, chosen, passed, part_by, marked_by, shown, dropped_by, lines_open}
 use Rattle.pawn_pre.proofs.MirrorKept.{fails, by_result, reads_on}
 use Rattle.pawn_pre.proofs.MirrorParts.{opened_by}
@@ -52,7 +52,7 @@ turned_on value map (On s) marks rest f = record {
 }
 turned_on value map (Stopped outcome) marks rest e = started value map marks rest outcome e
 
-module _ (value : Value) (map : Held) (marks : List Mark) (lower : List (List Bool)) (top : OpenFile) (below : List OpenFile) (covers : Covers lower below) (number : ℕ)
+module _ (value : Value) (map : Held) (marks : List Mark) (lower : List (List Bool)) (top : Level) (below : List Level) (covers : Covers lower below) (number : ℕ)
     (outer : List Bool) where
   -- on the way, the same turn
   stays : (way : Way) (inner : List Bool) → conditionals marks ≡ marked_by way outer ∷ lower →

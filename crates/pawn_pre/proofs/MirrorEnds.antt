@@ -1,6 +1,8 @@
 -- What the steps of a stack come to is what the turns of its page come to.
-use Rattle.std.proofs.Common.{◌≡◌, ◌≢◌, ◌≤◌, ℕ, zero, suc, length, arith, List, [], ◌∷◌, Bool, true, false, Option, Some, None, Result, Ok, Err, refl, sym, ap, subst}
-use Rattle.std.proofs.lemmas.Bool.{ltb-true}
+use Rattle.std.specs.Prelude.{IsSomeAnd}
+use Rattle.pawn_condition.specs.Condition.{IsValue}
+use Rattle.std.proofs.Common.{◌≡◌, ◌<◌, ◌≤◌, ℕ, zero, suc, length, arith, List, [], ◌∷◌, Bool, true, false, Option, Some, None, Result, Ok, Err, refl, sym, ap, subst}
+use Rattle.std.proofs.lemmas.Bool.{ltb-true, lt-ltb}
 use Rattle.pawn_outside.specs.Answers.{IsRead}
 use Rattle.pawn_outside.specs.declared.files.ReadAnswer.TheVariants as read
 use Rattle.std.specs.FinMap.{get}
@@ -13,19 +15,19 @@ use Rattle.pawn_pre.specs.declared.line.Lines.{Lines}
 use Rattle.pawn_lines.specs.declared.row.Row.{Row}
 use Rattle.pawn_pre.specs.Answers.{Answers}
 use Rattle.pawn_pre.specs.WalkAnswers.{EndsIn}
-use Rattle.pawn_pre.specs.Directives.{Directive, directive}
+use Rattle.pawn_pre.specs.Directive.{Directive, directive}
 use Rattle.pawn_lines.specs.File.{file_of}
 use Rattle.pawn_pre.specs.Marks.{Mark, Began, Ended, begun, kept, rules, settings, conditionals}
-use Rattle.pawn_pre.specs.OpenFiles.{OpenFile, opened}
+use Rattle.pawn_pre.specs.Level.{Level, opened}
 use Rattle.pawn_pre.specs.OpenLines.{Line, End, place, text_by, lines_of_rows, lines_of_file}
-use Rattle.pawn_pre.specs.Outcome.{Outcome, Cut, Whole, Fault, Long, is_long_file}
+use Rattle.pawn_pre.specs.Outcome.{Outcome, Whole, Fault, Long, is_long_file}
 use Rattle.pawn_pre.specs.Page as page
 use Rattle.pawn_pre.specs.Page.{turn, Comes, ComesFrom}
 use Rattle.pawn_pre.specs.Partner.{partner}
 use Rattle.pawn_pre.specs.Turn.{Turn, Goes}
-use Rattle.pawn_macro.specs.Values.{Value}
-use Rattle.pawn_pre.specs.Walks as walks
-use Rattle.pawn_pre.specs.Walks.{Stack, Turned, On, Stopped, step, run, run_by, Ends, first_stack, at_end, line_by}
+use Rattle.pawn_macro.specs.Evaluation.{Value}
+use Rattle.pawn_pre.specs.Walk as walks
+use Rattle.pawn_pre.specs.Walk.{Stack, Turned, On, Stopped, step, run, run_by, Ends, first_stack, at_end, line_by}
 use Rattle.pawn_pre.proofs.Mirror.{Waits, Passes, Mode, Reads, Drops, Covers, Follows, Mirrors, chosen, passed, marked, shown, pending, lines_open, lines_below}
 use Rattle.pawn_pre.proofs.MirrorDropped.{drops, drops_plain}
 use Rattle.pawn_pre.proofs.MirrorInclude.{includes}
@@ -35,7 +37,7 @@ use Rattle.pawn_pre.proofs.PageLaws.{EndsBy, started}
 
 -- ---- a line
 
-module _ (value : Value) (map : Held) (marks : List Mark) (lower : List (List Bool)) (top : OpenFile) (below : List OpenFile) (covers : Covers lower below) (number : ℕ)
+module _ (value : Value) (map : Held) (marks : List Mark) (lower : List (List Bool)) (top : Level) (below : List Level) (covers : Covers lower below) (number : ℕ)
     (outer : List Bool) where
   directs : (opens : conditionals marks ≡ outer ∷ lower) (w : Word) (bytes : List ℕ) →
       Mirrors value map (walks.direct value map (shown marks Reads outer top below) number w bytes) (page.direct value map marks (place top.file number) w bytes (lines_open top below))
@@ -53,7 +55,7 @@ module _ (value : Value) (map : Held) (marks : List Mark) (lower : List (List Bo
   directs opens word.Pragma bytes = sets value map marks lower top below covers number outer opens bytes
   directs opens word.Unknown bytes = unknown value map marks lower top below covers number outer opens bytes
 
-module _ (value : Value) (map : Held) (marks : List Mark) (lower : List (List Bool)) (top : OpenFile) (below : List OpenFile) (covers : Covers lower below) (outer : List Bool) where
+module _ (value : Value) (map : Held) (marks : List Mark) (lower : List (List Bool)) (top : Level) (below : List Level) (covers : Covers lower below) (outer : List Bool) where
   lined : (mode : Mode) → conditionals marks ≡ marked mode outer ∷ lower → (row : Row) (d : Option Directive) →
       Mirrors value map (line_by value map (shown marks mode outer top below) row d)
       (pending value map mode marks (Line (place top.file row.number) (text_by row.bytes d) ∷ lines_open top below))
@@ -66,7 +68,7 @@ module _ (value : Value) (map : Held) (marks : List Mark) (lower : List (List Bo
 -- ---- a file's end
 
 module _ (value : Value) (map : Held) (marks : List Mark) (file last : ℕ) where
-  closes_by : (lower : List (List Bool)) (below : List OpenFile) → Covers lower below → conditionals marks ≡ [] ∷ lower → (rows : List Row) (unclosed : Bool) →
+  closes_by : (lower : List (List Bool)) (below : List Level) → Covers lower below → conditionals marks ≡ [] ∷ lower → (rows : List Row) (unclosed : Bool) →
       Mirrors value map (walks.closed_by (shown marks Reads [] (record { file = file; last = last; unclosed = unclosed; rows = rows; conditionals = [] }) below) below)
       (Goes (Ended ∷ marks) (lines_below below))
   unfolding Covers lines_below begun kept rules settings conditionals turn
@@ -88,7 +90,7 @@ module _ (value : Value) (map : Held) (marks : List Mark) (file last : ℕ) wher
   closes_by [] (next ∷ below) covers opens rows unclosed = absurd covers
   closes_by (outer ∷ lower) [] covers opens rows unclosed = absurd covers
 
-  ended : (mode : Mode) (outer : List Bool) (lower : List (List Bool)) (below : List OpenFile) → Covers lower below → conditionals marks ≡ marked mode outer ∷ lower →
+  ended : (mode : Mode) (outer : List Bool) (lower : List (List Bool)) (below : List Level) → Covers lower below → conditionals marks ≡ marked mode outer ∷ lower →
       (unclosed : Bool) (rows : List Row) →
       Mirrors value map (at_end (shown marks mode outer (record { file = file; last = last; unclosed = unclosed; rows = rows; conditionals = [] }) below))
       (pending value map mode marks (End (place file last) unclosed ∷ lines_below below))
@@ -109,7 +111,7 @@ module _ (value : Value) (map : Held) (marks : List Mark) (file last : ℕ) wher
 -- ---- a step
 
 module _ (value : Value) (map : Held) where
-  stepped : (marks : List Mark) (mode : Mode) (outer : List Bool) (lower : List (List Bool)) (top : OpenFile) (below : List OpenFile) → Covers lower below →
+  stepped : (marks : List Mark) (mode : Mode) (outer : List Bool) (lower : List (List Bool)) (top : Level) (below : List Level) → Covers lower below →
       conditionals marks ≡ marked mode outer ∷ lower → (rows : List Row) →
       Mirrors value map (step value map (shown marks mode outer (record top { rows = rows }) below)) (pending value map mode marks (lines_open (record top { rows = rows }) below))
   unfolding step lines_of_rows
@@ -119,18 +121,19 @@ module _ (value : Value) (map : Held) where
 
   -- ---- all steps
 
-  by_step : (o : Outcome) (go_on : Stack → Outcome) → ((s : Stack) (t : Turn) → Follows value map s t → go_on s ≡ o → EndsBy value map t o) →
-      (turned : Turned) (t : Turn) → Mirrors value map turned t → run_by turned go_on ≡ o → EndsBy value map t o
+  by_step : (o : Outcome) (go_on : Stack → Option Outcome) →
+      ((s : Stack) (t : Turn) → Follows value map s t → go_on s ≡ Some o → EndsBy value map t o) →
+      (turned : Turned) (t : Turn) → Mirrors value map turned t → run_by turned go_on ≡ Some o → EndsBy value map t o
   by_step o go_on next (On s) t m e = next s t m e
-  by_step o go_on next (Stopped outcome) t m e = subst (λ p. EndsBy value map t p) e m
+  by_step o go_on next (Stopped outcome) t m e = subst (λ p. EndsBy value map t p) (cc) m
 
-  ends : (n : ℕ) (o : Outcome) → o ≢ Cut → (s : Stack) (t : Turn) → Follows value map s t → run value map n s ≡ o → EndsBy value map t o
+  ends : (n : ℕ) (o : Outcome) (s : Stack) (t : Turn) → Follows value map s t → run value map n s ≡ Some o → EndsBy value map t o
   unfolding run
-  ends zero o some s t f e = absurd (some (sym e))
-  ends (suc n) o some s t f e = f.leads o
-      (by_step o (λ q. run value map n q) (λ q u k. ends n o some q u k) _ _
+  ends zero o s t f e = absurd (cc)
+  ends (suc n) o s t f e = f.leads o
+      (by_step o (λ q. run value map n q) (λ q u k. ends n o q u k) _ _
       (stepped f.marks f.mode f.outer f.lower f.top f.below f.covers f.opens f.top.rows)
-      (subst (λ q. run_by (step value map q) (λ r. run value map n r) ≡ o) f.shows e))
+      (subst (λ q. run_by (step value map q) (λ r. run value map n r) ≡ Some o) f.shows e))
 
   first : (name bytes : List ℕ) → Follows value map (first_stack name bytes) (Goes (Began name ∷ []) (lines_of_file 0 (file_of bytes) []))
   unfolding begun kept rules settings conditionals chosen lines_below Covers
@@ -147,31 +150,55 @@ module _ (value : Value) (map : Held) where
     leads = λ o ends. started value map _ _ o ends;
   }
 
-  first_ends : (name bytes : List ℕ) (o : Outcome) → o ≢ Cut → Ends value map (first_stack name bytes) o →
+  first_ends : (name bytes : List ℕ) (o : Outcome) → Ends value map (first_stack name bytes) o →
       page.Ends value map (Began name ∷ []) (lines_of_file 0 (file_of bytes) []) o
-  first_ends name bytes o some e = ends e.steps o some _ _ (first name bytes) e.ends
+  first_ends name bytes o e = ends e.steps o _ _ (first name bytes) e.ends
 
-  comes : (name bytes : List ℕ) → get map name ≡ Some bytes → is_long_file bytes ≡ false → (o : Outcome) → o ≢ Cut →
-      Ends value map (first_stack name bytes) o → Comes value map name o
-  comes name bytes held short o some e = rw held (rw short (first_ends name bytes o some e))
+  module _ (is : IsValue value) where
+    comes : (name bytes : List ℕ) → get map name ≡ Some bytes → is_long_file bytes ≡ false → (o : Outcome) →
+        Ends value map (first_stack name bytes) o → Comes map name o
+    comes name bytes held short o e = record {
+      value = value;
+      is_value = is;
+      comes = rw held (rw short (first_ends name bytes o e));
+    }
 
-  -- the answer that the steps of the first stack give
-  pub answers : (name bytes : List ℕ) → get map name ≡ Some bytes → is_long_file bytes ≡ false → (result : Result Lines PreFault) →
-      EndsIn value map (first_stack name bytes) result → Answers value map name result
-  answers name bytes held short (Ok lines) e = comes name bytes held short (Whole lines) (λ k. absurd (cc)) e
-  answers name bytes held short (Err (fault.Source kind place file)) e = comes name bytes held short (Fault kind place file) (λ k. absurd (cc)) e
-  answers name bytes held short (Err fault.NoSource) e = absurd e
-  answers name bytes held short (Err (fault.TooLarge file)) e = comes name bytes held short (Long file) (λ k. absurd (cc)) e
-  answers name bytes held short (Err fault.Files) e = tt
-  answers name bytes held short (Err fault.Memory) e = tt
+    -- the answer that the steps of the first stack give
+    pub answers : (name bytes : List ℕ) → get map name ≡ Some bytes → is_long_file bytes ≡ false → (result : Result Lines PreFault) →
+        EndsIn value map (first_stack name bytes) result → Answers map name result
+    answers name bytes held short (Ok lines) e = comes name bytes held short (Whole lines) e
+    answers name bytes held short (Err (fault.Source kind place file)) e = comes name bytes held short (Fault kind place file) e
+    answers name bytes held short (Err fault.NoSource) e = absurd e
+    answers name bytes held short (Err (fault.TooLarge file)) e = comes name bytes held short (Long file) e
+    answers name bytes held short (Err fault.Files) e = tt
+    answers name bytes held short (Err fault.Memory) e = tt
 
 -- and so where the source was read
-pub read_answers : (value : Value) (map : Held) (held : Option Held) → held ≡ Some map → (name bytes : List ℕ) → IsRead held name 16777216 (read.Got bytes) →
-    (walk : Stack) → walk ≡ first_stack name bytes → (result : Result Lines PreFault) → EndsIn value map walk result → Answers value map name result
-read_answers value map held e name bytes was walk first result h =
+pub read_answers : (value : Value) → IsValue value → (map : Held) (held : Option Held) → held ≡ Some map → (name bytes : List ℕ) →
+    IsRead held name 16777216 (read.Got bytes) → (walk : Stack) → walk ≡ first_stack name bytes →
+    (result : Result Lines PreFault) → EndsIn value map walk result → Answers map name result
+read_answers value is map held e name bytes was walk first result h =
     let known : IsRead (Some map) name 16777216 (read.Got bytes) = subst (λ m. IsRead m name 16777216 (read.Got bytes)) e was in
-    answers value map name bytes known.0 (short bytes known.1 _ refl) result (subst (λ s. EndsIn value map s result) first h)
+    answers value map is name bytes known.0 (short bytes known.1 _ refl) result (subst (λ s. EndsIn value map s result) first h)
   where
     short : (bytes : List ℕ) → length bytes ≤ 16777216 → (t : Bool) → is_long_file bytes ≡ t → is_long_file bytes ≡ false
     short bytes h true e = absurd (let more = ltb-true 16777216 (length bytes) e in omega (arith, h, more))
     short bytes h false e = e
+
+-- where it isn't held
+pub missing_answers : (value : Value) → IsValue value → (map : Held) (held : Option Held) → held ≡ Some map → (name : List ℕ) →
+    IsRead held name 16777216 read.Missing → Answers map name (Err fault.NoSource)
+missing_answers value is map held e name was =
+    let known : IsRead (Some map) name 16777216 read.Missing = subst (λ m. IsRead m name 16777216 read.Missing) e was in
+    record { value = value; is_value = is; comes = rw known refl }
+
+-- and where it is too long
+pub long_answers : (value : Value) → IsValue value → (map : Held) (held : Option Held) → held ≡ Some map → (name : List ℕ) →
+    IsRead held name 16777216 read.TooLarge → Answers map name (Err (fault.TooLarge name))
+long_answers value is map held e name was =
+    let known : IsRead (Some map) name 16777216 read.TooLarge = subst (λ m. IsRead m name 16777216 read.TooLarge) e was in
+    record { value = value; is_value = is; comes = by_held (get map name) known }
+  where
+    by_held : (found : Option (List ℕ)) → IsSomeAnd found (λ bytes. 16777216 < length bytes) → ComesFrom value map name found (Long name)
+    by_held None h = absurd h
+    by_held (Some bytes) h = let e : is_long_file bytes ≡ true = lt-ltb 16777216 (length bytes) h in rw e refl

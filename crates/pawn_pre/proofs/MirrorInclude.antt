@@ -5,16 +5,16 @@ use Rattle.std.specs.FinMap.{get}
 use Rattle.pawn_outside.specs.Held.{Held}
 use Rattle.pawn_pre.specs.declared.include.Named.{Named}
 use Rattle.pawn_lines.specs.File.{file_of}
-use Rattle.pawn_pre.specs.Includes.{include_name}
+use Rattle.pawn_pre.specs.Include.{include_name}
 use Rattle.pawn_pre.specs.Inclusion as page
 use Rattle.pawn_pre.specs.Marks.{Mark, Began, begun, kept, rules, settings, conditionals}
-use Rattle.pawn_pre.specs.OpenFiles.{OpenFile, opened}
+use Rattle.pawn_pre.specs.Level.{Level, opened}
 use Rattle.pawn_pre.specs.OpenLines.{place}
 use Rattle.pawn_pre.specs.Outcome.{is_long_file}
 use Rattle.pawn_pre.specs.Turn.{Turn}
-use Rattle.pawn_macro.specs.Values.{Value}
-use Rattle.pawn_pre.specs.Walks as walks
-use Rattle.pawn_pre.specs.Walks.{Turned}
+use Rattle.pawn_macro.specs.Evaluation.{Value}
+use Rattle.pawn_pre.specs.Walk as walks
+use Rattle.pawn_pre.specs.Walk.{Turned}
 use Rattle.pawn_pre.proofs.Mirror.{Reads, Covers, Mirrors, chosen, shown, lines_open, lines_below}
 use Rattle.pawn_pre.proofs.MirrorKept.{holds, in_chosen_part, reads_on}
 use Rattle.pawn_pre.proofs.PageLaws.{started}
@@ -25,7 +25,7 @@ both : (value : Value) (map : Held) (t : Bool) (a b : Turned) (c d : Turn) → M
 both value map true a b c d h k = h
 both value map false a b c d h k = k
 
-covers_length : (lower : List (List Bool)) (below : List OpenFile) → Covers lower below → length lower ≡ length below
+covers_length : (lower : List (List Bool)) (below : List Level) → Covers lower below → length lower ≡ length below
 unfolding Covers
 covers_length [] [] h = refl
 covers_length (outer ∷ lower) (file ∷ below) h = let ih : length lower ≡ length below = covers_length lower below h.1 in omega arith
@@ -38,7 +38,7 @@ same_test m n false false h k e = refl
 same_test m n true false h k e = absurd (let a = ltb-true 16 m h in let b = ltb-false 15 n k in omega (arith, a, b, e))
 same_test m n false true h k e = absurd (let a = ltb-false 16 m h in let b = ltb-true 15 n k in omega (arith, a, b, e))
 
-module _ (value : Value) (map : Held) (marks : List Mark) (lower : List (List Bool)) (top : OpenFile) (below : List OpenFile) (covers : Covers lower below) (number : ℕ)
+module _ (value : Value) (map : Held) (marks : List Mark) (lower : List (List Bool)) (top : Level) (below : List Level) (covers : Covers lower below) (number : ℕ)
     (outer : List Bool) (opens : conditionals marks ≡ outer ∷ lower) where
   misses : (optional : Bool) →
       Mirrors value map (walks.missing (shown marks Reads outer top below) number optional) (page.missing marks (place top.file number) optional (lines_open top below))

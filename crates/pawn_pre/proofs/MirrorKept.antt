@@ -6,20 +6,20 @@ use Rattle.pawn_pre.specs.declared.directive.Setting.{Setting}
 use Rattle.pawn_pre.specs.declared.directive.Setting.TheVariants as setting
 use Rattle.pawn_pre.specs.declared.directive.Word.TheVariants as word
 use Rattle.pawn_pre.specs.declared.work.Work.{Work}
-use Rattle.pawn_pre.specs.Acts.{act, keep, with_line, is_in_chosen, define, undefine, without, assert_true, set_pragma, pragma_by, with_definition, with_settings, is_set}
+use Rattle.pawn_pre.specs.Work.{act, keep, with_line, is_in_chosen, define, undefine, without, assert_true, set_pragma, pragma_by, with_definition, with_settings, is_set}
 use Rattle.pawn_lines.specs.ByteClass.{past_blanks}
-use Rattle.pawn_macro.specs.Defining.{definition, undefined}
-use Rattle.pawn_pre.specs.Directives.{pragma, quoted_byte}
+use Rattle.pawn_macro.specs.Define.{definition, undefined}
+use Rattle.pawn_pre.specs.Directive.{pragma, quoted_byte}
 use Rattle.pawn_pre.specs.Kept as kept_lines
 use Rattle.pawn_pre.specs.Lists.{first_of}
 use Rattle.pawn_pre.specs.Marks.{Mark, Keeps, Defines, Undefines, Stops, Demands, Packs, Controls, Reserves, begun, kept, rules, settings, conditionals}
-use Rattle.pawn_pre.specs.OpenFiles.{OpenFile, is_chosen}
+use Rattle.pawn_pre.specs.Level.{Level, is_chosen}
 use Rattle.pawn_pre.specs.OpenLines.{Open, End, place, lines_of_rows, to_end}
 use Rattle.pawn_pre.specs.Page as page
 use Rattle.pawn_pre.specs.Turn.{Turn, Goes, fault, or_fault_at}
 use Rattle.pawn_macro.specs.Substitution.{expanded}
-use Rattle.pawn_macro.specs.Values.{Value, proceed, or_fault}
-use Rattle.pawn_pre.specs.Walks.{worked}
+use Rattle.pawn_macro.specs.Evaluation.{Value, proceed, or_fault}
+use Rattle.pawn_pre.specs.Walk.{worked}
 use Rattle.pawn_pre.proofs.BoundLaws.{bytes_of-push}
 use Rattle.pawn_pre.proofs.Mirror.{Mode, Reads, Covers, Follows, Mirrors, chosen, shown, lines_open, lines_below}
 use Rattle.pawn_pre.proofs.PageLaws.{started}
@@ -44,7 +44,7 @@ unfolding to_end lines_of_rows
 to_end_rows file [] last unclosed rest = refl
 to_end_rows file (row ∷ rows) last unclosed rest = to_end_rows file rows last unclosed rest
 
-module _ (value : Value) (map : Held) (marks : List Mark) (lower : List (List Bool)) (top : OpenFile) (below : List OpenFile) (covers : Covers lower below) (number : ℕ) where
+module _ (value : Value) (map : Held) (marks : List Mark) (lower : List (List Bool)) (top : Level) (below : List Level) (covers : Covers lower below) (number : ℕ) where
   -- the value that both go on with, or the fault that both have
   pub by_result : {A : Type 0} (mode : Mode) (outer : List Bool) (r : Result A ℕ) (f : A → Result Work ℕ) (g : A → Turn) →
       ((a : A) → Mirrors value map (worked (shown marks mode outer top below) number (f a)) (g a)) →

@@ -4,20 +4,20 @@ use Rattle.pawn_cells.specs.Cells.{is_zero}
 use Rattle.pawn_outside.specs.Held.{Held}
 use Rattle.pawn_pre.specs.declared.directive.Word.TheVariants as word
 use Rattle.pawn_pre.specs.declared.state.Part.TheVariants.{Chosen, Waiting}
-use Rattle.pawn_pre.specs.Acts.{act, begin_if, turn_elseif, turn_else, end_if, elseif_by, else_by, end_by, push, part_of}
+use Rattle.pawn_pre.specs.Work.{act, begin_if, turn_elseif, turn_else, end_if, elseif_by, else_by, end_by, push, part_of}
 use Rattle.pawn_pre.specs.Conditionals.{if_by, if_not_past, endif_by, dropped_elseif, dropped_else}
 use Rattle.pawn_pre.specs.Lists.{first_of}
 use Rattle.pawn_pre.specs.Marks.{Mark, Opens, Closes, begun, kept, rules, settings, conditionals}
-use Rattle.pawn_pre.specs.OpenFiles.{OpenFile}
+use Rattle.pawn_pre.specs.Level.{Level}
 use Rattle.pawn_pre.specs.OpenLines.{place}
 use Rattle.pawn_pre.specs.Page as page
 use Rattle.pawn_pre.specs.Partner.{partner}
-use Rattle.pawn_macro.specs.Values.{Value}
-use Rattle.pawn_pre.specs.Walks.{On, worked, with_work}
+use Rattle.pawn_macro.specs.Evaluation.{Value}
+use Rattle.pawn_pre.specs.Walk.{On, worked, with_work}
 use Rattle.pawn_pre.proofs.Mirror.{Reads, Drops, Waits, Passes, Covers, Mirrors, chosen, passed, shown, lines_open}
 use Rattle.pawn_pre.proofs.MirrorKept.{by_result, chosen_then, reads_on}
 
-module _ (value : Value) (map : Held) (marks : List Mark) (lower : List (List Bool)) (top : OpenFile) (below : List OpenFile) (covers : Covers lower below) (number : ℕ) where
+module _ (value : Value) (map : Held) (marks : List Mark) (lower : List (List Bool)) (top : Level) (below : List Level) (covers : Covers lower below) (number : ℕ) where
   -- the condition's value opens the part, or waits for another
   pub opened_by : (outer : List Bool) → conditionals marks ≡ outer ∷ lower → (zero : Bool) →
       Mirrors value map (On (with_work (shown marks Reads outer top below) (push (shown marks Reads outer top below).work (if zero then Waiting else Chosen))))

@@ -10,15 +10,15 @@ use Rattle.pawn_lines.specs.declared.row.Row.{Row}
 use Rattle.pawn_pre.specs.declared.directive.Word.{Word}
 use Rattle.pawn_pre.specs.declared.work.Work.{Work}
 use Rattle.pawn_pre.specs.Acted.{Acted}
-use Rattle.pawn_pre.specs.Acts.{act, keep, with_line, is_in_chosen}
+use Rattle.pawn_pre.specs.Work.{act, keep, with_line, is_in_chosen}
 use Rattle.pawn_pre.specs.WalkAnswers.{IsTold}
 use Rattle.pawn_lines.specs.File.{file_of}
 use Rattle.pawn_pre.specs.Lists.{first_of, rest_of}
-use Rattle.pawn_pre.specs.OpenFiles.{OpenFile}
+use Rattle.pawn_pre.specs.Level.{Level}
 use Rattle.pawn_pre.specs.Remaining.{remaining, waiting, FallsBelow}
 use Rattle.pawn_macro.specs.Substitution.{expanded}
-use Rattle.pawn_macro.specs.Values.{Value, proceed}
-use Rattle.pawn_pre.specs.Walks.{Stack, entered}
+use Rattle.pawn_macro.specs.Evaluation.{Value, proceed}
+use Rattle.pawn_pre.specs.Walk.{Stack, entered}
 use Rattle.pawn_pre.proofs.BoundLaws.{acted_rows}
 
 -- ---- each step
@@ -31,7 +31,7 @@ entered_falls s name bytes few short =
     omega (arith, more, few, short)
 
 -- a file ends
-pub next_falls : (s : Stack) (file : OpenFile) (rest : List OpenFile) → s.below ≡ file ∷ rest →
+pub next_falls : (s : Stack) (file : Level) (rest : List Level) → s.below ≡ file ∷ rest →
     remaining (record { names = s.names; below = rest; work = record s.work { top = file } }) < remaining s
 unfolding remaining waiting
 next_falls s file rest e = rw e (omega arith)
@@ -51,7 +51,7 @@ row_by s row [] e = absurd (none_some row e)
     none_some r f = cc
 row_by s row (first ∷ rows) e = omega arith
 
-pub row_falls : (s : Stack) (top : OpenFile) (row : Row) → Some row ≡ first_of s.work.top.rows → top ≡ record s.work.top { rows = rest_of s.work.top.rows } →
+pub row_falls : (s : Stack) (top : Level) (row : Row) → Some row ≡ first_of s.work.top.rows → top ≡ record s.work.top { rows = rest_of s.work.top.rows } →
     remaining (record s { work = record s.work { top = top } }) + 1 ≡ remaining s
 row_falls s top row e f = rw f (row_by s row s.work.top.rows e)
 
@@ -99,7 +99,7 @@ pub entered_ok : {A E : Type 0} (r : Result A E) (s new : Stack) (name bytes : L
 entered_ok (Ok a) s new name bytes few short e = rw e (entered_falls s name bytes few short)
 entered_ok (Err r) s new name bytes few short e = tt
 
-module _ (s : Stack) (top : OpenFile) (row : Row) (first : Some row ≡ first_of s.work.top.rows) (behind : top ≡ record s.work.top { rows = rest_of s.work.top.rows }) where
+module _ (s : Stack) (top : Level) (row : Row) (first : Some row ≡ first_of s.work.top.rows) (behind : top ≡ record s.work.top { rows = rest_of s.work.top.rows }) where
   most : remaining (record s { work = record s.work { top = top } }) + 1 ≡ remaining s
   most = row_falls s top row first behind
 

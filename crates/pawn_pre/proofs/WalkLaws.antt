@@ -1,12 +1,12 @@
 -- Steps, one after another.
 use Rattle.std.proofs.Common.{◌≡◌, suc, Err, refl}
 use Rattle.pawn_outside.specs.Held.{Held}
-use Rattle.pawn_macro.specs.Values.{Value}
+use Rattle.pawn_macro.specs.Evaluation.{Value}
 use Rattle.pawn_pre.specs.declared.fault.PreFault.{PreFault}
 use Rattle.pawn_pre.specs.declared.fault.PreFault.TheVariants as fault
 use Rattle.pawn_pre.specs.WalkAnswers.{Says, EndsIn}
 use Rattle.pawn_pre.specs.Outcome.{Outcome}
-use Rattle.pawn_pre.specs.Walks.{Stack, On, Stopped, step, run, Ends}
+use Rattle.pawn_pre.specs.Walk.{Stack, On, Stopped, step, run, Ends}
 
 module _ (value : Value) (map : Held) where
   -- a step that goes on

@@ -31,6 +31,7 @@ dropped_else marks (AtElse at bytes rest) = fault marks at 2
 dropped_else marks (AtEndif rest) = Goes (Closes ∷ marks) rest
 dropped_else marks (Lacks kind at) = fault marks at kind
 
+-- an `#if` that holds, or one that doesn't
 abbrev pub if_by : Bool → List Mark → List Open → Turn
 if_by true marks rest = Goes (Opens false ∷ marks) rest
 if_by false marks rest = dropped_if marks (partner [] rest)
@@ -40,17 +41,21 @@ abbrev pub if_not_past : List Mark → Place → Option Bool → Turn → Turn
 if_not_past marks at None turn = fault marks at 2
 if_not_past marks at (Some past) turn = if past then fault marks at 2 else turn
 
+-- an `#elseif` behind a chosen part
 abbrev pub elseif_line : List Mark → Place → List Open → Turn
 elseif_line marks at rest =
     if_not_past marks at (innermost marks) (dropped_elseif marks (partner [] rest))
 
+-- an `#else` behind a chosen part
 abbrev pub else_line : List Mark → Place → List Open → Turn
 else_line marks at rest =
     if_not_past marks at (innermost marks) (dropped_else marks (partner [] rest))
 
+-- an open conditional is closed
 abbrev pub endif_by : List Mark → Place → Option Bool → List Open → Turn
 endif_by marks at None rest = fault marks at 2
 endif_by marks at (Some past) rest = Goes (Closes ∷ marks) rest
 
+-- an `#endif`
 abbrev pub endif_line : List Mark → Place → List Open → Turn
 endif_line marks at rest = endif_by marks at (innermost marks) rest

@@ -1,8 +1,9 @@
 -- A line that is no directive is rewritten with the definitions in force, and kept (Language Guide,
 -- "Preprocessor").
-use Rattle.std.specs.Prelude.{ℕ, ◌+◌, nat_lt, List, ◌∷◌, length, sum_by, if◌then◌else◌}
+use Rattle.std.specs.Prelude.{ℕ, ◌+◌, nat_lt, List, ◌∷◌, length, if◌then◌else◌}
 use Rattle.pawn_cells.specs.declared.place.Place.{Place}
 use Rattle.pawn_pre.specs.declared.line.Line.{Line}
+use Rattle.pawn_pre.specs.Bounds.{bytes_of}
 use Rattle.pawn_pre.specs.Marks.{Mark, Keeps, kept, rules, settings}
 use Rattle.pawn_pre.specs.OpenLines.{Open}
 use Rattle.pawn_macro.specs.Substitution.{expanded}
@@ -18,9 +19,9 @@ line_at marks at bytes = record {
   bytes = bytes;
 }
 
--- the bytes of all lines together
+-- the bytes of all lines that are kept
 abbrev pub size : List Mark → ℕ
-size marks = sum_by (λ (line : Line). length line.bytes) (kept marks)
+size marks = bytes_of (kept marks)
 
 -- fault 10 where that is more than 1,048,576
 abbrev pub with_line : List Mark → Place → List ℕ → List Open → Turn
@@ -28,6 +29,7 @@ with_line marks at bytes rest =
     if nat_lt 1048576 (size marks + length bytes) then fault marks at 10
     else Goes (Keeps (line_at marks at bytes) ∷ marks) rest
 
+-- a line is rewritten and kept
 abbrev pub keep : List Mark → Place → List ℕ → List Open → Turn
 keep marks at bytes rest =
     or_fault_at marks at (expanded (rules marks) (settings marks).control bytes)

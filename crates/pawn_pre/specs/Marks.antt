@@ -6,7 +6,7 @@ use Rattle.pawn_pre.specs.declared.line.Line.{Line}
 use Rattle.pawn_pre.specs.declared.line.Lines.{Lines}
 use Rattle.pawn_pre.specs.declared.state.Settings.{Settings}
 use Rattle.pawn_macro.specs.declared.define.Definition.{Definition}
-use Rattle.pawn_macro.specs.Definitions.{Rules}
+use Rattle.pawn_macro.specs.Table.{Rules}
 use Rattle.pawn_pre.specs.Lists.{first_of, rest_of}
 
 -- a file of a name begins, or ends; a line is kept; a conditional is opened, which tells whether
@@ -74,9 +74,11 @@ abbrev pub innermost_of : List (List Bool) → Option Bool
 innermost_of [] = None
 innermost_of (file ∷ files) = first_of file
 
+-- the innermost open conditional, likewise
 abbrev pub innermost : List Mark → Option Bool
 innermost marks = innermost_of (conditionals marks)
 
+-- what the marks come to
 abbrev pub lines_of : List Mark → Lines
 lines_of marks = record {
   lines = kept marks;

@@ -5,7 +5,7 @@ use Rattle.pawn_cells.specs.declared.place.Place.{Place}
 use Rattle.pawn_lines.specs.declared.row.Row.{Row}
 use Rattle.pawn_pre.specs.declared.directive.Word.{Word}
 use Rattle.pawn_lines.specs.File.{File}
-use Rattle.pawn_pre.specs.Directives.{Directive, directive}
+use Rattle.pawn_pre.specs.Directive.{Directive, directive}
 
 -- plain bytes, or a directive's word and the bytes behind it
 pub data Text : Type 0 where
@@ -18,13 +18,16 @@ pub data Open : Type 0 where
   Line : Place → Text → Open
   End : Place → Bool → Open
 
+-- by the directive that the bytes are
 abbrev pub text_by : List ℕ → Option Directive → Text
 text_by bytes None = Plain bytes
 text_by bytes (Some d) = Directs d.word d.rest
 
+-- the text of a line
 abbrev pub text_of : List ℕ → Text
 text_of bytes = text_by bytes (directive bytes)
 
+-- a place by the numbers of file and line
 abbrev pub place : ℕ → ℕ → Place
 place file line = record { file = file; line = line }
 

@@ -4,14 +4,14 @@ use Rattle.pawn_cells.specs.declared.place.Place.{Place}
 use Rattle.pawn_pre.specs.declared.line.Lines.{Lines}
 
 -- the lines that are kept, a fault with the name of its file, a file that is too long, or a
--- source that isn't held; `Cut` where the steps were too few
+-- source that isn't held
 pub data Outcome : Type 0 where
-  Cut : Outcome
   Whole : Lines → Outcome
   Fault : ℕ → Place → List ℕ → Outcome
   Long : List ℕ → Outcome
   NotHeld : Outcome
 
+-- the name of a file by its number
 abbrev pub name_of : List (List ℕ) → ℕ → List ℕ
 name_of names file = slice_index_or names file []
 

@@ -1,12 +1,13 @@
 -- What remains of a stack of open files: each step leaves less, so the walk ends, for the proof
 -- alone.
-use Rattle.std.specs.Prelude.{ℕ, ◌+◌, ◌-◌, ◌*◌, ◌^◌, ◌<◌, List, [], ◌∷◌, length, Bool, true, false, Result, Ok, Err}
+use Rattle.std.specs.Prelude.{ℕ, ◌+◌, ◌-◌, ◌*◌, ◌^◌, ◌<◌, List, [], ◌∷◌, length, Bool, true}
+use Rattle.std.specs.Prelude.{false, Result, Ok, Err}
 use Rattle.pawn_pre.specs.declared.fault.PreFault.{PreFault}
-use Rattle.pawn_pre.specs.OpenFiles.{OpenFile}
-use Rattle.pawn_pre.specs.Walks.{Stack}
+use Rattle.pawn_pre.specs.Level.{Level}
+use Rattle.pawn_pre.specs.Walk.{Stack}
 
 -- the lines that are left of the files below, and their ends
-unfoldable pub waiting : List OpenFile → ℕ
+unfoldable pub waiting : List Level → ℕ
 waiting [] = 0
 waiting (file ∷ below) = 1 + length file.rows + waiting below
 

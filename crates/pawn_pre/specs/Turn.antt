@@ -14,6 +14,7 @@ pub data Turn : Type 0 where
 abbrev pub fault : List Mark → Place → ℕ → Turn
 fault marks at kind = Halts (Fault kind at (name_of (begun marks) at.file))
 
+-- what follows a value, or its fault at a line
 abbrev pub or_fault_at : {A : Type 0} → List Mark → Place → Result A ℕ → (A → Turn) → Turn
 or_fault_at marks at (Ok a) go_on = go_on a
 or_fault_at marks at (Err kind) go_on = fault marks at kind

@@ -8,8 +8,8 @@ use Rattle.pawn_pre.specs.declared.line.Lines.{Lines}
 use Rattle.pawn_macro.specs.declared.refusal.Refusal.{Refusal}
 use Rattle.pawn_macro.specs.declared.refusal.Refusal.TheVariants as refusal
 use Rattle.pawn_pre.specs.Outcome.{Outcome, Whole, Fault, Long, name_of}
-use Rattle.pawn_macro.specs.Values.{Value}
-use Rattle.pawn_pre.specs.Walks.{Stack, Turned, On, Stopped, lines_of, Ends}
+use Rattle.pawn_macro.specs.Evaluation.{Value}
+use Rattle.pawn_pre.specs.Walk.{Stack, Turned, On, Stopped, lines_of, Ends}
 
 -- of one step: whether it goes on, or the fault
 abbrev pub Says : Turned → Result Bool PreFault → Stack → Type 0

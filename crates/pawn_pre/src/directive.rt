@@ -1,5 +1,5 @@
 ghost use Rattle.std.specs.Prelude.{◌≡◌};
-ghost use Rattle.pawn_pre.specs.Directives as spec;
+ghost use Rattle.pawn_pre.specs.Directive as spec;
 ghost use Rattle.pawn_pre.specs.Parsed.{IsDirective, IsPragma};
 
 use pawn_lines::{name_len, past_blanks};

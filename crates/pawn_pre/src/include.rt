@@ -1,7 +1,7 @@
 ghost use Rattle.std.specs.Prelude.{◌≡◌, ◌==◌, IfOk, IsTrue, position};
 ghost use Rattle.std.specs.Str.{IsAscii};
 ghost use Rattle.std.specs.List.{list_any};
-ghost use Rattle.pawn_pre.specs.Includes as spec;
+ghost use Rattle.pawn_pre.specs.Include as spec;
 
 use pawn_base::{Bytes, Memory};
 use pawn_lines::{past_blanks, trimmed_end};

@@ -1,11 +1,10 @@
 ghost use Rattle.std.specs.Prelude.{◌≡◌, [], ◌∷◌, OnOk};
-ghost use Rattle.pawn_lines.specs.File.{File};
 ghost use Rattle.pawn_pre.specs.Lists as lists;
-ghost use Rattle.pawn_pre.specs.OpenFiles as files;
+ghost use Rattle.pawn_pre.specs.Level as levels;
 
 use super::state::{Conditional, Part};
 use pawn_base::Memory;
-use pawn_lines::{OpenFile, Row};
+use pawn_lines::{File, Row};
 use std::alloc::Global;
 use std::collections::VecDeque;
 use std::marker::Model;
@@ -15,20 +14,20 @@ use std::marker::Model;
 pub struct Level {
     file: u64,
     last: u32,
-    is_open: bool,
+    unclosed: bool,
     rows: VecDeque<Row>,
     conditionals: VecDeque<Conditional>,
 }
 
 impl Model for Level {
-    ghost use Rattle.pawn_pre.specs.OpenFiles.{OpenFile};
+    ghost use Rattle.pawn_pre.specs.Level.{Level as OpenFile};
 
     ghost Value = { OpenFile };
 
     ghost view = { λ level. record {
       file = level.file;
       last = level.last;
-      unclosed = level.is_open;
+      unclosed = level.unclosed;
       rows = level.rows.items;
       conditionals = level.conditionals.items;
     } };
@@ -36,14 +35,14 @@ impl Model for Level {
 
 impl Level {
     /// A file at its beginning.
-    pub fn new(alloc: Global, number: u64, file: OpenFile) -> Level
-        ensures { result ≡ files.opened number
-            (record { rows = file.rows.items; last = file.last; unclosed = file.is_open }) }
+    pub fn new(alloc: Global, number: u64, file: File) -> Level
+        ensures { result ≡ levels.opened number
+            (record { rows = file.rows.items; last = file.last; unclosed = file.unclosed }) }
     {
         Level {
             file: number,
             last: file.last,
-            is_open: file.is_open,
+            unclosed: file.unclosed,
             rows: file.rows,
             conditionals: VecDeque::new(alloc),
         }
@@ -64,7 +63,7 @@ impl Level {
     pub fn is_unclosed(&self) -> bool
         ensures { result ≡ self.now.unclosed }
     {
-        self.is_open
+        self.unclosed
     }
 
     /// The innermost open conditional.
@@ -76,7 +75,7 @@ impl Level {
 
     /// Whether the next line stands in a chosen part.
     pub fn is_chosen(&self) -> bool
-        ensures { result ≡ files.is_chosen (lists.first_of self.now.conditionals) }
+        ensures { result ≡ levels.is_chosen (lists.first_of self.now.conditionals) }
     {
         match self.innermost() {
             None => true,

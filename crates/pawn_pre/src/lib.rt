@@ -8,8 +8,6 @@ mod level;
 mod line;
 mod source;
 mod state;
-#[cfg(test)]
-mod tests;
 mod walk;
 mod work;
 

@@ -1,13 +1,13 @@
-ghost use Rattle.std.specs.Prelude.{◌≡◌, ◌≤◌, Some, IfOk};
+ghost use Rattle.std.specs.Prelude.{◌≡◌, ◌≢◌, ◌≤◌, Some, IfOk};
 ghost use Rattle.pawn_outside.specs.Held.{Held};
+ghost use Rattle.pawn_outside.specs.OnlyRead.{OnlyRead};
 ghost use Rattle.pawn_outside.specs.Rose.{Rose};
-ghost use Rattle.pawn_pre.specs.Answers.{Answers};
-ghost use Rattle.pawn_pre.specs.WalkAnswers.{EndsIn};
-ghost use Rattle.pawn_pre.specs.Bounds.{IsBounded, IsSoundStack};
-ghost use Rattle.pawn_condition.specs.Condition.{IsValue};
 ghost use Rattle.pawn_condition.specs.ConditionMachine.{value_of};
-ghost use Rattle.pawn_macro.specs.Values.{Value};
+ghost use Rattle.pawn_pre.specs.Answers.{Answers};
+ghost use Rattle.pawn_pre.specs.Bounds.{IsBounded};
 ghost use Rattle.pawn_pre.specs.Page.{HasOneOutcome};
+ghost use Rattle.pawn_pre.specs.Sound.{IsSoundStack};
+ghost use Rattle.pawn_pre.specs.WalkAnswers.{EndsIn};
 
 use super::fault::PreFault;
 use super::line::Lines;
@@ -18,13 +18,17 @@ use std::alloc::Global;
 
 /// Settles line after line until no file is open.
 fn drive<F: Files>(alloc: Global, walk: Walk, files: &mut F) -> Result<Lines, PreFault>
-    ensures same { F.held files.new ≡ F.held files.old }
     ensures ends { (map : Held) → F.held files.old ≡ Some map →
         EndsIn value_of map walk result }
     ensures bounds { IsSoundStack walk → IfOk result IsBounded }
+
+    // The files were only read.
+    ensures same { F.held files.new ≡ F.held files.old }
     ensures later { F.faults files.old ≤ F.faults files.new }
     ensures cause { result ≡ Err PreFault.Files →
         Rose (F.faults files.old) (F.faults files.new) }
+    ensures unfailing { F.never_fails files.old →
+        F.never_fails files.new × (result ≢ Err PreFault.Files) }
 {
     let mut walk = walk;
     loop {
@@ -43,13 +47,17 @@ fn drive<F: Files>(alloc: Global, walk: Walk, files: &mut F) -> Result<Lines, Pr
 
 /// The lines of a source, over the files that it includes.
 fn read_lines<F: Files>(alloc: Global, name: &str, files: &mut F) -> Result<Lines, PreFault>
-    ensures same { F.held files.new ≡ F.held files.old }
     ensures answers { (map : Held) → F.held files.old ≡ Some map →
-        Answers value_of map name.now result }
+        Answers map name.now result }
     ensures bounds { IfOk result IsBounded }
+
+    // The files were only read.
+    ensures same { F.held files.new ≡ F.held files.old }
     ensures later { F.faults files.old ≤ F.faults files.new }
     ensures cause { result ≡ Err PreFault.Files →
         Rose (F.faults files.old) (F.faults files.new) }
+    ensures unfailing { F.never_fails files.old →
+        F.never_fails files.new × (result ≢ Err PreFault.Files) }
 {
     match files.read(alloc, name, FILE_LIMIT) {
         ReadAnswer::Got(bytes) => match Walk::begin(alloc, name, bytes.as_slice()) {
@@ -78,22 +86,18 @@ fn read_lines<F: Files>(alloc: Global, name: &str, files: &mut F) -> Result<Line
 /// source isn't held, `TooLarge` where a file has more than 16,777,216 bytes, `Files` where the
 /// files failed, `Memory` for want of memory.
 pub fn preprocess<F: Files>(alloc: Global, name: &str, files: &mut F) -> Result<Lines, PreFault>
-    ensures same { F.held files.new ≡ F.held files.old }
-
     // The answer is what the source comes to, where the files tell what they hold.
-    ensures answers { (map : Held) (value : Value) → F.held files.old ≡ Some map →
-        IsValue value → Answers value map name.now result }
+    ensures answers { (map : Held) → F.held files.old ≡ Some map → Answers map name.now result }
 
     // A source comes to one outcome.
-    ensures only { (map : Held) (value : Value) → HasOneOutcome value map name.now }
+    ensures only { (map : Held) → HasOneOutcome map name.now }
 
     // Whatever the files tell, all lines have at most 1,048,576 bytes and stand in files named.
     ensures bounds { IfOk result IsBounded }
 
-    // Files comes only where the count of faults rose.
-    ensures later { F.faults files.old ≤ F.faults files.new }
-    ensures cause { result ≡ Err PreFault.Files →
-        Rose (F.faults files.old) (F.faults files.new) }
+    // Nothing held changes, and `Files` comes only where the files failed.
+    ensures files { OnlyRead F.held F.faults F.never_fails files.old files.new
+        (result ≡ Err PreFault.Files) }
 {
     read_lines(alloc, name, files)
 }

@@ -1,11 +1,12 @@
-ghost use Rattle.std.specs.Prelude.{◌≡◌, ◌≢◌, ◌≤◌, ◌<◌, ◌+◌, length, false, Some, OnOk, IfOk, IsTrue};
+ghost use Rattle.std.specs.Prelude.{◌≡◌, ◌≢◌, ◌≤◌, ◌<◌, ◌+◌, length, false, Some};
+ghost use Rattle.std.specs.Prelude.{OnOk, IfOk, IsTrue};
 ghost use Rattle.std.specs.Str.{IsAscii};
 ghost use Rattle.pawn_outside.specs.Held.{Held};
 ghost use Rattle.pawn_outside.specs.Rose.{Rose};
 ghost use Rattle.pawn_outside.specs.Answers.{IsRead};
-ghost use Rattle.pawn_pre.specs.Walks as walks;
+ghost use Rattle.pawn_pre.specs.Walk as walks;
 ghost use Rattle.pawn_pre.specs.Outcome.{Fault, name_of};
-ghost use Rattle.pawn_pre.specs.Bounds.{IsSoundStack, Leaves};
+ghost use Rattle.pawn_pre.specs.Sound.{IsSoundStack, Leaves};
 ghost use Rattle.pawn_pre.specs.Remaining.{remaining, FallsBelow};
 ghost use Rattle.pawn_pre.specs.WalkAnswers.{Says, IsFault, IsMissing, IsTold};
 ghost use Rattle.pawn_condition.specs.ConditionMachine.{value_of};
@@ -41,7 +42,7 @@ pub struct Walk {
 impl Model for Walk {
     ghost use Rattle.std.specs.Coded.{codes};
     ghost use Rattle.pawn_pre.specs.contracts.work.Work as settled;
-    ghost use Rattle.pawn_pre.specs.Walks.{Stack};
+    ghost use Rattle.pawn_pre.specs.Walk.{Stack};
 
     ghost Value = { Stack };
 
@@ -72,6 +73,8 @@ fn read_named<F: Files>(alloc: Global, files: &mut F, name: &[u8]) -> ReadAnswer
     ensures later { F.faults files.old ≤ F.faults files.new }
     ensures cause { result ≡ ReadAnswer.Failed →
         Rose (F.faults files.old) (F.faults files.new) }
+    ensures unfailing { F.never_fails files.old →
+        F.never_fails files.new × (result ≢ ReadAnswer.Failed) }
 {
     match str::from_utf8(name) {
         Ok(text) => files.read(alloc, text, FILE_LIMIT),
@@ -130,7 +133,7 @@ impl Walk {
     }
 
     /// Closes a file of which no line is left.
-    #[tactic(auto, unfolding(crate::specs::Walks::at_end))]
+    #[tactic(auto, unfolding(crate::specs::Walk::at_end))]
     fn end_file(&mut self, alloc: Global) -> Result<bool, PreFault>
         ensures says { Says (walks.at_end self.old) result self.new }
         ensures falls { FallsBelow (remaining self.old) result self.new }
@@ -208,6 +211,8 @@ impl Walk {
         ensures later { F.faults files.old ≤ F.faults files.new }
         ensures cause { result ≡ Err PreFault.Files →
             Rose (F.faults files.old) (F.faults files.new) }
+        ensures unfailing { F.never_fails files.old →
+            F.never_fails files.new × (result ≢ Err PreFault.Files) }
     {
         let place = Place {
             file: self.work.top.file(),
@@ -233,7 +238,7 @@ impl Walk {
     }
 
     /// Includes a file.
-    #[tactic(auto, unfolding(crate::specs::Walks::include))]
+    #[tactic(auto, unfolding(crate::specs::Walk::include))]
     fn include<F: Files>(
         &mut self,
         alloc: Global,
@@ -250,6 +255,8 @@ impl Walk {
         ensures later { F.faults files.old ≤ F.faults files.new }
         ensures cause { result ≡ Err PreFault.Files →
             Rose (F.faults files.old) (F.faults files.new) }
+        ensures unfailing { F.never_fails files.old →
+            F.never_fails files.new × (result ≢ Err PreFault.Files) }
     {
         if !self.work.is_in_chosen() {
             return Ok(true);
@@ -283,7 +290,7 @@ impl Walk {
     }
 
     /// Settles the next line, or the end of a file: false where no file is open any more.
-    #[tactic(auto, unfolding(crate::specs::Walks::step))]
+    #[tactic(auto, unfolding(crate::specs::Walk::step))]
     pub fn turn<F: Files>(&mut self, alloc: Global, files: &mut F) -> Result<bool, PreFault>
         ensures same { F.held files.new ≡ F.held files.old }
         ensures says { (map : Held) → F.held files.old ≡ Some map →
@@ -293,6 +300,8 @@ impl Walk {
         ensures later { F.faults files.old ≤ F.faults files.new }
         ensures cause { result ≡ Err PreFault.Files →
             Rose (F.faults files.old) (F.faults files.new) }
+        ensures unfailing { F.never_fails files.old →
+            F.never_fails files.new × (result ≢ Err PreFault.Files) }
     {
         let Some(row) = self.work.top.take_row() else {
             return self.end_file(alloc);

@@ -1,5 +1,5 @@
 ghost use Rattle.std.specs.Prelude.{◌≡◌, OnOk, IfOk};
-ghost use Rattle.pawn_pre.specs.Acts as acts;
+ghost use Rattle.pawn_pre.specs.Work as acts;
 ghost use Rattle.pawn_pre.specs.Acted.{Acted};
 ghost use Rattle.pawn_macro.specs.Expansion.{Tells};
 ghost use Rattle.pawn_condition.specs.ConditionMachine.{value_of};
@@ -100,7 +100,7 @@ impl Work {
     }
 
     /// Keeps a line that is no directive.
-    #[tactic(auto, unfolding(crate::specs::Acts::keep))]
+    #[tactic(auto, unfolding(crate::specs::Work::keep))]
     pub fn keep(&mut self, alloc: Global, number: u32, bytes: &[u8]) -> Result<(), Refusal>
         ensures { Acted (acts.keep self.old number bytes.now) result self.new }
     {
@@ -139,7 +139,7 @@ impl Work {
         self.rules.number(alloc, self.settings.control, rest)
     }
 
-    #[tactic(auto, unfolding(crate::specs::Acts::begin_if))]
+    #[tactic(auto, unfolding(crate::specs::Work::begin_if))]
     fn begin_if(&mut self, alloc: Global, rest: &[u8]) -> Result<(), Refusal>
         ensures { Acted (acts.begin_if value_of self.old rest.now) result self.new }
     {
@@ -156,7 +156,7 @@ impl Work {
         }
     }
 
-    #[tactic(auto, unfolding(crate::specs::Acts::turn_elseif))]
+    #[tactic(auto, unfolding(crate::specs::Work::turn_elseif))]
     fn turn_elseif(&mut self, alloc: Global, rest: &[u8]) -> Result<(), Refusal>
         ensures { Acted (acts.turn_elseif value_of self.old rest.now) result self.new }
     {
@@ -187,7 +187,7 @@ impl Work {
         }
     }
 
-    #[tactic(auto, unfolding(crate::specs::Acts::turn_else))]
+    #[tactic(auto, unfolding(crate::specs::Work::turn_else))]
     fn turn_else(&mut self) -> Result<(), Refusal>
         ensures { Acted (acts.turn_else self.old) result self.new }
     {
@@ -204,7 +204,7 @@ impl Work {
         Ok(())
     }
 
-    #[tactic(auto, unfolding(crate::specs::Acts::end_if))]
+    #[tactic(auto, unfolding(crate::specs::Work::end_if))]
     fn end_if(&mut self) -> Result<(), Refusal>
         ensures { Acted (acts.end_if self.old) result self.new }
     {
@@ -217,7 +217,7 @@ impl Work {
         }
     }
 
-    #[tactic(auto, unfolding(crate::specs::Acts::assert_true))]
+    #[tactic(auto, unfolding(crate::specs::Work::assert_true))]
     fn assert_true(&mut self, alloc: Global, rest: &[u8]) -> Result<(), Refusal>
         ensures { Acted (acts.assert_true value_of self.old rest.now) result self.new }
     {
@@ -228,7 +228,7 @@ impl Work {
         }
     }
 
-    #[tactic(auto, unfolding(crate::specs::Acts::define))]
+    #[tactic(auto, unfolding(crate::specs::Work::define))]
     fn define(&mut self, alloc: Global, rest: &[u8]) -> Result<(), Refusal>
         ensures { Acted (acts.define self.old rest.now) result self.new }
     {
@@ -240,7 +240,7 @@ impl Work {
         Ok(())
     }
 
-    #[tactic(auto, unfolding(crate::specs::Acts::undefine))]
+    #[tactic(auto, unfolding(crate::specs::Work::undefine))]
     fn undefine(&mut self, rest: &[u8])
         ensures { acts.undefine self.old rest.now ≡ Ok self.new }
     {
@@ -249,7 +249,7 @@ impl Work {
         }
     }
 
-    #[tactic(auto, unfolding(crate::specs::Acts::set_pragma))]
+    #[tactic(auto, unfolding(crate::specs::Work::set_pragma))]
     fn set_pragma(&mut self, alloc: Global, rest: &[u8]) -> Result<(), Refusal>
         ensures { Acted (acts.set_pragma value_of self.old rest.now) result self.new }
     {
@@ -317,7 +317,7 @@ impl Work {
     }
 
     /// What a directive does.
-    #[tactic(auto, unfolding(crate::specs::Acts::act))]
+    #[tactic(auto, unfolding(crate::specs::Work::act))]
     pub fn act(&mut self, alloc: Global, word: Word, rest: &[u8]) -> Result<(), Refusal>
         ensures { Acted (acts.act value_of self.old word rest.now) result self.new }
     {

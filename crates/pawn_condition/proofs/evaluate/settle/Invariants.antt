@@ -4,7 +4,7 @@ use Rattle.pawn_condition.proofs.evaluate.settle.Given as goal
 
 abbrev pub invariant-loop-wait : goal.invariant-loop-wait
 invariant-loop-wait l =
-    settle l.least l.waits.items l.held ≡ settle l.fn.least l.fn.waits.items l.fn.operand
+    settle l.most l.waits.items l.held ≡ settle l.fn.most l.fn.waits.items l.fn.operand
 
 abbrev pub decreases-loop-wait : goal.decreases-loop-wait
 decreases-loop-wait l = length l.waits.items

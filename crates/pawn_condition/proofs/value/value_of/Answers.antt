@@ -1,8 +1,11 @@
-use Rattle.pawn_condition.proofs.ValueLaws.{told_value, one_value}
+use Rattle.pawn_condition.proofs.ValueLaws.{told_value, one_value, told_by}
 use Rattle.pawn_condition.proofs.value.value_of.Goals as goal
 
 pub returns-clause-has : goal.returns-clause-has
-returns-clause-has c = told_value c.args.tokens.now _ c.evaluate.ensures
+returns-clause-has c = told_value c.args.control c.args.text.now _ c.computed.ensures
 
 pub returns-clause-only : goal.returns-clause-only
-returns-clause-only c = one_value c.args.tokens.now
+returns-clause-only c = one_value c.args.control c.args.text.now
+
+pub returns-clause-told : goal.returns-clause-told
+returns-clause-told c value is = told_by c.args.control c.args.text.now _ c.computed.ensures value is

@@ -1,5 +1,5 @@
 use Rattle.std.proofs.Common.{◌≡◌, ◌==◌, ◌&&◌, not, length, ap, ◌∙◌}
-use Rattle.pawn_lex.specs.Lines.{blanks}
+use Rattle.pawn_token.specs.Kinds.{blanks}
 use Rattle.pawn_lex.proofs.LineLaws.{line_step, line_shorter, touch_then, touch_else}
 use Rattle.pawn_lex.proofs.line.line_tokens.Goals as goal
 use Rattle.pawn_lex.proofs.line.line_tokens.Goals.{then-not-first, else-not-first}
@@ -7,7 +7,7 @@ use Rattle.pawn_lex.proofs.line.line_tokens.Goals.{then-not-first, else-not-firs
 pub loop-blanks-smaller : goal.loop-blanks-smaller
 loop-blanks-smaller c =
     line_shorter c.args.line.now c.loop-blanks.rest.now c.split.result.1.now c.in_ok-kind.kind c.in_ok-kind.after.now
-    c.split.ensures.rest c.in_ok-kind.ensures
+    c.split.ensures.rest c.in_ok-kind.ensures.answer
 
 pub loop-blanks-preserved : goal.loop-blanks-preserved
 loop-blanks-preserved c =
@@ -21,4 +21,4 @@ loop-blanks-preserved c =
     ] in
     line_step c.args.line.now c.args.list.now c.loop-blanks.list c.push.new.self c.loop-blanks.first c.if-not-first.touches
     c.loop-blanks.rest.now c.split.result.1.now c.in_ok-kind.kind c.in_ok-kind.after.now c.loop-blanks.invariant
-    c.split.ensures.rest c.in_ok-kind.ensures touch c.in_ok-push.ensures.ok
+    c.split.ensures.rest c.in_ok-kind.ensures.answer touch c.in_ok-push.ensures.ok

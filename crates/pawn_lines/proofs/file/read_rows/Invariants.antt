@@ -5,7 +5,7 @@ use Rattle.pawn_lines.proofs.file.read_rows.Given as goal
 
 abbrev pub invariant-loop-row : goal.invariant-loop-row
 invariant-loop-row l =
-    with_rows l.rows.items (blanked l.is_open l.last l.joined.items) ≡
+    with_rows l.rows.items (blanked l.unclosed l.last l.joined.items) ≡
     blanked false 1 (rows_of l.fn.bytes)
 
 abbrev pub decreases-loop-row : goal.decreases-loop-row

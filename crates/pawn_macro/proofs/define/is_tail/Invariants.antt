@@ -1,5 +1,5 @@
 use Rattle.std.proofs.Common.{◌≡◌, [], length}
-use Rattle.pawn_macro.specs.Patterns.{is_tail}
+use Rattle.pawn_macro.specs.Define.{is_tail}
 use Rattle.pawn_macro.proofs.define.is_tail.Given as goal
 
 abbrev pub invariant-loop-left : goal.invariant-loop-left

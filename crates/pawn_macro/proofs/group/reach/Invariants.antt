@@ -1,7 +1,7 @@
 use Rattle.std.proofs.Common.{◌≡◌, ◌+◌, [], drop}
 use Rattle.std.specs.Option.{option_map}
-use Rattle.pawn_macro.specs.declared.quote.Quote.TheVariants.{Outside}
-use Rattle.pawn_macro.specs.Matching.{reach}
+use Rattle.pawn_lines.specs.declared.quote.Quote.TheVariants.{Outside}
+use Rattle.pawn_macro.specs.Group.{reach}
 use Rattle.pawn_macro.proofs.group.reach.Given as goal
 
 abbrev pub invariant-loop-i : goal.invariant-loop-i

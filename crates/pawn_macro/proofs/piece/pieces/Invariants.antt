@@ -1,6 +1,6 @@
 use Rattle.std.proofs.Common.{length, ◌≡◌, ◌++◌}
-use Rattle.pawn_macro.specs.declared.quote.Quote.TheVariants.{Outside}
-use Rattle.pawn_macro.specs.Patterns.{pieces}
+use Rattle.pawn_lines.specs.declared.quote.Quote.TheVariants.{Outside}
+use Rattle.pawn_macro.specs.Piece.{pieces}
 use Rattle.pawn_macro.proofs.piece.pieces.Given as goal
 
 abbrev pub invariant-loop-rest : goal.invariant-loop-rest

@@ -6,6 +6,7 @@ use Rattle.pawn_pre.proofs.source.drive.Goals as goal
 pub loop-walk-preserved : goal.loop-walk-preserved
 loop-walk-preserved g c = record {
   same = c.in-Ok-true.ensures.same ∙ c.loop-walk.invariant.same;
+  unfailing = λ k. (c.in-Ok-true.ensures.unfailing (c.loop-walk.invariant.unfailing k)).0;
   later = omega (arith, c.loop-walk.invariant.later, c.in-Ok-true.ensures.later);
   leads = λ map h o ends. c.loop-walk.invariant.leads map h o
       (goes value_of map _ _ o (rw c.in-Ok-true.field-0-test at (c.in-Ok-true.ensures.says map (c.loop-walk.invariant.same ∙ h))) ends);

@@ -1,6 +1,6 @@
 use Rattle.std.proofs.Common.{◌≡◌, ◌++◌, false, drop}
-use Rattle.pawn_macro.specs.declared.quote.Quote.TheVariants.{Outside}
-use Rattle.pawn_macro.specs.Values.{answered}
+use Rattle.pawn_lines.specs.declared.quote.Quote.TheVariants.{Outside}
+use Rattle.pawn_macro.specs.Defined.{answered}
 use Rattle.pawn_macro.proofs.table.Table.answered.Given as goal
 
 abbrev pub invariant-loop-i : goal.invariant-loop-i

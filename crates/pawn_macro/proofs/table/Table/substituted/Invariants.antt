@@ -1,5 +1,5 @@
 use Rattle.std.proofs.Common.{◌≡◌, false, drop, take}
-use Rattle.pawn_macro.specs.declared.quote.Quote.TheVariants.{Outside}
+use Rattle.pawn_lines.specs.declared.quote.Quote.TheVariants.{Outside}
 use Rattle.pawn_macro.specs.Substitution.{substituted, with_before}
 use Rattle.pawn_macro.proofs.table.Table.substituted.Given as goal
 

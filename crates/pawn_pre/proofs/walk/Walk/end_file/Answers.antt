@@ -1,5 +1,5 @@
 use Rattle.std.proofs.Common.{sym, subst}
-use Rattle.pawn_pre.specs.Bounds.{IsSoundStack}
+use Rattle.pawn_pre.specs.Sound.{IsSoundStack}
 use Rattle.pawn_pre.proofs.BoundLaws.{next_sound}
 use Rattle.pawn_pre.proofs.RemainingLaws.{next_falls}
 use Rattle.pawn_pre.proofs.walk.Walk.end_file.Goals as goal

@@ -1,28 +1,28 @@
 use Rattle.std.proofs.Common.{ap, sym, subst}
-use Rattle.pawn_pre.specs.Bounds.{IsSoundStack}
-use Rattle.pawn_pre.specs.OpenFiles.{OpenFile}
+use Rattle.pawn_pre.specs.Sound.{IsSoundStack}
+use Rattle.pawn_pre.specs.Level.{Level}
 use Rattle.pawn_pre.proofs.BoundLaws.{told_leaves, row_sound, kept_page, acted_page}
 use Rattle.pawn_pre.proofs.RemainingLaws.{kept_line, acted_line, included}
 use Rattle.pawn_pre.proofs.walk.Walk.turn.Goals as goal
 
 pub returns-in-None-clause-bounds : goal.returns-in-None-clause-bounds
 returns-in-None-clause-bounds g c = λ k.
-    let old = row_sound _ c.take_row.new.self (ap (λ (t : OpenFile). t.file) c.take_row.ensures.rest) (subst IsSoundStack (sym c.self.view_is) k) in
+    let old = row_sound _ c.take_row.new.self (ap (λ (t : Level). t.file) c.take_row.ensures.rest) (subst IsSoundStack (sym c.self.view_is) k) in
     told_leaves (record c.args.self.now { names = _ }) _ _ _ _ c.told.ensures (kept_page _ c.keep-done.new.self _ _ _ old c.keep-done.ensures)
 
 pub returns-in-Include-clause-bounds : goal.returns-in-Include-clause-bounds
 returns-in-Include-clause-bounds g c = λ k.
     c.include.ensures.bounds
-    (row_sound _ c.take_row.new.self (ap (λ (t : OpenFile). t.file) c.take_row.ensures.rest) (subst IsSoundStack (sym c.self.view_is) k))
+    (row_sound _ c.take_row.new.self (ap (λ (t : Level). t.file) c.take_row.ensures.rest) (subst IsSoundStack (sym c.self.view_is) k))
 
 pub returns-in-TryInclude-clause-bounds : goal.returns-in-TryInclude-clause-bounds
 returns-in-TryInclude-clause-bounds g c = λ k.
     c.include-in-TryInclude.ensures.bounds
-    (row_sound _ c.take_row.new.self (ap (λ (t : OpenFile). t.file) c.take_row.ensures.rest) (subst IsSoundStack (sym c.self.view_is) k))
+    (row_sound _ c.take_row.new.self (ap (λ (t : Level). t.file) c.take_row.ensures.rest) (subst IsSoundStack (sym c.self.view_is) k))
 
 pub returns-clause-bounds : goal.returns-clause-bounds
 returns-clause-bounds g c = λ k.
-    let old = row_sound _ c.take_row.new.self (ap (λ (t : OpenFile). t.file) c.take_row.ensures.rest) (subst IsSoundStack (sym c.self.view_is) k) in
+    let old = row_sound _ c.take_row.new.self (ap (λ (t : Level). t.file) c.take_row.ensures.rest) (subst IsSoundStack (sym c.self.view_is) k) in
     told_leaves (record c.args.self.now { names = _ }) _ _ _ _ c.told-in-Define.ensures (acted_page _ c.act-done.new.self _ _ _ _ old c.act-done.ensures)
 
 pub returns-in-None-clause-falls : goal.returns-in-None-clause-falls

@@ -1,0 +1,12 @@
+pub mod ClassLaws
+pub mod DigitLaws
+pub mod ForCallers
+pub mod FormLaws
+pub mod LiteralLaws
+pub mod NumberLaws
+pub mod OneLaws
+pub mod PlainLaws
+pub mod SignLaws
+pub mod SizeLaws
+pub mod SortLaws
+pub mod TableLaws

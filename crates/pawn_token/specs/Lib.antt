@@ -1,0 +1,13 @@
+pub mod Class
+pub mod Determined
+pub mod Fault
+pub mod Forms
+pub mod Keys
+pub mod Kinds
+pub mod Literal
+pub mod Number
+pub mod Plain
+pub mod Readers
+pub mod Reading
+pub mod Signs
+pub mod Sizes
