@@ -1,0 +1,5 @@
+pub mod DispatchLaws
+pub mod Examples
+pub mod GrownLaws
+pub mod KnownLaws
+pub mod TwiceLaws

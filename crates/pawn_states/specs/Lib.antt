@@ -1,0 +1,4 @@
+pub mod Classified
+pub mod Classifier
+pub mod Dispatch
+pub mod Known
