@@ -1,0 +1,14 @@
+pub mod Steps
+pub mod Base
+pub mod ListLaws
+pub mod Sound
+pub mod Moves
+pub mod Complete
+pub mod SoundVariables
+pub mod SoundStatements
+pub mod SoundDeclarations
+pub mod CompleteVariables
+pub mod CompleteStatements
+pub mod CompleteDeclarations
+pub mod Height
+pub mod Trees

@@ -1,0 +1,33 @@
+-- The parser gives exactly the tree of 1,024 levels at most that spells the tokens, and there is at
+-- most one tree that does, of any height.
+use Rattle.std.proofs.Common.{◌≡◌, ◌+◌, ◌≤◌, List, Some, None, sym, ◌∙◌, ap, subst, arith}
+use Rattle.pawn_lex.specs.declared.token.Token.{Token}
+use Rattle.pawn_tree.specs.Declarations.{Tree}
+use Rattle.pawn_tree.specs.Height.{depth}
+use Rattle.pawn_grammar.specs.Spells.{Spells}
+use Rattle.pawn_grammar.specs.Readers.{Got}
+use Rattle.pawn_grammar.specs.ReadDeclarations.{unit}
+use Rattle.pawn_grammar.proofs.Steps.{none_some, some_inj}
+use Rattle.pawn_grammar.proofs.SoundDeclarations.{unit_sound}
+use Rattle.pawn_grammar.proofs.CompleteDeclarations.{unit_complete}
+use Rattle.pawn_grammar.proofs.Height.{spells_height}
+
+pub unit_spells : (ts : List Token) (y : Got Tree) → unit ts ≡ Some y → Spells ts y.tree
+unit_spells ts y e = let r = unit_sound ts y e in record { height = y.height; decls = r.spells }
+
+pub unit_low : (ts : List Token) (y : Got Tree) → unit ts ≡ Some y → depth y.tree ≤ 1024
+unfolding unit_spells
+unit_low ts y e = let r = unit_sound ts y e in let low = r.low in let is = spells_height (unit_spells ts y e) in subst (λ n. n ≤ 1024) is low
+
+pub unit_is : (ts : List Token) (tree : Tree) → Spells ts tree → depth tree ≤ 1024 → (y : Got Tree) → unit ts ≡ Some y → y.tree ≡ tree
+unit_is ts tree spells low y e =
+    let l = subst (λ n. n ≤ 1024) (sym (spells_height spells)) low in ap (λ z. z.tree) (some_inj _ _ (sym e ∙ unit_complete ts 1023 tree spells l))
+
+pub unit_none : (ts : List Token) (tree : Tree) → Spells ts tree → depth tree ≤ 1024 → unit ts ≡ None → ⊥
+unit_none ts tree spells low e =
+    let l = subst (λ n. n ≤ 1024) (sym (spells_height spells)) low in none_some (sym e ∙ unit_complete ts 1023 tree spells l)
+
+pub one_tree : (ts : List Token) (tree other : Tree) → Spells ts tree → Spells ts other → tree ≡ other
+one_tree ts tree other u v =
+    let n = u.height + v.height in
+    ap (λ z. z.tree) (some_inj _ _ (sym (unit_complete ts n tree u (omega arith)) ∙ unit_complete ts n other v (omega arith)))

@@ -1,0 +1,15 @@
+pub mod Tokens
+pub mod Levels
+pub mod Ends
+pub mod Lists
+pub mod Expressions
+pub mod Variables
+pub mod Statements
+pub mod Declarations
+pub mod Brackets
+pub mod Spells
+pub mod Readers
+pub mod ReadExpressions
+pub mod ReadVariables
+pub mod ReadStatements
+pub mod ReadDeclarations
