@@ -1,2 +1,5 @@
+pub mod CallExamples
+pub mod CharacterLaws
 pub mod PlainLaws
+pub mod ScriptExamples
 pub mod TextLaws

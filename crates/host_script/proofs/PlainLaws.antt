@@ -1,5 +1,8 @@
 -- A call under the plain script: each argument is seen as a cell, the answer is 0, and nothing is written.
-use Rattle.std.proofs.Common.{◌≡◌, ℕ, zero, suc, ℤ, pos, List, [], ◌∷◌, Some, None, refl, ap, ◌∙◌, length, map, replicate}
+use Rattle.std.proofs.Common.{◌≡◌, ℕ, zero, suc, ℤ, pos, List, [], ◌∷◌, Some, None, refl, ap, ◌∙◌, length, map, replicate, arith}
+use Rattle.std.specs.Prelude.{All}
+use Rattle.std.specs.List.{IsDistinct}
+use Rattle.host_script.specs.Ranges.{IsNative, IsAnswer, IsScript}
 use Rattle.host_script.specs.declared.script.Form.{Form}
 use Rattle.host_script.specs.declared.script.Form.TheVariants as form
 use Rattle.host_script.specs.declared.script.Answer.TheVariants.{Given}
@@ -28,5 +31,14 @@ module _ {A P : Type 0} (see : A → Form → Sight (Sought P)) (value : A → �
   pub plain_call : (name : List ℕ) (arguments : List A) (position : ℕ)
       → native_call plain see name arguments position ≡ Answers (event.Native name (map (λ a. Cell (value a)) arguments) (pos 0)) (pos 0) position []
   plain_call name arguments position =
-      ap (λ forms. called_on see name arguments (record { answer = Given (pos 0) []; position = position }) forms) (forms_are_cells name (length arguments))
+      ap (λ forms. called_on see name arguments position (record { answer = Given (pos 0) []; position = position }) forms) (forms_are_cells name (length arguments))
       ∙ rw (all_seen arguments, seen_of arguments) refl
+
+-- ---- it keeps its form
+
+none : {A : Type 0} (P : A → Type 0) → All P []
+none P k d h = absurd (omega (arith, h))
+
+pub plain_is_script : IsScript plain
+unfolding IsDistinct
+plain_is_script = record { natives = none IsNative; once = tt; answers = none IsAnswer; count = omega arith }

@@ -7,7 +7,7 @@ use Rattle.std.proofs.lemmas.List.{take-append-drop, take_more}
 use Rattle.std.proofs.lemmas.List.Concat.{flat_map-append}
 use Rattle.std.proofs.lemmas.List.Folds.{flat_map-map}
 use Rattle.host_script.specs.declared.event.Seen.TheVariants.{Cell}
-use Rattle.host_script.specs.Text.{seen_text, arguments_text}
+use Rattle.host_script.specs.Text.{seen_text, arguments_text, values_text}
 
 -- a cell after one blank
 abbrev pub cell_text : ℤ → List ℕ
@@ -46,3 +46,8 @@ native_line name arguments answer =
     append_assoc (codes "native " ++ (name ++ [])) arguments answer
     ∙ ap (λ head. (codes "native " ++ head) ++ (arguments ++ answer)) (append-nil name)
     ∙ append_assoc (codes "native ") name (arguments ++ answer)
+
+-- values parted by blanks: each but the first after one
+pub values_text-cons : (value : ℤ) (values : List ℤ) → values_text (value ∷ values) ≡ signed_decimal value ++ cells_text values
+values_text-cons value [] = sym (append-nil (signed_decimal value))
+values_text-cons value (next ∷ values) = ap (λ text. signed_decimal value ++ (codes " " ++ text)) (values_text-cons next values)

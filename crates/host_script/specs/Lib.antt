@@ -2,3 +2,4 @@ pub mod NativeCall
 pub mod Ranges
 pub mod Script
 pub mod Text
+pub mod Characters

@@ -1,6 +1,8 @@
 -- One call of a native, for the meaning of a source and for the machine alike. A side brings how it
 -- sees an argument of a form and where a place lies; all else is here, in this order: the number of
 -- arguments, all of them seen, the answer, its error, its writes tested, the writes and the event.
+-- An answer is taken once all arguments were seen, also where it ends the run: then the script's
+-- position is the one behind that answer.
 use Rattle.std.specs.Prelude.{ℕ, ℤ, pos, List, [], ◌∷◌, Option, None, Some, length, map, slice_get, nat_le, if◌then◌else◌}
 use Rattle.host_script.specs.declared.script.Script.{Script}
 use Rattle.host_script.specs.declared.script.Form.{Form}
@@ -37,15 +39,17 @@ pub record Put (P : Type 0) : Type 0 where
   pub to : P
   pub values : List ℤ
 
--- a call ends the run, or gives an event, a result, the script's new position, and what it writes
+-- a call ends the run, with the script's position behind it, or gives an event, a result, that
+-- position, and what it writes
 pub data Called (P : Type 0) : Type 0 where
-  Ends_there : Trap → Called P
+  Ends_there : Trap → ℕ → Called P
   Answers : Event → ℤ → ℕ → List (Put P) → Called P
 
 -- error 10: the native
 abbrev pub native_error : Trap
 native_error = Fault (pos 10)
 
+-- an argument that was seen goes on to what follows
 abbrev pub with_sight : {A B : Type 0} → Sight A → (A → Sight B) → Sight B
 with_sight (Sees a) go = go a
 with_sight (Blind trap) go = Blind trap
@@ -61,10 +65,12 @@ abbrev pub put_into : {P : Type 0} → Option (Hold P) → List ℤ → Option (
 put_into None values = None
 put_into (Some hold) values = if nat_le (length values) hold.cells then Some (record { to = hold.at; values = values }) else None
 
+-- of an argument by its number, which may not be there
 abbrev pub put_for : {P : Type 0} → Option (Sought P) → List ℤ → Option (Put P)
 put_for None values = None
 put_for (Some sought) values = put_into sought.hold values
 
+-- one write before others, all of them allowed
 abbrev pub with_put : {P : Type 0} → Option (Put P) → Option (List (Put P)) → Option (List (Put P))
 with_put None others = None
 with_put (Some put) None = None
@@ -75,23 +81,33 @@ abbrev pub puts_of : {P : Type 0} → List (Sought P) → List Write → Option 
 puts_of arguments [] = Some []
 puts_of arguments (write ∷ writes) = with_put (put_for (slice_get arguments write.arg) write.cells) (puts_of arguments writes)
 
+-- a write that isn't allowed ends the run, and its answer is taken all the same
 abbrev pub answered : {P : Type 0} → List ℕ → List (Sought P) → ℤ → ℕ → Option (List (Put P)) → Called P
-answered name arguments result position None = Ends_there native_error
+answered name arguments result position None = Ends_there native_error position
 answered name arguments result position (Some puts) = Answers (event.Native name (map (λ sought. sought.seen) arguments) result) result position puts
 
+-- what an answer does; one that is an error is taken too
 abbrev pub called_by : {P : Type 0} → List ℕ → List (Sought P) → Answer → ℕ → Called P
 called_by name arguments (Given result writes) position = answered name arguments result position (puts_of arguments writes)
-called_by name arguments (Error code) position = Ends_there (Fault code)
+called_by name arguments (Error code) position = Ends_there (Fault code) position
 
-abbrev pub called_with : {P : Type 0} → List ℕ → Turn → Sight (List (Sought P)) → Called P
-called_with name turn (Sees arguments) = called_by name arguments turn.answer turn.position
-called_with name turn (Blind trap) = Ends_there trap
+-- with an argument that can't be seen no answer is taken
+abbrev pub called_with : {P : Type 0} → List ℕ → ℕ → Turn → Sight (List (Sought P)) → Called P
+called_with name position turn (Sees arguments) = called_by name arguments turn.answer turn.position
+called_with name position turn (Blind trap) = Ends_there trap position
 
-abbrev pub called_on : {A P : Type 0} → (A → Form → Sight (Sought P)) → List ℕ → List A → Turn → Option (List Form) → Called P
-called_on see name arguments turn None = Ends_there native_error
-called_on see name arguments turn (Some forms) = called_with name turn (see_all see arguments forms)
+-- with a number of arguments that the native doesn't take no answer is taken
+abbrev pub called_on : {A P : Type 0} → (A → Form → Sight (Sought P)) → List ℕ → List A → ℕ → Turn → Option (List Form) → Called P
+called_on see name arguments position turn None = Ends_there native_error position
+called_on see name arguments position turn (Some forms) = called_with name position turn (see_all see arguments forms)
 
+-- the call of a native by its name at a position of the script
 abbrev pub native_call : {A P : Type 0} → Script → (A → Form → Sight (Sought P)) → List ℕ → List A → ℕ → Called P
 native_call script see name arguments position =
     let native = native_of script name in
-    called_on see name arguments (turn_of script native position) (forms_of native (length arguments))
+    called_on see name arguments position (turn_of script native position) (forms_of native (length arguments))
+
+-- the script's position behind a call
+abbrev pub position_after : {P : Type 0} → Called P → ℕ
+position_after (Ends_there trap position) = position
+position_after (Answers event result position puts) = position

@@ -1,8 +1,9 @@
--- Scripts that keep their form: each number, length and count in its range.
-use Rattle.std.specs.Prelude.{◌≢◌, ◌<◌, ◌≤◌, ◌^◌, ◌≤ℤ◌, pos, FitsSigned, All, IfSome, length, map, nat_eq}
+-- Scripts that keep their form: each number, length and count in its range, each byte below 256.
+use Rattle.std.specs.Prelude.{ℕ, List, ◌≢◌, ◌<◌, ◌≤◌, ◌≤ℤ◌, pos, FitsSigned, All, IfSome, length, map, nat_eq}
 use Rattle.std.specs.Int.{w32}
 use Rattle.std.specs.List.{IsDistinct}
 use Rattle.std.specs.Cmp.Lexicographic.{pointwise}
+use Rattle.host_script.specs.declared.script.TheConstants.{NAME_LIMIT, FORM_LIMIT, CELL_LIMIT, ARGUMENT_LIMIT, ANSWER_LIMIT}
 use Rattle.host_script.specs.declared.script.Script.{Script}
 use Rattle.host_script.specs.declared.script.Native.{Native}
 use Rattle.host_script.specs.declared.script.Form.{Form}
@@ -15,17 +16,22 @@ abbrev pub IsForm : Form → Type 0
 IsForm Cell = Unit {0}
 IsForm Ref = Unit {0}
 IsForm Text = Unit {0}
-IsForm (Cells count) = (1 ≤ count) × (count ≤ 4096)
+IsForm (Cells count) = (1 ≤ count) × (count ≤ CELL_LIMIT)
+
+pub record IsName (name : List ℕ) : Type 0 where
+  pub some : 1 ≤ length name
+  pub few : length name ≤ NAME_LIMIT
+  pub bytes : All (λ byte. byte < 256) name
 
 pub record IsNative (native : Native) : Type 0 where
-  pub name : (1 ≤ length native.name) × (length native.name ≤ 31)
-  pub count : length native.forms ≤ 64
+  pub name : IsName native.name
+  pub count : length native.forms ≤ FORM_LIMIT
   pub forms : All IsForm native.forms
   pub rest : IfSome native.rest IsForm
   pub result : IfSome native.result (FitsSigned w32)
 
 pub record IsWrite (write : Write) : Type 0 where
-  pub arg : write.arg < 2 ^ 31
+  pub arg : write.arg ≤ ARGUMENT_LIMIT
   pub cells : All (FitsSigned w32) write.cells
 
 -- errors from 2 to 127 but the sleep
@@ -37,4 +43,4 @@ pub record IsScript (script : Script) : Type 0 where
   pub natives : All IsNative script.natives
   pub once : IsDistinct (pointwise nat_eq) (map (λ (native : Native). native.name) script.natives)
   pub answers : All IsAnswer script.answers
-  pub count : length script.answers ≤ 65536
+  pub count : length script.answers ≤ ANSWER_LIMIT

@@ -33,9 +33,12 @@ seen_text (Ref value) = codes "&" ++ signed_decimal value
 seen_text (Cells values) = codes "[" ++ (values_text values ++ codes "]")
 seen_text (Text characters) = codes "\"" ++ (flat_map character_text characters ++ codes "\"")
 
--- each argument after one blank
+-- an argument after one blank
+abbrev pub argument_text : Seen → List ℕ
+argument_text argument = codes " " ++ seen_text argument
+
 abbrev pub arguments_text : List Seen → List ℕ
-arguments_text seen = flat_map (λ argument. codes " " ++ seen_text argument) seen
+arguments_text seen = flat_map argument_text seen
 
 abbrev pub event_text : Event → List ℕ
 event_text (Native name seen result) =

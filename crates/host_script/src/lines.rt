@@ -19,8 +19,16 @@ pub fn say_native<S: Sink>(
         Said S.taken S.faults S.has_room out.old out.new line result }
 {
     say(out, &[b"native ", name])?;
-    say_cells(out, cells)?;
-    say_result(out, answer)
+    say_plain(out, cells)?;
+    say_answer(out, answer)
+}
+
+/// Writes the beginning of a native's line.
+pub fn say_name<S: Sink>(out: &mut S, name: &[u8]) -> Result<(), SinkFault>
+    ensures { let text = codes "native " ++ name.now in
+        Said S.taken S.faults S.has_room out.old out.new text result }
+{
+    say(out, &[b"native ", name])
 }
 
 /// Writes the line of a sleep.
@@ -67,7 +75,7 @@ pub fn say_end<S: Sink>(out: &mut S, end: End) -> Result<(), SinkFault>
 }
 
 /// Writes each cell after one blank.
-fn say_cells<S: Sink>(out: &mut S, cells: &[i32]) -> Result<(), SinkFault>
+pub(crate) fn say_plain<S: Sink>(out: &mut S, cells: &[i32]) -> Result<(), SinkFault>
     ensures { let text = arguments_text (map Seen.Cell cells.now) in
         Said S.taken S.faults S.has_room out.old out.new text result }
 {
@@ -79,7 +87,7 @@ fn say_cells<S: Sink>(out: &mut S, cells: &[i32]) -> Result<(), SinkFault>
 }
 
 /// Writes the end of a native's line.
-fn say_result<S: Sink>(out: &mut S, answer: i32) -> Result<(), SinkFault>
+pub fn say_answer<S: Sink>(out: &mut S, answer: i32) -> Result<(), SinkFault>
     ensures { let text = codes " -> " ++ (signed_decimal answer ++ codes "\n") in
         Said S.taken S.faults S.has_room out.old out.new text result }
 {

@@ -1,0 +1,93 @@
+-- A copy byte by byte, upwards and downwards.
+use Rattle.std.proofs.Common.{◌≡◌, ◌≢◌, ◌+◌, ◌-◌, ◌/◌, ◌%◌, ◌<◌, ◌≤◌, ◌⊎◌, inl, inr, ℕ, zero, suc, ℤ, pos, false, List, length, get_or, refl, sym, ap, ◌∙◌, arith, get_or-set_same, get_or-set_other, subst, w32, FitsSigned}
+use Rattle.std.specs.Prelude.{nat_le, slice_set}
+use Rattle.std.proofs.lemmas.Bool.{le-leb, lt-ltb}
+use Rattle.std.proofs.lemmas.Bool.Decides.{leb_tells}
+use Rattle.pawn_cells.specs.Cells.{char_at}
+use Rattle.amx_block.specs.Contents.{cell_at, with_cell, byte_at}
+use Rattle.amx_block.specs.Copied.{copied_byte}
+
+same_or_not : (a b : ℕ) → (a ≡ b) ⊎ (a ≢ b)
+same_or_not zero zero = inl refl
+same_or_not zero (suc b) = inr (λ e. omega (arith, e))
+same_or_not (suc a) zero = inr (λ e. omega (arith, e))
+same_or_not (suc a) (suc b) = elim (same_or_not a b) [ inl e ↦ inl (ap suc e) | inr n ↦ inr (λ e. n (omega (arith, e))) ]
+
+-- the other bytes, where one cell is written
+pub other_bytes : (cells new : List ℤ) (at k : ℕ) (v : ℤ) → new ≡ with_cell cells at v → at / 4 < length cells
+    → ((j : ℕ) → j < 4 → j ≢ 3 - at % 4 → char_at v j ≡ char_at (cell_at cells at) j) → k ≢ at → byte_at new k ≡ byte_at cells k
+other_bytes cells new at k v e h same ne =
+    ap (λ cs. byte_at cs k) e ∙
+    elim (same_or_not (at / 4) (k / 4)) [
+      | inl s ↦
+          ap (λ i. char_at (get_or (slice_set cells (at / 4) v) i (pos 0)) (3 - k % 4)) (sym s)
+          ∙ ap (λ c. char_at c (3 - k % 4)) (get_or-set_same cells (at / 4) v (pos 0) h)
+          ∙ same (3 - k % 4) (omega arith) (λ q. ne (omega (arith, q, s)))
+          ∙ ap (λ i. char_at (get_or cells i (pos 0)) (3 - k % 4)) s
+      | inr n ↦ ap (λ c. char_at c (3 - k % 4)) (get_or-set_other cells (at / 4) (k / 4) v (pos 0) (λ e. n (sym e)))
+    ]
+
+-- ---- whole cells
+
+pub others_after : (now new : List ℤ) (at i : ℕ) (v : ℤ) → new ≡ with_cell now at v → at / 4 ≢ i → get_or new i (pos 0) ≡ get_or now i (pos 0)
+others_after now new at i v e ne = ap (λ cs. get_or cs i (pos 0)) e ∙ get_or-set_other now (at / 4) i v (pos 0) (λ same. ne (sym same))
+
+pub fits_after : (now new : List ℤ) (at k : ℕ) (v : ℤ) → new ≡ with_cell now at v → FitsSigned w32 (cell_at new at) → (k ≢ at → FitsSigned w32 (cell_at now k)) → FitsSigned w32 (cell_at new k)
+fits_after now new at k v e fits before = elim (same_or_not (at / 4) (k / 4)) [
+  | inl same ↦ subst (λ i. FitsSigned w32 (get_or new i (pos 0))) same fits
+  | inr ne ↦ subst (FitsSigned w32) (sym (others_after now new at (k / 4) v e ne)) (before (λ is. ne (sym (ap (λ n. n / 4) is))))
+]
+
+no : (a b : ℕ) → b < a → nat_le a b ≡ false
+no a b h = elim (leb_tells a b) [ inl t ↦ absurd (omega (arith, t.1, h)) | inr t ↦ t.0 ]
+
+module _ (old : List ℤ) (from to : ℕ) where
+  inside : (low high k : ℕ) → to + low ≤ k → k < to + high → copied_byte old from to low high k ≡ byte_at old (from + (k - to))
+  inside low high k h l = rw (le-leb (to + low) k h, lt-ltb k (to + high) l) refl
+
+  under : (low high k : ℕ) → k < to + low → copied_byte old from to low high k ≡ byte_at old k
+  under low high k h = rw (no (to + low) k h) refl
+
+  over : (low high k : ℕ) → to + low ≤ k → to + high ≤ k → copied_byte old from to low high k ≡ byte_at old k
+  over low high k h l = rw (le-leb (to + low) k h, no (suc k) (to + high) (omega (arith, l))) refl
+
+  -- a range that grew by one byte, which is not k
+  grown : (low high low' high' k : ℕ) → low' ≤ low → high ≤ high' → (k < to + low → k < to + low') → (to + high ≤ k → to + high' ≤ k)
+      → copied_byte old from to low high k ≡ copied_byte old from to low' high' k
+  grown low high low' high' k a b c d =
+      elim (leb_tells (to + low) k) [
+        | inl h ↦ elim (leb_tells (to + high) k) [
+          | inl l ↦ over low high k h.1 l.1 ∙ sym (over low' high' k (omega (arith, a, h.1)) (d l.1))
+          | inr l ↦ inside low high k h.1 l.1 ∙ sym (inside low' high' k (omega (arith, a, h.1)) (omega (arith, b, l.1)))
+        ]
+        | inr h ↦ under low high k h.1 ∙ sym (under low' high' k (c h.1))
+      ]
+
+  module _ (now new : List ℤ) (b : ℕ) where
+    pub up : (i : ℕ) → to ≤ from → ((k : ℕ) → byte_at now k ≡ copied_byte old from to 0 i k) → b ≡ byte_at now (from + i) → byte_at new (to + i) ≡ b
+        → ((k : ℕ) → k ≢ to + i → byte_at new k ≡ byte_at now k) → (k : ℕ) → byte_at new k ≡ copied_byte old from to 0 (i + 1) k
+    up i h so_far read same others k = elim (same_or_not k (to + i)) [
+      | inl e ↦ ap (byte_at new) e ∙ same ∙ read ∙ so_far (from + i) ∙ over 0 i (from + i) (omega (arith, h)) (omega (arith, h))
+          ∙ ap (byte_at old) (omega (arith, e)) ∙ sym (inside 0 (i + 1) k (omega (arith, e)) (omega (arith, e)))
+      | inr ne ↦ others k ne ∙ so_far k ∙ grown 0 i 0 (i + 1) k (omega arith) (omega arith) (λ l. l) (λ l. above i k l ne)
+    ] where
+      above : (i k : ℕ) → to + i ≤ k → k ≢ to + i → to + (i + 1) ≤ k
+      above i k l ne = elim (leb_tells (to + (i + 1)) k) [ inl t ↦ t.1 | inr t ↦ absurd (ne (omega (arith, t.1, l))) ]
+
+    pub down : (j n : ℕ) → from ≤ to → j < n → ((k : ℕ) → byte_at now k ≡ copied_byte old from to (j + 1) n k) → b ≡ byte_at now (from + j) → byte_at new (to + j) ≡ b
+        → ((k : ℕ) → k ≢ to + j → byte_at new k ≡ byte_at now k) → (k : ℕ) → byte_at new k ≡ copied_byte old from to j n k
+    down j n h less so_far read same others k = elim (same_or_not k (to + j)) [
+      | inl e ↦ ap (byte_at new) e ∙ same ∙ read ∙ so_far (from + j) ∙ under (j + 1) n (from + j) (omega (arith, h))
+          ∙ ap (byte_at old) (omega (arith, e)) ∙ sym (inside j n k (omega (arith, e)) (omega (arith, e, less)))
+      | inr ne ↦ others k ne ∙ so_far k ∙ grown (j + 1) n j n k (omega arith) (omega arith) (λ l. below j k l ne) (λ l. l)
+    ] where
+      below : (j k : ℕ) → k < to + (j + 1) → k ≢ to + j → k < to + j
+      below j k l ne = elim (leb_tells (to + j) k) [ inl t ↦ absurd (ne (omega (arith, t.1, l))) | inr t ↦ t.1 ]
+
+    pub down_loop : (i n : ℕ) → from ≤ to → i < n → ((k : ℕ) → byte_at now k ≡ copied_byte old from to (n - i) n k) → b ≡ byte_at now (from + (n - 1 - i)) → byte_at new (to + (n - 1 - i)) ≡ b
+        → ((k : ℕ) → k ≢ to + (n - 1 - i) → byte_at new k ≡ byte_at now k) → (k : ℕ) → byte_at new k ≡ copied_byte old from to (n - (i + 1)) n k
+    down_loop i n h less so_far read same others k =
+        let first : n - i ≡ n - 1 - i + 1 = omega (arith, less) in
+        let next : n - (i + 1) ≡ n - 1 - i = omega (arith, less) in
+        down (n - 1 - i) n h (omega (arith, less)) (λ k. so_far k ∙ ap (λ low. copied_byte old from to low n k) first) read same others k
+        ∙ ap (λ low. copied_byte old from to low n k) (sym next)

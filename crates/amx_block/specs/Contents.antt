@@ -1,0 +1,43 @@
+-- What contracts see of a block, in cells of four bytes: the code, and the memory that begins with the
+-- data. An address counts bytes from the first cell of the one or of the other.
+use Rattle.std.specs.Prelude.{◌++◌, ◌+◌, ◌/◌, ◌%◌, ◌-◌, ◌≤◌, ℕ, ℤ, pos, List, length, take, drop, replicate, slice_set}
+use Rattle.std.specs.List.{slice_index_or}
+use Rattle.pawn_cells.specs.Cells.{char_at, with_char}
+
+pub record Contents : Type 0 where
+  pub code : List ℤ
+  -- data, heap and stack
+  pub memory : List ℤ
+  -- how many of its cells are the data
+  pub store : ℕ
+
+-- the cell that an address lies in
+abbrev pub cell_at : List ℤ → ℕ → ℤ
+cell_at cells at = slice_index_or cells (at / 4) (pos 0)
+
+abbrev pub with_cell : List ℤ → ℕ → ℤ → List ℤ
+with_cell cells at value = slice_set cells (at / 4) value
+
+-- the byte at an address: the least one of a cell comes first
+abbrev pub byte_at : List ℤ → ℕ → ℕ
+byte_at cells at = char_at (cell_at cells at) (3 - at % 4)
+
+abbrev pub with_byte : List ℤ → ℕ → ℕ → List ℤ
+with_byte cells at byte = with_cell cells at (with_char (cell_at cells at) (3 - at % 4) byte)
+
+-- count cells from an address on
+abbrev pub part_at : List ℤ → (at count : ℕ) → List ℤ
+part_at cells at count = take count (drop (at / 4) cells)
+
+-- the same cells, others in the place of count of them
+abbrev pub with_part : List ℤ → (at count : ℕ) → List ℤ → List ℤ
+with_part cells at count part = take (at / 4) cells ++ (part ++ drop (at / 4 + count) cells)
+
+-- what a block holds that was just made
+abbrev pub zeros : (code store room : ℕ) → Contents
+zeros code store room = record { code = replicate code (pos 0); memory = replicate (store + room) (pos 0); store = store }
+
+-- what is always so of a block's cells: code and data are among them, and each address fits
+pub record AreWithin (code store : ℕ) (cells : List ℤ) : Type 0 where
+  pub within : code + store ≤ length cells
+  pub small : length cells ≤ 33554432
