@@ -1,13 +1,14 @@
 -- Places by multiplication, the vector as it grows, and that a layout is the only one.
-use Rattle.std.proofs.Common.{◌≡◌, ◌<◌, ◌≤◌, ◌+◌, ◌*◌, ℕ, zero, suc, ℤ, pos, ◌+ℤ◌, List, [], ◌∷◌, ◌++◌, length, get_or, Option, Some, None, IsSome, IsNone, unwrap_or, refl, sym, ap, subst, ◌∙◌, ◌⊎◌, inl, inr, arith, length-append, append-nil, mul-le-mul_right}
+use Rattle.std.proofs.Common.{◌≡◌, ◌<◌, ◌≤◌, ◌+◌, ◌-◌, ◌*◌, ◌^◌, ℕ, zero, suc, ℤ, pos, ◌+ℤ◌, List, [], ◌∷◌, ◌++◌, length, get_or, Option, Some, None, IsNone, refl, sym, ap, subst, ◌∙◌, ◌⊎◌, inl, inr, arith, to_z, w32, length-append, append_assoc, append-nil, mul-le-mul_right}
 use Rattle.std.proofs.lemmas.Int.{ints}
 use Rattle.std.proofs.lemmas.List.{ext_get_or}
 use Rattle.std.proofs.lemmas.Option.{slice_get-get_or, slice_get_within, get_or_from_slice_get}
 use Rattle.std.proofs.Math.ListN.{get_or-append}
 use Rattle.std.proofs.Math.Seq.{get_or-append_seam}
-use Rattle.std.specs.Option.{option_to_list}
-use Rattle.pawn_arrays.specs.Sizes.{cells_in}
-use Rattle.pawn_arrays.specs.Layout.{part_place, LeadsToParts, AreOffsets}
+use Rattle.pawn_arrays.specs.Sizes.{cells_in, inner_sizes, sizes}
+use Rattle.pawn_arrays.specs.Layout.{part_place, LeadsToParts, AreOffsets, IsLayout, part_cells, inner_cells, inner_place}
+use Rattle.pawn_arrays.specs.declared.shape.Shape.{Shape}
+use Rattle.pawn_arrays.specs.Vector.{HasVector}
 
 -- behind the first place stand as many parts as the number says
 pub part_place-is : (start size i : ℕ) → part_place start size i ≡ start + 4 * (i * size)
@@ -44,16 +45,47 @@ leads_more cells size offsets offset n counted so_far new = record {
       ];
 }
 
--- offsets that lead to the parts, one for each cell of the vector
-pub all_lead : (cells size : ℕ) (offsets : List ℤ) → length offsets ≡ cells → LeadsSoFar cells size offsets → LeadsToParts 0 size offsets
-all_lead cells size offsets counted so_far = record {
+-- offsets that lead to the parts, one for each cell of the vector, wherever it stands
+pub all_lead : (start cells size : ℕ) (offsets : List ℤ) → length offsets ≡ cells → LeadsSoFar cells size offsets → LeadsToParts start size offsets
+all_lead start cells size offsets counted so_far = record {
   leads = λ i offset here.
       let within = slice_get_within offsets i offset here in
       let e = get_or_from_slice_get offsets i offset (pos 0) here in
       let f = so_far.leads i within in
-      let own : 0 + 4 * i ≡ 4 * i = omega arith in
-      let behind : 4 * cells ≡ 0 + 4 * length offsets = omega (arith, counted) in
-      ap (λ n. pos n +ℤ offset) own ∙ ap (λ z. pos (4 * i) +ℤ z) (sym e) ∙ f ∙ ap (λ n. pos (part_place n size i)) behind;
+      let g : pos (4 * i) +ℤ offset ≡ pos (part_place (4 * cells) size i) = ap (λ z. pos (4 * i) +ℤ z) (sym e) ∙ f in
+      let near = part_place-is (4 * cells) size i in
+      let far = part_place-is (start + 4 * length offsets) size i in
+      let on : part_place (start + 4 * length offsets) size i ≡ start + part_place (4 * cells) size i = omega (arith, near, far, counted) in
+      omega (arith, ints, g, on);
+}
+
+-- a list of offsets with a vector as it grows
+pub record HasSoFar (count size : ℕ) (before : List ℤ) (n : ℕ) (now : List ℤ) : Type 0 where
+  pub vector : List ℤ
+  pub offsets : now ≡ before ++ vector
+  pub counted : length vector ≡ n
+  pub leads : LeadsSoFar count size vector
+
+pub has_none : (count size : ℕ) (before : List ℤ) → HasSoFar count size before 0 before
+has_none count size before = record { vector = []; offsets = sym (append-nil before); counted = refl; leads = leads_none count size }
+
+pub has_more : (count size : ℕ) (before : List ℤ) (n : ℕ) (now : List ℤ) (offset : ℤ) → HasSoFar count size before n now
+    → pos (4 * n) +ℤ offset ≡ pos (part_place (4 * count) size n) → HasSoFar count size before (n + 1) (now ++ offset ∷ [])
+has_more count size before n now offset has new =
+    let longer = length-append has.vector (offset ∷ []) in
+    record {
+      vector = has.vector ++ offset ∷ [];
+      offsets = ap (λ offsets. offsets ++ offset ∷ []) has.offsets ∙ append_assoc before has.vector (offset ∷ []);
+      counted = omega (arith, longer, has.counted);
+      leads = leads_more count size has.vector offset n has.counted has.leads new;
+    }
+
+pub has_all : (count size : ℕ) (before : List ℤ) (n : ℕ) (now : List ℤ) → n ≡ count → HasSoFar count size before n now → HasVector count size before now
+has_all count size before n now all has = record {
+  vector = has.vector;
+  offsets = has.offsets;
+  counted = has.counted ∙ all;
+  leads = λ start. all_lead start count size has.vector (has.counted ∙ all) has.leads;
 }
 
 -- the offset at a place of a vector, from where its part begins
@@ -80,28 +112,83 @@ offsets_one start parts (size ∷ next ∷ inner) a b (v, d, a_is, v_len, v_lead
     let rests = offsets_one (start + 4 * (parts * size)) (parts * size) (next ∷ inner) d e d_are e_are in
     a_is ∙ ap (λ vector. vector ++ d) vectors ∙ ap (λ deeper. w ++ deeper) rests ∙ sym b_is
 
--- a vector for each row is a layout of two dimensions
-pub rows_laid : (first : ℕ) (second : Option ℕ) (offsets : List ℤ) → IsSome second → length offsets ≡ first
-    → LeadsSoFar first (unwrap_or second 0) offsets → AreOffsets 0 1 (first ∷ option_to_list second) offsets
-rows_laid first None offsets two counted leads = absurd (cc)
-rows_laid first (Some size) offsets two counted leads =
-    let one : length offsets ≡ 1 * first = omega (arith, counted) in
-    (offsets, [], sym (append-nil offsets), one, all_lead first size offsets counted leads, refl)
+-- no vector is the layout of one dimension, or of a shape without a second size
+pub line_laid : (first : ℕ) (second third : Option ℕ) → IsNone second → AreOffsets 0 1 (first ∷ inner_sizes second third) []
+line_laid first None third one = refl
+line_laid first (Some size) third one = absurd (cc)
 
--- no vector is the layout of one dimension
-pub line_laid : (first : ℕ) (second : Option ℕ) → IsNone second → AreOffsets 0 1 (first ∷ option_to_list second) []
-line_laid first None one = refl
-line_laid first (Some size) one = absurd (cc)
+-- one vector is the layout of two dimensions
+pub rows_laid : (first second : ℕ) (offsets : List ℤ) → HasVector first second [] offsets → AreOffsets 0 1 (first ∷ second ∷ []) offsets
+rows_laid first second offsets rows =
+    let one : length rows.vector ≡ 1 * first = omega (arith, rows.counted) in
+    (rows.vector, [], rows.offsets ∙ sym (append-nil rows.vector), one, rows.leads 0, refl)
 
--- two dimensions: the cells of the vector and of the rows
-pub rows_count : (first : ℕ) (second : Option ℕ) → IsSome second → cells_in 1 (first ∷ option_to_list second) ≡ first + first * unwrap_or second 0
-rows_count first None two = absurd (cc)
-rows_count first (Some size) two = omega arith
+-- and two of three
+pub blocks_laid : (first second third : ℕ) (vector offsets : List ℤ) → HasVector first second [] vector → HasVector (first * second) third vector offsets
+    → AreOffsets 0 1 (first ∷ second ∷ third ∷ []) offsets
+blocks_laid first second third vector offsets parts rows =
+    let one : length parts.vector ≡ 1 * first = omega (arith, parts.counted) in
+    let two : length rows.vector ≡ (1 * first) * second = rows.counted ∙ ap (λ n. n * second) (omega arith) in (
+      parts.vector,
+      rows.vector,
+      rows.offsets ∙ ap (λ v. v ++ rows.vector) parts.offsets,
+      one,
+      parts.leads 0,
+      (rows.vector, [], sym (append-nil rows.vector), two, rows.leads (0 + 4 * (1 * first)), refl),
+    )
 
--- a row stands behind the vector and within the array
-pub row_within : (first size i : ℕ) → i < first → (4 * i ≤ part_place (4 * first) size i) × (part_place (4 * first) size i ≤ 4 * (first + first * size))
-row_within first size i h =
-    let place = part_place-is (4 * first) size i in
-    let below : i ≤ first = omega (arith, h) in
-    let inside = mul-le-mul_right size below in
-    (omega (arith, place, h), omega (arith, place, inside))
+-- the cells by the sizes
+pub rows_count : (first : ℕ) (second : ℕ) → cells_in 1 (first ∷ second ∷ []) ≡ first + first * second
+rows_count first second = omega arith
+
+pub blocks_count : (first second third : ℕ) → cells_in 1 (first ∷ second ∷ third ∷ []) ≡ first + first * second + first * second * third
+blocks_count first second third =
+    let one : 1 * first * second ≡ first * second = ap (λ n. n * second) (omega arith) in
+    let two : 1 * first * second * third ≡ first * second * third = ap (λ n. n * third) one in
+    omega (arith, one, two)
+
+-- the vector and the rows of a shape with a second size lie within its cells
+pub parts_within : (first second : ℕ) (third : Option ℕ) → first + first * second ≤ cells_in 1 (first ∷ inner_sizes (Some second) third)
+parts_within first second None = omega (arith, rows_count first second)
+parts_within first second (Some third) = omega (arith, blocks_count first second third)
+
+-- an index into a level of parts
+pub part_below : (first size i : ℕ) → i < first → i * size + size ≤ first * size
+part_below first size i h =
+    let above : i + 1 ≤ first = omega (arith, h) in
+    let product = mul-le-mul_right size above in
+    omega (arith, product)
+
+-- an offset of a vector of so many parts
+pub offset_leads : (count size i : ℕ) → i < count → count + count * size ≤ 1048576
+    → (4 * (count - i + i * size) < 2 ^ 31) × (4 * i + 4 * (count - i + i * size) ≡ part_place (4 * count) size i)
+offset_leads count size i h limited =
+    let place = part_place-is (4 * count) size i in
+    let inside = part_below count size i h in
+    (omega (arith, inside, limited, h), omega (arith, place, h))
+
+-- the place by multiplication, from the sizes that are there
+pub inner_place_is : (shape : Shape) (second third i j : ℕ) → part_cells shape ≡ second → inner_cells shape ≡ third
+    → 4 * (shape.first + shape.first * second + (i * second + j) * third) ≡ inner_place shape i j
+inner_place_is shape second third i j two three =
+    rw (two, three) (let place = part_place-is (4 * (shape.first + shape.first * second)) third (i * second + j) in omega (arith, place))
+
+-- an offset below the cells' bound is kept by the cell
+pub cell_of_offset : (i n : ℕ) (place : ℕ) → n < 2 ^ 31 → 4 * i + n ≡ place → pos (4 * i) +ℤ to_z w32 n ≡ pos place
+cell_of_offset i n place small e =
+    omega (arith, ints, small, e)
+
+-- the layouts of shapes with a second size, and with a third
+pub rows_shape : (shape : Shape) (second : ℕ) (before offsets : List ℤ) → shape.second ≡ Some second → shape.third ≡ None → before ≡ []
+    → HasVector shape.first second before offsets → IsLayout shape offsets
+rows_shape shape second before offsets two three none has =
+    rw (two, three) (rows_laid shape.first second offsets (subst (λ b. HasVector shape.first second b offsets) none has))
+
+pub blocks_shape : (shape : Shape) (second third : ℕ) (before vector offsets : List ℤ) → shape.second ≡ Some second → shape.third ≡ Some third → before ≡ []
+    → HasVector shape.first second before vector → HasVector (shape.first * second) third vector offsets → IsLayout shape offsets
+blocks_shape shape second third before vector offsets two three none parts rows =
+    rw (two, three) (blocks_laid shape.first second third vector offsets (subst (λ b. HasVector shape.first second b vector) none parts) rows)
+
+-- a layout, where there is one, is the only one
+pub layout_one : (shape : Shape) (offsets : List ℤ) → IsLayout shape offsets → (given : List ℤ) → IsLayout shape given → given ≡ offsets
+layout_one shape offsets laid given other = offsets_one 0 1 (sizes shape) given offsets other laid

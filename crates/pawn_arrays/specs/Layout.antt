@@ -30,10 +30,21 @@ AreOffsets start parts (size ∷ next ∷ inner) offsets =
 abbrev pub IsLayout : Shape → List ℤ → Type 0
 IsLayout shape offsets = AreOffsets 0 1 (sizes shape) offsets
 
--- the cells of each row
-abbrev pub row_cells : Shape → ℕ
-row_cells shape = unwrap_or shape.second 0
+-- the second size, of the parts that a first index leads to: rows, or vectors of offsets
+abbrev pub part_cells : Shape → ℕ
+part_cells shape = unwrap_or shape.second 0
 
--- the first cell of a row: the rows stand behind the vector, which has a cell for each
+-- the third size, of the rows of three dimensions
+abbrev pub inner_cells : Shape → ℕ
+inner_cells shape = unwrap_or shape.third 0
+
+-- the first cell of the part with a first index: the parts stand behind the vector, which has a cell
+-- for each
 abbrev pub row_place : Shape → ℕ → ℕ
-row_place shape i = part_place (4 * shape.first) (row_cells shape) i
+row_place shape i = part_place (4 * shape.first) (part_cells shape) i
+
+-- the first cell of a row of three dimensions: the rows stand behind all vectors, those of the first
+-- part before those of the second
+abbrev pub inner_place : Shape → ℕ → ℕ → ℕ
+inner_place shape i j =
+    part_place (4 * (shape.first + shape.first * part_cells shape)) (inner_cells shape) (i * part_cells shape + j)

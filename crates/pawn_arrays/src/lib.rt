@@ -1,5 +1,5 @@
-//! Array shapes: how many cells an array takes, and how an array of two dimensions stands in
-//! memory, as a vector of offsets with the rows behind it.
+//! Array shapes: how many cells an array takes, and how an array of two or three dimensions stands in
+//! memory, as vectors of offsets with the rows behind them.
 #![tactic(auto)]
 
 mod shape;
@@ -7,4 +7,4 @@ mod shape;
 mod tests;
 
 pub use pawn_base::{Cells, Memory};
-pub use shape::{Shape, cells, layout, row};
+pub use shape::{Shape, cells, inner_row, layout, row};

@@ -1,12 +1,14 @@
 -- What only grows in a run: the entries at their end, turns and peak.
-use Rattle.std.proofs.Common.{◌≡◌, ◌+◌, ◌≤◌, ℕ, List, [], ◌∷◌, ◌++◌, Option, None, Some, Bool, true, false, refl, sym, ap, ◌∙◌, append_assoc, append-nil, arith, nat_lt}
+use Rattle.std.proofs.Common.{◌≡◌, ◌+◌, ◌≤◌, ℕ, ℤ, List, [], ◌∷◌, ◌++◌, Option, None, Some, Bool, true, false, refl, sym, ap, ◌∙◌, append_assoc, append-nil, arith, nat_lt}
 use Rattle.host_script.specs.declared.event.End.{End}
 use Rattle.host_script.specs.declared.event.Event.{Event}
 use Rattle.host_script.specs.declared.script.Script.{Script}
-use Rattle.host_script.specs.NativeCall.{Called, Ends_there, Answers, Put, native_call}
+use Rattle.host_script.specs.NativeCall.{Called, Ends_there, Answers, native_call}
 use Rattle.pawn_meaning.specs.World.{Entry, World, said, entered, left}
-use Rattle.pawn_meaning.specs.Run.{Outcome, Gives, Stops, More, Run, then_do, ◌>>=◌, give, stop, or_stop, turn, ask, enter, leave}
-use Rattle.pawn_meaning.specs.Natives.{Held, Place, see, with_writes, after_call, call_native}
+use Rattle.pawn_meaning.specs.Run.{Outcome, Gives, Stops, More, Run, then_do, ◌>>=◌, give, stop, or_stop, turn, look, changed, change, say, enter, leave}
+use Rattle.pawn_meaning.specs.Memory.{Memory, Frame}
+use Rattle.pawn_meaning.specs.Natives.{Held, Spot, see, with_writes, finished, after_call, call_native}
+use Rattle.host_script.specs.declared.event.End.TheVariants as end
 use Rattle.pawn_meaning.specs.Extends.{Rises}
 
 -- one world lies on the way to another
@@ -74,11 +76,18 @@ pub or_stop_grows : {A : Type 0} (o : Option A) (end : End) → Grows (or_stop o
 or_stop_grows None end = stop_grows end
 or_stop_grows (Some a) end = give_grows a
 
-pub ask_grows : {A : Type 0} (f : World → A) → Grows (ask f)
-ask_grows f = record { at = λ w. same_later w }
+pub look_grows : {A : Type 0} (f : Memory → Option A) → Grows (look f)
+look_grows f = record { at = λ w. (or_stop_grows (f w.memory) end.Stray).at w }
 
-pub enter_grows : (need : ℕ) → Grows (enter need)
-enter_grows need = record { at = λ w. no_entries w (entered need w) refl (omega arith) (omega arith) }
+changed_later : (o : Option Memory) (w : World) → Later w (world_of (changed o w))
+changed_later None w = same_later w
+changed_later (Some m) w = no_entries w (record w { memory = m }) refl (omega arith) (omega arith)
+
+pub change_grows : (f : Memory → Option Memory) → Grows (change f)
+change_grows f = record { at = λ w. changed_later (f w.memory) w }
+
+pub enter_grows : (frame : Frame) → Grows (enter frame)
+enter_grows frame = record { at = λ w. no_entries w (entered frame w) refl (omega arith) (omega arith) }
 
 pub leave_grows : Grows leave
 leave_grows = record { at = λ w. no_entries w (left w) refl (omega arith) (omega arith) }
@@ -97,14 +106,18 @@ said_later event w = record {
   rises = (omega arith, omega arith, (omega arith, omega arith));
 }
 
-pub writes_keep : (puts : List (Put Place)) (w : World) → with_writes puts w ≡ w
-writes_keep [] w = refl
-writes_keep (put ∷ puts) w = elim put.to [ ]
+pub say_grows : (event : Event) → Grows (say event)
+say_grows event = record { at = λ w. said_later event w }
 
-called_later : (called : Called Place) (w : World) → Later w (world_of (after_call called w))
-called_later (Ends_there trap) w = same_later w
-called_later (Answers event result position puts) w =
-    rw writes_keep (later_on (no_entries w (record w { position = position }) refl (omega arith) (omega arith)) (said_later event (record w { position = position })))
+answered_later : (event : Event) (result : ℤ) (position : ℕ) (o : Option Memory) (w : World) → Later w (world_of (finished event result position o w))
+answered_later event result position None w = same_later w
+answered_later event result position (Some m) w =
+    let x : World = record w { memory = m; position = position } in
+    later_on (no_entries w x refl (omega arith) (omega arith)) (said_later event x)
+
+called_later : (called : Called Spot) (w : World) → Later w (world_of (after_call called w))
+called_later (Ends_there trap position) w = no_entries w (record w { position = position }) refl (omega arith) (omega arith)
+called_later (Answers event result position puts) w = answered_later event result position (with_writes puts (Some w.memory)) w
 
 pub native_grows : (script : Script) (name : List ℕ) (held : List Held) → Grows (call_native script name held)
-native_grows script name held = record { at = λ w. called_later (native_call script (see w) name held w.position) w }
+native_grows script name held = record { at = λ w. called_later (native_call script (see w.memory) name held w.position) w }

@@ -1,9 +1,9 @@
 -- The law on meanings as they are told.
-use Rattle.std.proofs.Common.{◌≡◌, ◌+◌, ◌≤◌, ◌⊎◌, inl, inr, ℕ, sym, ap, length, arith}
+use Rattle.std.proofs.Common.{◌≡◌, ◌+◌, ◌≤◌, ◌⊎◌, inl, inr, ℕ, sym, ap, arith}
 use Rattle.pawn_meaning.specs.World.{World, first_world}
 use Rattle.pawn_meaning.specs.Run.{Outcome, Gives, Stops, More}
-use Rattle.pawn_meaning.specs.Meaning.{whole}
-use Rattle.pawn_meaning.specs.Told.{Cut, told_of, told_by}
+use Rattle.pawn_program.specs.Program.{Program}
+use Rattle.pawn_meaning.specs.Told.{Cut, told_of, told_by, scene_of, whole}
 use Rattle.pawn_meaning.specs.Extends.{Rises, GoesOn, Extends, LaterTurnsExtend, TurnsNeverFall}
 use Rattle.pawn_meaning.proofs.Grows.{Later, world_of}
 use Rattle.pawn_meaning.proofs.Monotone.{Below, bump, whole_below, whole_grows}
@@ -24,14 +24,14 @@ extends t m least (Stops end x) r b = (b.0, ap told_of b.1)
 extends t m least (More x) r b = (b.0, cut_or_on t x r b.0 b.1)
 
 pub later_turns_extend_lem : LaterTurnsExtend
-later_turns_extend_lem program script function limit more h =
-    extends limit more h _ _ (whole_below limit more h program script function)
+later_turns_extend_lem program script f limit more h =
+    extends limit more h _ _ (whole_below limit more h program script f)
 
-never_falls : (n : ℕ) (o : Outcome ⊥) → Later (first_world n) (world_of o) → Rises 0 0 (told_of o).entries (told_of o).turns (told_of o).peak
-never_falls n (Gives a x) l = elim a [ ]
-never_falls n (Stops end x) l = rw l.entries l.rises
-never_falls n (More x) l = rw l.entries l.rises
+never_falls : (program : Program) (o : Outcome ⊥) → Later (first_world program) (world_of o) → Rises 0 0 (told_of o).entries (told_of o).turns (told_of o).peak
+never_falls program (Gives a x) l = elim a [ ]
+never_falls program (Stops end x) l = rw l.entries l.rises
+never_falls program (More x) l = rw l.entries l.rises
 
 pub turns_never_fall_lem : TurnsNeverFall
-turns_never_fall_lem program script function limit =
-    never_falls (length program.automata) (whole (record { program = program; script = script; limit = limit }) function) (whole_grows limit limit (omega arith) program script function)
+turns_never_fall_lem program script f limit =
+    never_falls program (whole (scene_of program script limit) f) (whole_grows limit limit (omega arith) program script f)

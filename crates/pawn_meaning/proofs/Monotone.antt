@@ -1,19 +1,28 @@
 -- A greater bound on turns only extends a meaning: one lemma a step, one line a node.
-use Rattle.std.proofs.Common.{◌≡◌, ◌+◌, ◌≤◌, ◌⊎◌, inl, inr, subst, length, ℕ, zero, suc, pos, List, [], ◌∷◌, Option, None, Some, Bool, true, false, refl, arith, nat_lt}
+use Rattle.std.proofs.Common.{◌≡◌, ◌+◌, ◌≤◌, ◌⊎◌, inl, inr, subst, length, ℕ, ℤ, zero, suc, pos, List, [], ◌∷◌, Option, None, Some, Bool, true, false, refl, arith, nat_lt, slice_get, if◌then◌else◌, ◌*◌}
 use Rattle.std.proofs.lemmas.Bool.{ltb-true, ltb-false}
 use Rattle.host_script.specs.declared.script.Script.{Script}
 use Rattle.host_script.specs.declared.event.End.{End}
-use Rattle.host_script.specs.NativeCall.{Called, Ends_there, Answers, native_call}
-use Rattle.pawn_meaning.specs.World.{World, first_world, left}
-use Rattle.pawn_meaning.specs.Run.{Outcome, Gives, Stops, More, Run, Done, done, then_do, ◌>>=◌, give, stop, or_stop, turn, ask, enter, leave, with_need}
-use Rattle.pawn_meaning.specs.Natives.{Held, Value, Place, see, after_call, call_native}
 use Rattle.host_script.specs.declared.event.End.TheVariants as end
-use Rattle.pawn_cells.specs.Cells.{cell_of}
-use Rattle.pawn_program.specs.Program.{Expr, Const, Native, Arg, Args, no_args, then_arg, Stmt, Block, Do, Exit, Stmts, no_stmts, then_stmt, Function, Program}
+use Rattle.host_script.specs.declared.event.Event.{Event}
+use Rattle.host_script.specs.declared.event.Event.TheVariants as event
+use Rattle.host_script.specs.NativeCall.{Called, Ends_there, Answers, native_call}
+use Rattle.pawn_cells.specs.declared.operator.Comparison.{Comparison}
+use Rattle.pawn_cells.specs.declared.operator.Logical.TheVariants as logic
+use Rattle.pawn_cells.specs.Cells.{cell_of, is_zero, add}
+use Rattle.pawn_cells.specs.Operators.{truth, prefix, binary, compare, logical}
+use Rattle.pawn_program.specs.Program.{Scalar, Global, Own, Element, Char, Array, Object, SlotArray, ParamArray, Row, From, Expr, Const, Read, Unary, Binary, Chain, And, Or, Cond, Assign, Update, UpdateBy, Step, StepBy, Copy, Operate, OperateOne, Call, Native, Seq, Links, no_links, then_link, Arg, Ref, Whole, Temp, Args, no_args, then_arg, Perhaps, Absent, Present, Stmt, Block, Local, LocalArray, Do, If, While, DoWhile, For, Switch, Return, Break, Continue, Exit, Sleep, Assert, State, Empty, Else, no_else, otherwise, Cases, no_cases, then_case, Stmts, no_stmts, then_stmt, Slot, Body, Function, Program}
 use Rattle.pawn_program.specs.Program as node
-use Rattle.pawn_meaning.specs.Need.{need}
-use Rattle.pawn_meaning.specs.Meaning.{Way, Through, Broke, Continued, Returned, Scene, Fewer, name_of, pass, value, argument, arguments, run, run_all, body_by, value_of, call, nested, entry_run, entry_or_stray, whole}
-use Rattle.pawn_meaning.proofs.Grows.{Later, world_of, Grows, after_grows, grown_by, world_later, give_grows, stop_grows, ask_grows, enter_grows, leave_grows, turn_grows, native_grows, writes_keep}
+use Rattle.pawn_meaning.specs.Memory as memory
+use Rattle.pawn_meaning.specs.Memory.{Memory, Static, Frame, Place, one_cell, running, whole_of, own_whole, through, read, write, copied, made, with_temporary, cut_heap, switched, object_at}
+use Rattle.pawn_meaning.specs.World.{World, first_world}
+use Rattle.pawn_meaning.specs.Run.{Outcome, Gives, Stops, More, Run, Done, done, then_do, ◌>>=◌, give, stop, or_stop, turn, look, changed, change, say, enter, leave, with_frame, with_heap, choose, at_zero}
+use Rattle.pawn_meaning.specs.Natives.{Held, Value, Refers, Spot, see, with_writes, finished, after_call, call_native}
+use Rattle.pawn_meaning.specs.References.{is_known, index_in, outside, index, first_size, row_at, rest_from, cell_at, character_at, to_cell, refers}
+use Rattle.pawn_meaning.specs.Calls.{Way, Through, Broke, Continued, Returned, pass, again, value_of, body_by, frame_of, run_body, enter_function, enter_of, entry_for}
+use Rattle.pawn_meaning.specs.Meaning.{Scene, Fewer, name_of, in_ranges, ended, call, call_one, call_two, converted, linked, place, array, value, chain, chained, argument, arguments, condition, perhaps, call_entry, run, run_else, run_case, run_all}
+use Rattle.pawn_meaning.specs.Told.{nested, entry_run, without_params, entry_or_stray, whole}
+use Rattle.pawn_meaning.proofs.Grows.{Later, world_of, Grows, after_grows, grown_by, world_later, give_grows, stop_grows, or_stop_grows, look_grows, change_grows, say_grows, enter_grows, leave_grows, turn_grows, native_grows}
 
 -- a world with one turn more
 abbrev pub bump : World → World
@@ -72,25 +81,47 @@ module _ (t m : ℕ) (least : t ≤ m) where
   or_stop_up None end = stop_up end
   or_stop_up (Some a) end = give_up a
 
-  pub ask_up : {A : Type 0} {k : ℕ} (f : World → A) → Up k (ask f) (ask f)
-  ask_up f = record { at = λ w left. (left.within, refl); low = ask_grows f; high = ask_grows f }
+  pub look_up : {A : Type 0} {k : ℕ} (f : Memory → Option A) → Up k (look f) (look f)
+  look_up {k = k} f = record { at = λ w left. (or_stop_up {k = k} (f w.memory) end.Stray).at w left; low = look_grows f; high = look_grows f }
 
-  pub enter_up : {k : ℕ} (need : ℕ) → Up k (enter need) (enter need)
-  enter_up need = record { at = λ w left. (left.within, refl); low = enter_grows need; high = enter_grows need }
+  changed_below : (o : Option Memory) (w : World) → w.turns ≤ t → Below (changed o w) (changed o w)
+  changed_below None w h = (h, refl)
+  changed_below (Some m) w h = (h, refl)
+
+  pub change_up : {k : ℕ} (f : Memory → Option Memory) → Up k (change f) (change f)
+  change_up f = record { at = λ w left. changed_below (f w.memory) w left.within; low = change_grows f; high = change_grows f }
+
+  pub say_up : {k : ℕ} (event : Event) → Up k (say event) (say event)
+  say_up event = record { at = λ w left. (left.within, refl); low = say_grows event; high = say_grows event }
+
+  pub enter_up : {k : ℕ} (frame : Frame) → Up k (enter frame) (enter frame)
+  enter_up frame = record { at = λ w left. (left.within, refl); low = enter_grows frame; high = enter_grows frame }
 
   pub leave_up : {k : ℕ} → Up k leave leave
   leave_up = record { at = λ w left. (left.within, refl); low = leave_grows; high = leave_grows }
 
-  pub with_need_up : {A : Type 0} {k : ℕ} (need : ℕ) {c d : Run A} → Up k c d → Up k (with_need need c) (with_need need d)
-  with_need_up need run = after_up (enter_up need) (λ _. after_up run (λ a. after_up leave_up (λ _. give_up a)))
+  pub with_frame_up : {A : Type 0} {k : ℕ} (frame : Frame) {c d : Run A} → Up k c d → Up k (with_frame frame c) (with_frame frame d)
+  with_frame_up frame run = after_up (enter_up frame) (λ _. after_up run (λ a. after_up leave_up (λ _. give_up a)))
 
-  called_below : (called : Called Place) (w : World) → w.turns ≤ t → Below (after_call called w) (after_call called w)
-  called_below (Ends_there trap) w h = (h, refl)
-  called_below (Answers event result position puts) w h = (rw writes_keep h, refl)
+  pub with_heap_up : {A : Type 0} {k : ℕ} {c d : Run A} → Up k c d → Up k (with_heap c) (with_heap d)
+  with_heap_up run = after_up (look_up (λ m. Some (length m.heap))) (λ n. after_up run (λ a. after_up (change_up (λ m. Some (cut_heap n m))) (λ _. give_up a)))
+
+  pub choose_up : {A : Type 0} {k : ℕ} (b : Bool) {c d c' d' : Run A} → Up k c d → Up k c' d' → Up k (choose b c c') (choose b d d')
+  choose_up true first second = first
+  choose_up false first second = second
+
+  answered_below : (event : Event) (result : ℤ) (position : ℕ) (o : Option Memory) (w : World) → w.turns ≤ t
+      → Below (finished event result position o w) (finished event result position o w)
+  answered_below event result position None w h = (h, refl)
+  answered_below event result position (Some m) w h = (h, refl)
+
+  called_below : (called : Called Spot) (w : World) → w.turns ≤ t → Below (after_call called w) (after_call called w)
+  called_below (Ends_there trap position) w h = (h, refl)
+  called_below (Answers event result position puts) w h = answered_below event result position (with_writes puts (Some w.memory)) w h
 
   pub native_up : {k : ℕ} (script : Script) (name : List ℕ) (held : List Held) → Up k (call_native script name held) (call_native script name held)
   native_up script name held = record {
-    at = λ w left. called_below (native_call script (see w) name held w.position) w left.within;
+    at = λ w left. called_below (native_call script (see w.memory) name held w.position) w left.within;
     low = native_grows script name held;
     high = native_grows script name held;
   }
@@ -107,34 +138,160 @@ module _ (t m : ℕ) (least : t ≤ m) where
       rw (e, e') (omega (arith, left.within, ltb-false _ _ e), inr (g.at (bump w)))
   turned_low k go go' w left up g false e false e' = rw (e, e') (omega (arith, left.within, ltb-false _ _ e), inl refl)
 
-  pub turn_up : {A : Type 0} {k : ℕ} (go go' : Done → Run A) → ((j : ℕ) → k ≡ suc j → Up j (go done) (go' done))
-      → Grows (go done) → Grows (go' done) → Up k (turn t >>= go) (turn m >>= go')
-  turn_up {k = k} go go' up low high = record {
-    at = λ w left. turned_low k go go' w left up high _ refl _ refl;
-    low = after_grows (turn_grows t) (λ d. by_done (λ x. Grows (go x)) low d);
-    high = after_grows (turn_grows m) (λ d. by_done (λ x. Grows (go' x)) high d);
+  less_up : {A : Type 0} (j k : ℕ) (c d : Run A) → j ≤ k → Up k c d → Up j c d
+  less_up j k c d h up = record {
+    at = λ w left. up.at w (record { enough = omega (arith, left.enough); within = left.within });
+    low = up.low;
+    high = up.high;
   }
+
+  -- what stands behind a turn, with one less to begin
+  pub record Behind {A : Type 0} (k : ℕ) (c d : Run A) : Type 0 where
+    pub at : (j : ℕ) → k ≡ suc j → Up j c d
+    pub low : Grows c
+    pub high : Grows d
+
+  pub behind : {A : Type 0} {k : ℕ} {c d : Run A} → Up k c d → Behind k c d
+  behind {k = k} {c = c} {d = d} up = record { at = λ j e. less_up j k c d (omega (arith, e)) up; low = up.low; high = up.high }
+
+  pub after_behind : {A B : Type 0} {k : ℕ} {c d : Run A} {go go' : A → Run B} → Behind k c d → ((a : A) → Behind k (go a) (go' a)) → Behind k (c >>= go) (d >>= go')
+  after_behind first rest = record {
+    at = λ j e. after_up (first.at j e) (λ a. (rest a).at j e);
+    low = after_grows first.low (λ a. (rest a).low);
+    high = after_grows first.high (λ a. (rest a).high);
+  }
+
+  pub choose_behind : {A : Type 0} {k : ℕ} (b : Bool) {c d c' d' : Run A} → Behind k c d → Behind k c' d' → Behind k (choose b c c') (choose b d d')
+  choose_behind true first second = first
+  choose_behind false first second = second
+
+  pub turn_up : {A : Type 0} {k : ℕ} (go go' : Done → Run A) → Behind k (go done) (go' done) → Up k (turn t >>= go) (turn m >>= go')
+  turn_up {k = k} go go' next = record {
+    at = λ w left. turned_low k go go' w left next.at next.high _ refl _ refl;
+    low = after_grows (turn_grows t) (λ d. by_done (λ x. Grows (go x)) next.low d);
+    high = after_grows (turn_grows m) (λ d. by_done (λ x. Grows (go' x)) next.high d);
+  }
+
+  body_up : {k : ℕ} (run run' : Stmt → Run Way) → ((s : Stmt) → Up k (run s) (run' s)) → (body : Option Body) → Up k (run_body run body) (run_body run' body)
+  body_up run run' up body = after_up (or_stop_up body (end.Error (pos 13))) (λ it. after_up (up it.stmt) (λ way. give_up (value_of way)))
+
+  pub entered_up : {k : ℕ} (run run' : Stmt → Run Way) → ((s : Stmt) → Up k (run s) (run' s)) → (f : ℕ) (function : Function) (held : List Held)
+      → Up k (enter_function run f function held) (enter_function run' f function held)
+  entered_up run run' up f function held =
+      after_up (look_up (λ m. Some (body_by function function.dispatch m))) (λ body. with_frame_up (frame_of f function held body) (body_up run run' up body))
+
+  body_grows : (run : Stmt → Run Way) → ((s : Stmt) → Grows (run s)) → (body : Option Body) → Grows (run_body run body)
+  body_grows run up body = after_grows (or_stop_grows body (end.Error (pos 13))) (λ it. after_grows (up it.stmt) (λ way. give_grows (value_of way)))
+
+  entered_grows : (run : Stmt → Run Way) → ((s : Stmt) → Grows (run s)) → (f : ℕ) (function : Function) (held : List Held) → Grows (enter_function run f function held)
+  entered_grows run up f function held =
+      after_grows (look_grows (λ m. Some (body_by function function.dispatch m))) (λ body. after_grows (enter_grows (frame_of f function held body)) (λ _.
+      after_grows (body_grows run up body) (λ a. after_grows leave_grows (λ _. give_grows a))))
 
   -- ---- the nodes, one line each
 
-  module _ (program : Program) (script : Script) (k : ℕ) (fewer fewer' : Fewer) (up : (j : ℕ) → k ≡ suc j → (s : Stmt) → Up j (fewer s) (fewer' s)) where
+  module _ (program : Program) (script : Script) (k : ℕ) (fewer fewer' : Fewer) (up : (s : Stmt) → Behind k (fewer s) (fewer' s)) where
     abbrev low : Scene
     low = record { program = program; script = script; limit = t }
 
     abbrev high : Scene
     high = record { program = program; script = script; limit = m }
 
-    mutual
-      value_up : (e : Expr) → Up k (value low fewer e) (value high fewer' e)
-      value_up (Const v) = give_up v
-      value_up (Native n args) = after_up (arguments_up args) (λ held. native_up script (name_of program n) held)
+    pub call_up : (f : ℕ) (held : List Held) → Up k (call low fewer f held) (call high fewer' f held)
+    call_up f held = after_up (look_up (λ m. slice_get program.functions f)) (λ function. turn_up
+        (λ _. enter_function fewer f function held) (λ _. enter_function fewer' f function held) (record {
+          at = λ j e. entered_up fewer fewer' (λ s. (up s).at j e) f function held;
+          low = entered_grows fewer (λ s. (up s).low) f function held;
+          high = entered_grows fewer' (λ s. (up s).high) f function held;
+        }))
 
-      argument_up : (a : Arg) → Up k (argument low fewer a) (argument high fewer' a)
+    two_up : (f : ℕ) (swapped : Bool) (x y : ℤ) → Up k (call_two low fewer f swapped x y) (call_two high fewer' f swapped x y)
+    two_up f true x y = call_up f (Value y ∷ Value x ∷ [])
+    two_up f false x y = call_up f (Value x ∷ Value y ∷ [])
+
+    one_up : (f : ℕ) (v : ℤ) → Up k (call_one low fewer f v) (call_one high fewer' f v)
+    one_up f v = call_up f (Value v ∷ [])
+
+    converted_up : (f : Option ℕ) (v : ℤ) → Up k (converted low fewer f v) (converted high fewer' f v)
+    converted_up None v = give_up v
+    converted_up (Some f) v = one_up f v
+
+    linked_up : (o : Comparison) (f : Option ℕ) (swapped : Bool) (x y : ℤ) → Up k (linked low fewer o f swapped x y) (linked high fewer' o f swapped x y)
+    linked_up o None swapped x y = give_up (truth (compare o x y))
+    linked_up o (Some f) swapped x y = two_up f swapped x y
+
+    index_up : (known : Bool) (n : ℕ) (v : ℤ) → Up k (index known n v) (index known n v)
+    index_up known n v = or_stop_up (index_in n v) (outside known)
+
+    refers_up : (at : Place) → Up k (refers at) (refers at)
+    refers_up (memory.Cell name i) = give_up (Refers (to_cell name i))
+    refers_up (memory.Character name i c) = stop_up end.Stray
+
+    mutual
+      pub place_up : (p : Scalar) → Up k (place low fewer p) (place high fewer' p)
+      place_up (Global o) = give_up (memory.Cell (Static o) 0)
+      place_up (Own s) = look_up (λ m. Some (memory.Cell (memory.Local (running m) s) 0))
+      place_up (node.Through s) = after_up (look_up (through s)) (λ r. give_up (cell_at r 0))
+      place_up (Element a e) = after_up (array_up a) (λ r. after_up (value_up e) (λ v. after_up (index_up (is_known a) (first_size r.sizes) v) (λ i. give_up (cell_at r i))))
+      place_up (Char a e) = after_up (array_up a) (λ r. after_up (value_up e) (λ v. after_up (index_up (is_known a) (4 * first_size r.sizes) v) (λ i. give_up (character_at r i))))
+
+      pub array_up : (a : Array) → Up k (array low fewer a) (array high fewer' a)
+      array_up (Object o) = look_up (whole_of (Static o))
+      array_up (SlotArray s) = look_up (own_whole s)
+      array_up (ParamArray s known) = look_up (through s)
+      array_up (Row a e) = after_up (array_up a) (λ r. after_up (value_up e) (λ v. after_up (index_up (is_known a) (first_size r.sizes) v) (λ i. give_up (row_at r i))))
+      array_up (From a e) = after_up (array_up a) (λ r. after_up (value_up e) (λ v. after_up (index_up (is_known a) (first_size r.sizes) v) (λ i. give_up (rest_from r i))))
+
+      pub value_up : (e : Expr) → Up k (value low fewer e) (value high fewer' e)
+      value_up (Const v) = give_up v
+      value_up (Read p) = after_up (place_up p) (λ at. look_up (read at))
+      value_up (Unary o e) = after_up (value_up e) (λ v. give_up (prefix o v))
+      value_up (Binary o l r) = after_up (value_up l) (λ x. after_up (value_up r) (λ y. or_stop_up (binary o x y) (end.Error (pos 11))))
+      value_up (Chain e links) = after_up (value_up e) (λ x. chain_up links x)
+      value_up (And l r) = after_up (value_up l) (λ x. choose_up (is_zero x) (give_up (pos 0)) (after_up (value_up r) (λ y. give_up (logical logic.And x y))))
+      value_up (Or l r) = after_up (value_up l) (λ x. choose_up (is_zero x) (after_up (value_up r) (λ y. give_up (logical logic.Or x y))) (give_up (pos 1)))
+      value_up (Cond c a b) = after_up (value_up c) (λ x. choose_up (is_zero x) (value_up b) (value_up a))
+      value_up (Assign p e) = after_up (place_up p) (λ at. after_up (value_up e) (λ v. after_up (change_up (write at v)) (λ _. give_up v)))
+      value_up (Update p o e) = after_up (place_up p) (λ at. after_up (value_up e) (λ y. after_up (look_up (read at)) (λ x. after_up (or_stop_up (binary o x y) (end.Error (pos 11))) (λ v. after_up (change_up (write at v)) (λ _. give_up v)))))
+      value_up (UpdateBy p f swapped e convert) = after_up (place_up p) (λ at. after_up (value_up e) (λ y. after_up (look_up (read at)) (λ x. after_up (two_up f swapped x y) (λ u. after_up (converted_up convert u) (λ v. after_up (change_up (write at v)) (λ _. give_up v))))))
+      value_up (Step p delta prefix) = after_up (place_up p) (λ at. after_up (look_up (read at)) (λ x. after_up (change_up (write at (add x delta))) (λ _. give_up (if prefix then add x delta else x))))
+      value_up (StepBy p f prefix) = after_up (place_up p) (λ at. after_up (look_up (read at)) (λ x. after_up (one_up f x) (λ v. after_up (change_up (write at v)) (λ _. give_up (if prefix then v else x)))))
+      value_up (Copy to from cells) = after_up (array_up to) (λ r. after_up (array_up from) (λ q. after_up (change_up (copied r q cells)) (λ _. give_up (pos 0))))
+      value_up (Operate f l r swapped) = after_up (value_up l) (λ x. after_up (value_up r) (λ y. two_up f swapped x y))
+      value_up (OperateOne f e) = after_up (value_up e) (λ v. one_up f v)
+      value_up (Call f args) = with_heap_up (after_up (arguments_up args) (λ held. call_up f held))
+      value_up (Native n args) = with_heap_up (after_up (arguments_up args) (λ held. native_up script (name_of program n) held))
+      value_up (Seq a b) = after_up (value_up a) (λ _. value_up b)
+
+      chain_up : (links : Links) (x : ℤ) → Up k (chain low fewer links x) (chain high fewer' links x)
+      chain_up no_links x = give_up x
+      chain_up (then_link o e f swapped links) x = after_up (value_up e) (λ y. after_up (linked_up o f swapped x y) (λ v. after_up (chained_up links y v) (λ u. give_up (ended links u))))
+
+      chained_up : (links : Links) (x v : ℤ) → Up k (chained low fewer links x v) (chained high fewer' links x v)
+      chained_up no_links x v = give_up v
+      chained_up (then_link o e f swapped links) x v = choose_up (is_zero v) (give_up (pos 0)) (after_up (value_up e) (λ y. after_up (linked_up o f swapped x y) (λ u. chained_up links y u)))
+
+      pub argument_up : (a : Arg) → Up k (argument low fewer a) (argument high fewer' a)
       argument_up (node.Value e) = after_up (value_up e) (λ v. give_up (Value v))
+      argument_up (Ref p) = after_up (place_up p) (λ at. refers_up at)
+      argument_up (Whole a) = after_up (array_up a) (λ r. give_up (Refers r))
+      argument_up (Temp e) = after_up (value_up e) (λ v. after_up (look_up (λ m. Some (length m.heap))) (λ n. after_up (change_up (λ m. Some (with_temporary v m))) (λ _. give_up (Refers (to_cell (memory.Temporary n) 0)))))
 
       arguments_up : (args : Args) → Up k (arguments low fewer args) (arguments high fewer' args)
       arguments_up no_args = give_up []
       arguments_up (then_arg a args) = after_up (arguments_up args) (λ others. after_up (argument_up a) (λ first. give_up (first ∷ others)))
+
+    condition_up : (c : Perhaps) → Up k (condition low fewer c) (condition high fewer' c)
+    condition_up Absent = give_up (pos 1)
+    condition_up (Present e) = value_up e
+
+    perhaps_up : (c : Perhaps) → Up k (perhaps low fewer c) (perhaps high fewer' c)
+    perhaps_up Absent = give_up done
+    perhaps_up (Present e) = after_up (value_up e) (λ _. give_up done)
+
+    entry_up : (f : Option ℕ) → Up k (call_entry low fewer f) (call_entry high fewer' f)
+    entry_up None = give_up Through
+    entry_up (Some f) = after_up (call_up f []) (λ _. give_up Through)
 
     pass_up : (way : Way) {c d : Run Way} → Up k c d → Up k (pass way c) (pass way d)
     pass_up Through up = up
@@ -142,20 +299,51 @@ module _ (t m : ℕ) (least : t ≤ m) where
     pass_up Continued up = give_up Continued
     pass_up (Returned v) up = give_up (Returned v)
 
+    again_up : (way : Way) {c d : Run Way} → Behind k c d → Behind k (again way c) (again way d)
+    again_up Through up = up
+    again_up Broke up = behind (give_up Through)
+    again_up Continued up = up
+    again_up (Returned v) up = behind (give_up (Returned v))
+
     mutual
       pub run_up : (s : Stmt) → Up k (run low fewer s) (run high fewer' s)
       run_up (Block stmts) = run_all_up stmts
-      run_up (Do e) = after_up (value_up e) (λ v. give_up Through)
+      run_up (Local s e) = after_up (value_up e) (λ v. after_up (change_up (made s (one_cell v))) (λ _. give_up Through))
+      run_up (LocalArray s o) = after_up (look_up (λ m. object_at m (Static o))) (λ object. after_up (change_up (made s object)) (λ _. give_up Through))
+      run_up (Do e) = after_up (value_up e) (λ _. give_up Through)
+      run_up (If c a b) = after_up (value_up c) (λ v. choose_up (is_zero v) (run_else_up b) (run_up a))
+      run_up (While c s) = after_up (value_up c) (λ v. choose_up (is_zero v) (give_up Through) (turn_up
+          (λ _. run low fewer s >>= (λ way. again way (fewer (While c s)))) (λ _. run high fewer' s >>= (λ way. again way (fewer' (While c s))))
+          (after_behind (behind (run_up s)) (λ way. again_up way (up (While c s))))))
+      run_up (DoWhile s c) = turn_up
+          (λ _. run low fewer s >>= (λ way. again way (value low fewer c >>= (λ v. at_zero v (give Through) (fewer (DoWhile s c))))))
+          (λ _. run high fewer' s >>= (λ way. again way (value high fewer' c >>= (λ v. at_zero v (give Through) (fewer' (DoWhile s c))))))
+          (after_behind (behind (run_up s)) (λ way. again_up way (after_behind (behind (value_up c)) (λ v. choose_behind (is_zero v) (behind (give_up Through)) (up (DoWhile s c))))))
+      run_up (For first c step s) = after_up (run_all_up first) (λ way. pass_up way (after_up (condition_up c) (λ v. choose_up (is_zero v) (give_up Through) (turn_up
+          (λ _. run low fewer s >>= (λ way. again way (perhaps low fewer step >>= (λ _. fewer (For no_stmts c step s)))))
+          (λ _. run high fewer' s >>= (λ way. again way (perhaps high fewer' step >>= (λ _. fewer' (For no_stmts c step s)))))
+          (after_behind (behind (run_up s)) (λ way. again_up way (after_behind (behind (perhaps_up step)) (λ _. up (For no_stmts c step s)))))))))
+      run_up (Switch e cases d) = after_up (value_up e) (λ v. run_case_up cases (run_else_up d) v)
+      run_up (Return e) = after_up (value_up e) (λ v. give_up (Returned v))
+      run_up Break = give_up Broke
+      run_up Continue = give_up Continued
       run_up (Exit e tag) = after_up (value_up e) (λ v. stop_up (end.Exit v (cell_of tag)))
+      run_up (Sleep e tag) = after_up (value_up e) (λ v. after_up (say_up (event.Slept v (cell_of tag))) (λ _. give_up Through))
+      run_up (Assert e) = after_up (value_up e) (λ v. choose_up (is_zero v) (stop_up (end.Error (pos 2))) (give_up Through))
+      run_up (State automaton state c) = after_up (condition_up c) (λ v. choose_up (is_zero v) (give_up Through) (after_up (change_up (switched automaton state)) (λ _. entry_up (entry_for program automaton state (enter_of (slice_get program.automata automaton))))))
+      run_up Empty = give_up Through
+
+      run_else_up : (b : Else) → Up k (run_else low fewer b) (run_else high fewer' b)
+      run_else_up no_else = give_up Through
+      run_else_up (otherwise s) = run_up s
+
+      run_case_up : (cases : Cases) {d d' : Run Way} → Up k d d' → (v : ℤ) → Up k (run_case low fewer cases d v) (run_case high fewer' cases d' v)
+      run_case_up no_cases up v = up
+      run_case_up (then_case ranges s cases) up v = choose_up (in_ranges ranges v) (run_up s) (run_case_up cases up v)
 
       pub run_all_up : (stmts : Stmts) → Up k (run_all low fewer stmts) (run_all high fewer' stmts)
       run_all_up no_stmts = give_up Through
       run_all_up (then_stmt s stmts) = after_up (run_up s) (λ way. pass_up way (run_all_up stmts))
-
-    pub call_up : (run run' : Stmt → Run Way) → ((s : Stmt) → Up k (run s) (run' s)) → (function : Function) → Up k (call run function) (call run' function)
-    call_up run run' up function =
-        with_need_up (need function) (after_up (ask_up (body_by function function.dispatch)) (λ chosen.
-        after_up (or_stop_up chosen (end.Error (pos 13))) (λ body. after_up (up body.stmt) (λ way. give_up (value_of way)))))
 
   -- ---- the whole
 
@@ -166,29 +354,34 @@ module _ (t m : ℕ) (least : t ≤ m) where
     abbrev greater : Scene
     greater = record { program = program; script = script; limit = m }
 
-    fewer_up : (k i : ℕ) → k ≤ i → (j : ℕ) → k ≡ suc j → (s : Stmt) → Up j (nested lesser k s) (nested greater i s)
-    fewer_up zero i h j e s = absurd (omega (arith, e))
-    fewer_up (suc k) zero h j e s = absurd (omega arith)
-    fewer_up (suc k) (suc i) h j e s =
-        let same : k ≡ j = omega (arith, e) in
-        subst (λ n. Up n (nested lesser (suc k) s) (nested greater (suc i) s)) same
-        (run_up program script k (nested lesser k) (nested greater i) (λ l f. fewer_up k i (omega arith) l f) s)
+    more_grows : Grows {A = Way} (λ w. More w)
+    more_grows = record { at = λ w. (give_grows Through).at w }
+
+    pub nested_up : (k i : ℕ) → k ≤ i → (s : Stmt) → Behind k (nested lesser k s) (nested greater i s)
+    nested_up zero zero h s = record { at = λ j e. absurd (omega (arith, e)); low = more_grows; high = more_grows }
+    nested_up zero (suc i) h s = record { at = λ j e. absurd (omega (arith, e)); low = more_grows; high = (run_up program script zero (nested lesser zero) (nested greater i) (nested_up zero i (omega arith)) s).high }
+    nested_up (suc k) zero h s = absurd (omega arith)
+    nested_up (suc k) (suc i) h s =
+        let u = run_up program script k (nested lesser k) (nested greater i) (nested_up k i (omega arith)) s in
+        record { at = λ j e. subst (λ n. Up n (nested lesser (suc k) s) (nested greater (suc i) s)) (omega (arith, e)) u; low = u.low; high = u.high }
 
     all_up : (k i : ℕ) → k ≤ i → (s : Stmt) → Up k (run lesser (nested lesser k) s) (run greater (nested greater i) s)
-    all_up k i h s = run_up program script k (nested lesser k) (nested greater i) (λ j e. fewer_up k i h j e) s
+    all_up k i h s = run_up program script k (nested lesser k) (nested greater i) (nested_up k i h) s
 
-    entry_up : (function : Function) → Up t (entry_run lesser function) (entry_run greater function)
-    entry_up function =
-        after_up (call_up program script t (nested lesser t) (nested greater m) (λ j e. fewer_up t m least j e)
-        (run lesser (nested lesser t)) (run greater (nested greater m)) (all_up t m least) function) (λ v. stop_up (end.Done v))
+    entered : (f : ℕ) (function : Function) → Up t (entry_run lesser f function) (entry_run greater f function)
+    entered f function =
+        after_up (entered_up (run lesser (nested lesser t)) (run greater (nested greater m)) (all_up t m least) f function []) (λ v. stop_up (end.Done v))
 
-    entry_or_stray_up : (function : Function) (params : List node.Slot) → Up t (entry_or_stray lesser function params) (entry_or_stray greater function params)
-    entry_or_stray_up function [] = entry_up function
-    entry_or_stray_up function (param ∷ params) = stop_up end.Stray
+    without_params_up : (f : ℕ) (function : Function) (params : List Slot) → Up t (without_params lesser f function params) (without_params greater f function params)
+    without_params_up f function [] = entered f function
+    without_params_up f function (param ∷ params) = stop_up end.Stray
 
-    pub whole_below : (function : Function) → Below (whole lesser function) (whole greater function)
-    whole_below function =
-        (entry_or_stray_up function function.params).at (first_world (length program.automata)) (record { enough = omega arith; within = omega arith })
+    entry_or_stray_up : (f : ℕ) (function : Option Function) → Up t (entry_or_stray lesser f function) (entry_or_stray greater f function)
+    entry_or_stray_up f None = stop_up end.Stray
+    entry_or_stray_up f (Some function) = without_params_up f function function.params
 
-    pub whole_grows : (function : Function) → Later (first_world (length program.automata)) (world_of (whole lesser function))
-    whole_grows function = (entry_or_stray_up function function.params).low.at (first_world (length program.automata))
+    pub whole_below : (f : ℕ) → Below (whole lesser f) (whole greater f)
+    whole_below f = (entry_or_stray_up f (slice_get program.functions f)).at (first_world program) (record { enough = omega arith; within = omega arith })
+
+    pub whole_grows : (f : ℕ) → Later (first_world program) (world_of (whole lesser f))
+    whole_grows f = (entry_or_stray_up f (slice_get program.functions f)).low.at (first_world program)

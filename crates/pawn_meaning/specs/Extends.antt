@@ -1,7 +1,7 @@
 -- What a greater bound on turns adds to a meaning.
 use Rattle.std.specs.Prelude.{◌≡◌, ◌+◌, ◌≤◌, ◌⊎◌, ℕ, List, [], ◌∷◌, ◌++◌}
 use Rattle.host_script.specs.declared.script.Script.{Script}
-use Rattle.pawn_program.specs.Program.{Function, Program}
+use Rattle.pawn_program.specs.Program.{Program}
 use Rattle.pawn_meaning.specs.World.{Entry}
 use Rattle.pawn_meaning.specs.Told.{Last, Ended, Cut, Told, meaning}
 
@@ -22,12 +22,12 @@ abbrev pub Extends : ℕ → Told → Last → Told → Type 0
 Extends limit first (Ended end) more = (first.turns ≤ limit) × (more ≡ first)
 Extends limit first Cut more = (first.turns ≡ limit) × ((more ≡ first) ⊎ GoesOn (limit + 1) first more)
 
--- so for each program, script and entry function, and each two bounds
+-- so for each program, script and function that is entered, and each two bounds
 abbrev pub LaterTurnsExtend : Type 0
-LaterTurnsExtend = (program : Program) (script : Script) (function : Function) (limit more : ℕ) → limit ≤ more
-    → Extends limit (meaning program script function limit) (meaning program script function limit).last (meaning program script function more)
+LaterTurnsExtend = (program : Program) (script : Script) (f : ℕ) (limit more : ℕ) → limit ≤ more
+    → Extends limit (meaning program script f limit) (meaning program script f limit).last (meaning program script f more)
 
 -- and along one meaning turns and peaks never fall
 abbrev pub TurnsNeverFall : Type 0
-TurnsNeverFall = (program : Program) (script : Script) (function : Function) (limit : ℕ)
-    → let told = meaning program script function limit in Rises 0 0 told.entries told.turns told.peak
+TurnsNeverFall = (program : Program) (script : Script) (f : ℕ) (limit : ℕ)
+    → let told = meaning program script f limit in Rises 0 0 told.entries told.turns told.peak

@@ -1,7 +1,12 @@
+pub mod Calls
 pub mod Extends
+pub mod Fold
+pub mod Limits
 pub mod Meaning
+pub mod Memory
 pub mod Natives
 pub mod Need
+pub mod References
 pub mod Run
 pub mod Told
 pub mod Weight

@@ -6,5 +6,7 @@
 mod node;
 mod program;
 
-pub use node::{Arg, Expr, Stmt};
-pub use program::{Automaton, Body, Function, Program, Public, Route, Slot, Tag};
+pub use node::{Arg, Array, Case, Expr, Link, Scalar, Stmt};
+pub use pawn_arrays::Shape;
+pub use pawn_cells::{Comparison, Operator, Prefix};
+pub use program::{Automaton, Body, Function, Object, Program, Public, Route, Slot, Tag};
