@@ -1,3 +1,9 @@
 pub mod CutLaws
 pub mod Examples
+pub mod NativeExamples
+pub mod Pins
+pub mod Rows
 pub mod RunLaws
+pub mod ShownLaws
+pub mod StepExamples
+pub mod TableLaws

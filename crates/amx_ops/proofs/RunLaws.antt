@@ -1,6 +1,6 @@
 -- How iterations and segments compute, a law for each answer of a move.
 use Rattle.std.proofs.Common.{◌≡◌, ◌+◌, ℕ, zero, suc, refl, sym, subst}
-use Rattle.amx_ops.specs.Runs.{Moved, Goes, Sleeps, Ends, Cut, Over, iterate, Steps, Asleep, Over_by, segment}
+use Rattle.amx_ops.specs.Runs.{Moved, Goes, Sleeps, Ends, Cut, Over, iterate, Steps, Asleep, Over_by, segment, sleeps}
 
 module _ {C E : Type 0} (move : C → Moved C E) where
   pub iterate-zero : (c : C) → iterate move zero c ≡ Cut c
@@ -52,3 +52,22 @@ module _ {C E : Type 0} (move : C → Moved C E) where
         | Sleeps d ↦ record { stop = Asleep; config = d; steps = k + 1 }
         | Ends e d ↦ record { stop = Over_by e; config = d; steps = k + 1 }
       ]) ≡ record { stop = Over_by x; config = d; steps = k + 1 }) (sym e) refl
+
+  pub sleeps-zero : (c : C) → sleeps move zero c ≡ 0
+  unfolding sleeps
+  sleeps-zero c = refl
+
+  pub sleeps-goes : (n : ℕ) (c d : C) → move c ≡ Goes d → sleeps move (suc n) c ≡ sleeps move n d
+  unfolding sleeps
+  sleeps-goes n c d e =
+      subst (λ m. (elim m [ Goes d ↦ sleeps move n d | Sleeps d ↦ suc (sleeps move n d) | Ends e d ↦ 0 ]) ≡ sleeps move n d) (sym e) refl
+
+  pub sleeps-sleeps : (n : ℕ) (c d : C) → move c ≡ Sleeps d → sleeps move (suc n) c ≡ suc (sleeps move n d)
+  unfolding sleeps
+  sleeps-sleeps n c d e =
+      subst (λ m. (elim m [ Goes d ↦ sleeps move n d | Sleeps d ↦ suc (sleeps move n d) | Ends e d ↦ 0 ]) ≡ suc (sleeps move n d)) (sym e) refl
+
+  pub sleeps-ends : (n : ℕ) (c d : C) (x : E) → move c ≡ Ends x d → sleeps move (suc n) c ≡ 0
+  unfolding sleeps
+  sleeps-ends n c d x e =
+      subst (λ m. (elim m [ Goes d ↦ sleeps move n d | Sleeps d ↦ suc (sleeps move n d) | Ends e d ↦ 0 ]) ≡ 0) (sym e) refl

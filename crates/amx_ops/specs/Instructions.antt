@@ -1,90 +1,166 @@
--- The instruction table, and what a row of whole instructions is (Implementer's Guide, "Instruction
--- reference"). Addresses are in bytes, four to a cell of code.
-use Rattle.std.specs.Prelude.{◌≡◌, ◌+◌, ◌-◌, ℕ, zero, suc, ℤ, pos, negsuc, List, [], ◌∷◌, Bool, false, ◌==◌, Option, None, Some, is_some, codes, find, length, option_map, sum_by}
+-- Whole instructions, one behind another (Implementer's Guide, "Instruction reference"). Addresses are in
+-- bytes, four to a cell of code.
+use Rattle.std.specs.Prelude.{◌≡◌, ◌+◌, ◌-◌, ◌*◌, ◌/◌, ◌%◌, ℕ, zero, suc, ℤ, pos, negsuc, List, [], ◌∷◌, Bool, ◌==◌, Option, None, Some, is_some, find, length, option_map, sum_by, nat_le, if◌then◌else◌, drop}
 use Rattle.amx_ops.specs.declared.op.Op.{Op}
-use Rattle.amx_ops.specs.declared.op.Op.TheVariants as op
-use Rattle.amx_ops.specs.declared.instruction.Instruction.{Instruction}
-use Rattle.amx_ops.specs.declared.instruction.Operand.{Operand}
-use Rattle.amx_ops.specs.declared.instruction.Operand.TheVariants.{Nothing, AnyCell, Multiple, NativeNumber}
+use Rattle.amx_ops.specs.declared.instr.Instr.{Instr}
+use Rattle.amx_ops.specs.declared.table.Operand.{Operand}
+use Rattle.amx_ops.specs.declared.table.Operand.TheVariants as operand
+use Rattle.amx_ops.specs.Table.{operand_at, number_of, operand_of}
 
-pub record Row : Type 0 where
-  pub number : ℕ
+-- an instruction as a generator writes it; the operand is 0 where it has none
+pub record Instruction : Type 0 where
   pub op : Op
-  pub name : List ℕ
-  pub operand : Operand
+  pub operand : ℤ
 
-abbrev pub row : ℕ → Op → List ℕ → Operand → Row
-row number operation name operand = record { number = number; op = operation; name = name; operand = operand }
+abbrev pub alone : ℕ → Instr
+alone number = record { op = number; operand = pos 0; cells = 1 }
 
-abbrev pub table : List Row
-table =
-    row 11 op.ConstPri (codes "CONST.pri") AnyCell
-    ∷ row 39 op.PushC (codes "PUSH.C") AnyCell
-    ∷ row 44 op.Stack (codes "STACK") Multiple
-    ∷ row 46 op.Proc (codes "PROC") Nothing
-    ∷ row 48 op.Retn (codes "RETN") Nothing
-    ∷ row 89 op.ZeroPri (codes "ZERO.pri") Nothing
-    ∷ row 90 op.ZeroAlt (codes "ZERO.alt") Nothing
-    ∷ row 120 op.Halt (codes "HALT") AnyCell
-    ∷ row 123 op.SysreqC (codes "SYSREQ.C") NativeNumber
-    ∷ []
+abbrev pub with_operand : ℕ → List ℤ → Option Instr
+with_operand number [] = None
+with_operand number (v ∷ cells) = Some (record { op = number; operand = v; cells = 2 })
 
-abbrev pub is_number : ℕ → ℤ → Bool
-is_number n (pos m) = n == m
-is_number n (negsuc m) = false
+-- a case table with its count, its default address, and two cells for each of its pairs
+abbrev pub case_table : ℕ → ℤ → List ℤ → Option Instr
+case_table number (negsuc n) pairs = None
+case_table number (pos count) pairs =
+    if nat_le (2 * count) (length pairs)
+    then Some (record { op = number; operand = pos count; cells = 3 + 2 * count })
+    else None
 
--- the row of a number: the operation, and what stands behind it
-abbrev pub row_of : ℤ → Option (Op × Operand)
-row_of number = option_map (λ it. (it.op, it.operand)) (find (λ it. is_number it.number number) table)
+abbrev pub with_cases : ℕ → List ℤ → Option Instr
+with_cases number [] = None
+with_cases number (count ∷ []) = None
+with_cases number (count ∷ default ∷ pairs) = case_table number count pairs
 
-abbrev pub alone : Op → Operand → Instruction
-alone operation kind = record { op = operation; kind = kind; operand = pos 0; size = 1 }
+abbrev pub read_by : ℕ → Operand → List ℤ → Option Instr
+read_by number operand.Nothing cells = Some (alone number)
+read_by number operand.AnyCell cells = with_operand number cells
+read_by number operand.ByteCount cells = with_operand number cells
+read_by number operand.Register cells = with_operand number cells
+read_by number operand.SetRegister cells = with_operand number cells
+read_by number operand.Multiple cells = with_operand number cells
+read_by number operand.Length cells = with_operand number cells
+read_by number operand.CellsLength cells = with_operand number cells
+read_by number operand.Target cells = with_operand number cells
+read_by number operand.Relative cells = with_operand number cells
+read_by number operand.NativeNumber cells = with_operand number cells
+read_by number operand.CaseTable cells = with_operand number cells
+read_by number operand.Cases cells = with_cases number cells
 
-abbrev pub with_cell : Op → Operand → List ℤ → Option Instruction
-with_cell operation kind [] = None
-with_cell operation kind (v ∷ cells) = Some (record { op = operation; kind = kind; operand = v; size = 2 })
-
-abbrev pub read_by : Op → Operand → List ℤ → Option Instruction
-read_by operation Nothing cells = Some (alone operation Nothing)
-read_by operation AnyCell cells = with_cell operation AnyCell cells
-read_by operation Multiple cells = with_cell operation Multiple cells
-read_by operation NativeNumber cells = with_cell operation NativeNumber cells
-
-abbrev pub read_row : Option (Op × Operand) → List ℤ → Option Instruction
+abbrev pub read_row : Option (ℕ × Operand) → List ℤ → Option Instr
 read_row None cells = None
 read_row (Some row) cells = read_by row.0 row.1 cells
 
 -- the whole instruction at the front of some cells
-abbrev pub front : List ℤ → Option Instruction
+abbrev pub front : List ℤ → Option Instr
 front [] = None
-front (cell ∷ cells) = read_row (row_of cell) cells
+front (cell ∷ cells) = read_row (operand_at cell) cells
+
+-- and at a cell of code
+abbrev pub decoded : List ℤ → ℕ → Option Instr
+decoded code at = front (drop at code)
+
+-- ---- written
+
+-- its number, and its operand behind it
+abbrev pub cells_by : ℕ → ℤ → Operand → List ℤ
+cells_by number v operand.Nothing = pos number ∷ []
+cells_by number v operand.AnyCell = pos number ∷ v ∷ []
+cells_by number v operand.ByteCount = pos number ∷ v ∷ []
+cells_by number v operand.Register = pos number ∷ v ∷ []
+cells_by number v operand.SetRegister = pos number ∷ v ∷ []
+cells_by number v operand.Multiple = pos number ∷ v ∷ []
+cells_by number v operand.Length = pos number ∷ v ∷ []
+cells_by number v operand.CellsLength = pos number ∷ v ∷ []
+cells_by number v operand.Target = pos number ∷ v ∷ []
+cells_by number v operand.Relative = pos number ∷ v ∷ []
+cells_by number v operand.NativeNumber = pos number ∷ v ∷ []
+cells_by number v operand.CaseTable = pos number ∷ v ∷ []
+-- the number and count alone: the other cells of a case table stand in no single operand
+cells_by number v operand.Cases = pos number ∷ v ∷ []
+
+abbrev pub encoded_by : Option (ℕ × Operand) → ℤ → List ℤ
+encoded_by None v = []
+encoded_by (Some row) v = cells_by row.0 v row.1
+
+-- an instruction with its operand, by its number
+abbrev pub encoded : ℕ → ℤ → List ℤ
+encoded number v = encoded_by (operand_at (pos number)) v
+
+-- an operand is 0 where there is none; a case table isn't written by a single operand
+abbrev pub IsProper : Operand → ℤ → Type 0
+IsProper operand.Nothing v = v ≡ pos 0
+IsProper operand.AnyCell v = Unit {0}
+IsProper operand.ByteCount v = Unit {0}
+IsProper operand.Register v = Unit {0}
+IsProper operand.SetRegister v = Unit {0}
+IsProper operand.Multiple v = Unit {0}
+IsProper operand.Length v = Unit {0}
+IsProper operand.CellsLength v = Unit {0}
+IsProper operand.Target v = Unit {0}
+IsProper operand.Relative v = Unit {0}
+IsProper operand.NativeNumber v = Unit {0}
+IsProper operand.CaseTable v = Unit {0}
+IsProper operand.Cases v = ⊥
+
+abbrev pub IsEncodableBy : Option (ℕ × Operand) → ℤ → Type 0
+IsEncodableBy None v = ⊥
+IsEncodableBy (Some row) v = IsProper row.1 v
+
+abbrev pub IsEncodable : ℕ → ℤ → Type 0
+IsEncodable number v = IsEncodableBy (operand_at (pos number)) v
+
+-- the cells of an instruction of a generator
+abbrev pub cells : Instruction → List ℤ
+cells i = cells_by (number_of i.op) i.operand (operand_of i.op)
+
+-- as it is read back
+abbrev pub instr_by : ℕ → ℤ → Operand → Instr
+instr_by number v operand.Nothing = alone number
+instr_by number v operand.AnyCell = record { op = number; operand = v; cells = 2 }
+instr_by number v operand.ByteCount = record { op = number; operand = v; cells = 2 }
+instr_by number v operand.Register = record { op = number; operand = v; cells = 2 }
+instr_by number v operand.SetRegister = record { op = number; operand = v; cells = 2 }
+instr_by number v operand.Multiple = record { op = number; operand = v; cells = 2 }
+instr_by number v operand.Length = record { op = number; operand = v; cells = 2 }
+instr_by number v operand.CellsLength = record { op = number; operand = v; cells = 2 }
+instr_by number v operand.Target = record { op = number; operand = v; cells = 2 }
+instr_by number v operand.Relative = record { op = number; operand = v; cells = 2 }
+instr_by number v operand.NativeNumber = record { op = number; operand = v; cells = 2 }
+instr_by number v operand.CaseTable = record { op = number; operand = v; cells = 2 }
+instr_by number v operand.Cases = record { op = number; operand = v; cells = 2 }
+
+abbrev pub instr : Instruction → Instr
+instr i = instr_by (number_of i.op) i.operand (operand_of i.op)
+
+-- ---- one behind another
 
 -- an instruction at its address
 pub record Placed : Type 0 where
   pub at : ℕ
-  pub instruction : Instruction
+  pub instr : Instr
 
-abbrev pub placed_by : ℕ → Option Instruction → (Instruction → List Placed) → List Placed
+abbrev pub placed_by : ℕ → Option Instr → (Instr → List Placed) → List Placed
 placed_by at None others = []
-placed_by at (Some i) others = record { at = at; instruction = i } ∷ others i
+placed_by at (Some i) others = record { at = at; instr = i } ∷ others i
 
 -- the instructions one behind another, as far as each is whole. Addresses count on cell by cell; so many
 -- cells belong to the instruction before and are passed over
 abbrev pub placed_from : ℕ → ℕ → List ℤ → List Placed
 placed_from at passed [] = []
 placed_from at (suc passed) (cell ∷ cells) = placed_from (at + 4) passed cells
-placed_from at zero (cell ∷ cells) = placed_by at (front (cell ∷ cells)) (λ i. placed_from (at + 4) (i.size - 1) cells)
+placed_from at zero (cell ∷ cells) = placed_by at (front (cell ∷ cells)) (λ i. placed_from (at + 4) (i.cells - 1) cells)
 
 abbrev pub placed : List ℤ → List Placed
 placed code = placed_from 0 0 code
 
 -- the instruction that starts at an address
-abbrev pub fetched : List ℤ → ℕ → Option Instruction
-fetched code at = option_map (λ it. it.instruction) (find (λ it. it.at == at) (placed code))
+abbrev pub fetched : List ℤ → ℕ → Option Instr
+fetched code at = option_map (λ it. it.instr) (find (λ it. it.at == at) (placed code))
 
 abbrev pub is_start : List ℤ → ℕ → Bool
 is_start code at = is_some (fetched code at)
 
--- the code is a row of whole instructions
-abbrev pub IsWhole : List ℤ → Type 0
-IsWhole code = sum_by (λ (it : Placed). it.instruction.size) (placed code) ≡ length code
+-- the cells that some instructions take
+abbrev pub cells_in : List Placed → ℕ
+cells_in its = sum_by (λ (it : Placed). it.instr.cells) its

@@ -1,9 +1,13 @@
+pub mod Access
 pub mod Cuts
+pub mod Effects
 pub mod Instructions
 pub mod Moves
 pub mod Runs
 pub mod State
+pub mod States
 pub mod Step
+pub mod Table
 pub mod Trace
 pub mod Valid
 pub mod Writable

@@ -14,7 +14,7 @@ use Rattle.host_script.specs.NativeCall.{Trap, Lost, Fault, Sight, Sees, Blind, 
 use Rattle.host_script.specs.Script.{characters}
 use Rattle.amx_ops.specs.declared.amx.Amx.{Amx}
 use Rattle.amx_ops.specs.declared.amx.Record.{Record}
-use Rattle.amx_ops.specs.Instructions.{is_number}
+use Rattle.amx_ops.specs.Table.{is_number}
 use Rattle.amx_ops.specs.State.{State, Turned, Goes, Errs, Halts, Asks, stp, cell_at}
 use Rattle.amx_ops.specs.Step.{step}
 use Rattle.amx_ops.specs.Runs.{Moved}
@@ -83,7 +83,7 @@ error_of (Fault code) = code
 
 -- the machine waits behind the call with this state
 abbrev pub answered : Called ℕ → State → Config → Moved Config End
-answered (Ends_there trap) s c = run.Ends (end.Error (error_of trap)) (record c { state = s })
+answered (Ends_there trap position) s c = run.Ends (end.Error (error_of trap)) (record c { state = s; position = position })
 answered (Answers event result position puts) s c =
     run.Goes (shown event (record c { state = record s { pri = result; cells = with_writes puts s.cells }; position = position }))
 
@@ -111,4 +111,4 @@ moved amx script c (Halts v s) = halted v s c
 moved amx script c (Asks n s) = asked script (name_of amx.natives n) (arguments s) s c
 
 abbrev pub move : Amx → Script → Config → Moved Config End
-move amx script c = moved amx script c (step amx.code c.state)
+move amx script c = moved amx script c (step amx c.state)

@@ -37,20 +37,32 @@ segment move (suc n) so_far c = elim (move c) [
   | Ends e d ↦ record { stop = Over_by e; config = d; steps = so_far + 1 }
 ]
 
--- what the last segment came to, and its bound
+-- what the last segment came to, its bound, and the moves of all segments together
 pub record Traced (C E : Type 0) : Type 0 where
   pub stop : Stop E
   pub config : C
   pub bound : ℕ
+  pub steps : ℕ
 
 abbrev pub traced : {C E : Type 0} → ℕ → Segmented C E → Traced C E
-traced bound segmented = record { stop = segmented.stop; config = segmented.config; bound = bound }
+traced bound segmented = record { stop = segmented.stop; config = segmented.config; bound = bound; steps = segmented.steps }
+
+-- with so many moves before
+abbrev pub behind : {C E : Type 0} → ℕ → Traced C E → Traced C E
+behind steps t = record { stop = t.stop; config = t.config; bound = t.bound; steps = steps + t.steps }
 
 -- a first bound, and further ones for the segments after sleeps
 abbrev pub joined : {C E : Type 0} → (C → Moved C E) → ℕ → List ℕ → C → Traced C E
 joined move bound [] c = traced bound (segment move bound 0 c)
 joined move bound (next ∷ bounds) c = elim (segment move bound 0 c).stop [
   | Steps ↦ traced bound (segment move bound 0 c)
-  | Asleep ↦ joined move next bounds (segment move bound 0 c).config
+  | Asleep ↦ behind (segment move bound 0 c).steps (joined move next bounds (segment move bound 0 c).config)
   | Over_by e ↦ traced bound (segment move bound 0 c)
 ]
+
+-- ---- sleeps
+
+-- how many of the next moves are sleeps, up to an end
+unfoldable pub sleeps : {C E : Type 0} → (C → Moved C E) → ℕ → C → ℕ
+sleeps move zero c = 0
+sleeps move (suc n) c = elim (move c) [ Goes d ↦ sleeps move n d | Sleeps d ↦ suc (sleeps move n d) | Ends e d ↦ 0 ]

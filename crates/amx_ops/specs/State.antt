@@ -2,6 +2,7 @@
 -- data up to the stack's top. Registers that hold addresses are in bytes from the data's first cell.
 use Rattle.std.specs.Prelude.{◌+◌, ◌-◌, ◌*◌, ◌/◌, ◌++◌, ℕ, ℤ, pos, List, length, take, drop, replicate, nat_le, nat_lt, if◌then◌else◌, slice_set}
 use Rattle.std.specs.List.{slice_index_or}
+use Rattle.amx_ops.specs.declared.amx.Amx.{Amx}
 
 pub record State : Type 0 where
   pub pri : ℤ
@@ -20,6 +21,10 @@ pub data Turned : Type 0 where
   Halts : ℤ → State → Turned
   -- it calls a native by its number
   Asks : ℕ → State → Turned
+
+-- the end of a file's data
+abbrev pub first_hea : Amx → ℕ
+first_hea amx = 4 * length amx.store
 
 -- the stack's top
 abbrev pub stp : State → ℕ

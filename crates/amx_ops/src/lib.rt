@@ -3,13 +3,15 @@
 #![tactic(auto)]
 
 mod amx;
-mod instruction;
+mod instr;
 mod laws;
 mod op;
+mod table;
 #[cfg(test)]
 mod tests;
 
 pub use amx::{Amx, Record};
-pub use instruction::{Instruction, Operand};
+pub use instr::{Instr, decode, encode};
 pub use laws::trace_is_one_iteration;
 pub use op::Op;
+pub use table::{Operand, Row, TABLE, op_at, row_at};
