@@ -1,10 +1,10 @@
 -- The relation between a program and a file: whatever the file does is what the source means, both
 -- ways, with bounds on stack and steps.
-use Rattle.std.specs.Prelude.{◌≡◌, ◌⊎◌, ◌+◌, ◌*◌, ◌≤◌, ℕ, ℤ, List, Option, Some, All, Any, IsTrue, length, slice_get, option_and_then}
+use Rattle.std.specs.Prelude.{◌≡◌, ◌⊎◌, ◌+◌, ◌*◌, ◌≤◌, ℕ, ℤ, List, Option, Some, All, Any, IsTrue, length, slice_get, option_map}
 use Rattle.host_script.specs.declared.script.Script.{Script}
 use Rattle.host_script.specs.declared.script.Native.{Native}
 use Rattle.host_script.specs.Ranges.{IsScript}
-use Rattle.pawn_program.specs.Program.{Program, Public, Function}
+use Rattle.pawn_program.specs.Program.{Program, Public}
 use Rattle.pawn_meaning.specs.Told.{meaning}
 use Rattle.amx_ops.specs.declared.amx.Amx.{Amx}
 use Rattle.amx_ops.specs.Writable.{cells_of, memory_limit}
@@ -13,11 +13,10 @@ use Rattle.amx_ops.specs.Trace as trace
 use Rattle.gen_agrees.specs.Shape.{HasShape}
 use Rattle.gen_agrees.specs.AgreesOn.{AgreesOn}
 
--- the function of an entry
-abbrev pub function_of : Program → Entry → Option Function
-function_of program Main = option_and_then (λ f. slice_get program.functions f) program.entry
-function_of program (trace.Public n) =
-    option_and_then (λ (it : Public). slice_get program.functions it.function) (slice_get program.publics n)
+-- the number of an entry's function
+abbrev pub function_of : Program → Entry → Option ℕ
+function_of program Main = program.entry
+function_of program (trace.Public n) = option_map (λ (it : Public). it.function) (slice_get program.publics n)
 
 -- the script lists each native, or serves others too
 abbrev pub Serves : Script → List (List ℕ) → Type 0
@@ -30,7 +29,7 @@ IsRoom amx room = 4 * (cells_of amx + room) ≤ memory_limit
 pub record Agrees (program : Program) (amx : Amx) : Type 0 where
   pub shape : HasShape program amx
   -- for every script that keeps its form and lists the natives, every room, entry and list of one or more bounds
-  pub runs : (script : Script) (room : ℕ) (entry : Entry) (function : Function) (address : ℤ) (bound : ℕ) (bounds : List ℕ)
+  pub runs : (script : Script) (room : ℕ) (entry : Entry) (f : ℕ) (address : ℤ) (bound : ℕ) (bounds : List ℕ)
       → IsScript script → Serves script program.natives → IsRoom amx room
-      → function_of program entry ≡ Some function → address_of amx entry ≡ Some address
-      → AgreesOn (meaning program script function) (length amx.code) room (trace_from amx room script address bound bounds)
+      → function_of program entry ≡ Some f → address_of amx entry ≡ Some address
+      → AgreesOn (meaning program script f) (length amx.code) room (trace_from amx room script address bound bounds)

@@ -1,3 +1,4 @@
 pub mod Agrees
 pub mod AgreesOn
+pub mod Gives
 pub mod Shape

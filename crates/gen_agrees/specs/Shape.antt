@@ -6,13 +6,18 @@ use Rattle.pawn_meaning.specs.Weight.{weight}
 use Rattle.amx_ops.specs.declared.op.Op.TheVariants.{Halt}
 use Rattle.amx_ops.specs.declared.amx.Amx.{Amx}
 use Rattle.amx_ops.specs.declared.amx.Record.{Record}
-use Rattle.amx_ops.specs.declared.instruction.Instruction.{Instruction}
+use Rattle.amx_ops.specs.declared.instr.Instr.{Instr}
+use Rattle.amx_ops.specs.Table.{op_of}
 use Rattle.amx_ops.specs.Instructions.{Placed, placed}
 use Rattle.amx_ops.specs.Valid.{IsValid}
 use Rattle.amx_ops.specs.Writable.{IsWritable}
 
 abbrev pub names : List Record → List (List ℕ)
 names records = map (λ it. it.name) records
+
+-- a host puts the addresses of natives
+abbrev pub native_record : List ℕ → Record
+native_record name = record { address = pos 0; name = name }
 
 -- the file has a main exactly where the program has one
 abbrev pub HasEntry : Option ℕ → ℤ → Type 0
@@ -25,13 +30,13 @@ last_of (it ∷ []) = Some it
 last_of (it ∷ next ∷ others) = last_of (next ∷ others)
 
 -- a sleep, after which the machine stands at the next instruction
-abbrev pub IsSleep : Instruction → Type 0
-IsSleep i = (i.op ≡ Halt) × (i.operand ≡ pos 12)
+abbrev pub IsSleep : Instr → Type 0
+IsSleep i = (op_of i.op ≡ Some Halt) × (i.operand ≡ pos 12)
 
 pub record HasShape (program : Program) (amx : Amx) : Type 0 where
   pub writable : IsWritable amx
   pub valid : IsValid amx.code (length amx.natives) amx.entry (map (λ it. it.address) amx.publics)
-  pub natives : names amx.natives ≡ program.natives
+  pub natives : amx.natives ≡ map native_record program.natives
   pub publics : names amx.publics ≡ map (λ (it : Public). it.name) program.publics
   pub tags : amx.tags ≡ map (λ (it : Tag). record { address = cell_of it.number; name = it.name }) program.tags
   pub no_libraries : amx.libraries ≡ []
@@ -42,4 +47,4 @@ pub record HasShape (program : Program) (amx : Amx) : Type 0 where
   pub room : pos amx.room ≡ program.dynamic
   pub code : length amx.code ≤ weight program + 2
   pub store : length amx.store ≤ 4194304
-  pub last_is_no_sleep : IfSome (last_of (placed amx.code)) (λ it. ¬ IsSleep it.instruction)
+  pub last_is_no_sleep : IfSome (last_of (placed amx.code)) (λ it. ¬ IsSleep it.instr)

@@ -9,31 +9,45 @@ use Rattle.pawn_program.specs.declared.node.Expr as held
 use Rattle.pawn_program.specs.declared.node.Stmt as held_stmt
 use Rattle.pawn_program.proofs.ViewLaws.{expr_view-Native, stmt_view-Block}
 use Rattle.pawn_meaning.specs.Need.{count_of}
-use Rattle.gen_straight.specs.Code.{cells, cells_of, args_code, call_code, expr_code, stmt_code, stmts_code}
+use Rattle.gen_straight.specs.Code.{args_code, call_code, expr_code, stmt_code, stmts_code}
+use Rattle.gen_sim.specs.Cells.{cells_of, with, push_const, call_number, move_stk}
+use Rattle.amx_ops.specs.declared.op.Op.{Op}
+use Rattle.amx_ops.specs.declared.op.Op.TheVariants as op
+use Rattle.amx_ops.specs.Table.{number_of, operand_of}
+use Rattle.amx_ops.specs.Instructions.{cells, encoded, IsProper, IsEncodable}
+use Rattle.amx_ops.proofs.Rows.{encoded_is, encodable}
 use Rattle.gen_straight.specs.Fits.{FitsExpr, FitsStmt, FitStmts}
 
 pub count_is : (args : List Arg) → count_of (args_view args) ≡ length args
 count_is [] = refl
 count_is (a ∷ args) = ap suc (count_is args)
 
+-- an instruction by the number of its operation, as code meets it
+pub encodable_as : (o : Op) (n : ℕ) (v : ℤ) → n ≡ number_of o → IsProper (operand_of o) v → IsEncodable n v
+encodable_as o n v e h = subst (λ k. IsEncodable k v) (sym e) (encodable o v h)
+
+pub encoded_as : {E : Type 0} (r : Result (Unit {0}) E) (o : Op) (n : ℕ) (v : ℤ) (old new : List ℤ) → n ≡ number_of o
+    → OnOk r (new ≡ old ++ encoded n v) → OnOk r (new ≡ old ++ cells (with o v))
+encoded_as (Ok done) o n v old new e h = h ∙ ap (λ k. old ++ encoded k v) e ∙ ap (λ l. old ++ l) (encoded_is o v)
+encoded_as (Err fault) o n v old new e h = h
+
 -- a call's three instructions behind its arguments
-pub call_is : (code : List ℤ) (n count : ℕ) (args : List Arg) (a b c d : List ℤ) (bytes last : ℤ)
-    → count ≡ length args
+pub call_is : (code : List ℤ) (n count : ℕ) (args : List Arg) (a b c d : List ℤ) (bytes number last : ℤ)
+    → count ≡ length args → number ≡ pos n
     → bytes ≡ pos (4 * count) → last ≡ pos (4 * count + 4)
-    → a ≡ code ++ cells_of (args_code (args_view args)) → b ≡ a ++ pos 39 ∷ bytes ∷ []
-    → c ≡ b ++ pos 123 ∷ pos n ∷ [] → d ≡ c ++ pos 44 ∷ last ∷ []
+    → a ≡ code ++ cells_of (args_code (args_view args)) → b ≡ a ++ cells (push_const bytes)
+    → c ≡ b ++ cells (with op.SysreqC number) → d ≡ c ++ cells (move_stk last)
     → d ≡ code ++ cells_of (expr_code (node.Native n (args_view args)))
-call_is code n count args a b c d bytes last counts e f p q r s =
+call_is code n count args a b c d bytes number last counts native e f p q r s =
     let pushes = cells_of (args_code (args_view args)) in
-    let shape : (((code ++ pushes) ++ pos 39 ∷ bytes ∷ []) ++ pos 123 ∷ pos n ∷ []) ++ pos 44 ∷
-    last ∷ []
-    ≡ code ++ (pushes ++ pos 39 ∷ bytes ∷ pos 123 ∷ pos n ∷ pos 44 ∷ last ∷ []) =
+    let shape : (((code ++ pushes) ++ cells (push_const bytes)) ++ cells (call_number n)) ++ cells (move_stk last)
+    ≡ code ++ (pushes ++ (cells (push_const bytes) ++ (cells (call_number n) ++ cells (move_stk last)))) =
     simp append_assoc in
-    s ∙ ap (λ x. x ++ pos 44 ∷ last ∷ []) (r ∙ ap (λ x. x ++ pos 123 ∷ pos n ∷ [])
-    (q ∙ ap (λ x. x ++ pos 39 ∷ bytes ∷ []) p))
+    s ∙ ap (λ x. x ++ cells (move_stk last)) (r ∙ ap (λ z. b ++ cells (with op.SysreqC z)) native ∙ ap (λ x. x ++ cells (call_number n))
+    (q ∙ ap (λ x. x ++ cells (push_const bytes)) p))
     ∙ shape
-    ∙ ap (λ z. code ++ (pushes ++ pos 39 ∷ z ∷ pos 123 ∷ pos n ∷ pos 44 ∷ last ∷ [])) e
-    ∙ ap (λ z. code ++ (pushes ++ pos 39 ∷ pos (4 * count) ∷ pos 123 ∷ pos n ∷ pos 44 ∷ z ∷ [])) f
+    ∙ ap (λ z. code ++ (pushes ++ (cells (push_const z) ++ (cells (call_number n) ++ cells (move_stk last))))) e
+    ∙ ap (λ z. code ++ (pushes ++ (cells (push_const (pos (4 * count))) ++ (cells (call_number n) ++ cells (move_stk z))))) f
     ∙ ap (λ k. code ++ (pushes ++ cells_of (call_code n k))) (counts ∙ sym (count_is args))
     ∙ ap (λ x. code ++ x) (sym (flat_map-append cells (args_code (args_view args)) (call_code n
     (count_of (args_view args)))))

@@ -2,7 +2,8 @@
 use Rattle.std.proofs.Common.{◌≡◌, ◌≢◌, ℕ, pos, [], ◌∷◌, Some, codes, refl, arith, rules}
 use Rattle.std.proofs.lemmas.List.Elements.{All-cons, All-nil}
 use Rattle.pawn_program.specs.Program.{Program, Stmts, Do, Exit, no_stmts, then_stmt, Const, Native, Value, no_args, then_arg}
-use Rattle.gen_straight.specs.Straight.{IsStraight, IsNativeName, main_of}
+use Rattle.pawn_program.specs.Names.{IsName}
+use Rattle.gen_straight.specs.Straight.{IsStraight, main_of}
 use Rattle.gen_straight.specs.Code.{file_of}
 
 -- p(7, 5), then an exit with 3
@@ -14,6 +15,7 @@ call_then_exit =
 
 abbrev small : Program
 small = record {
+  objects = [];
   functions = main_of 0 call_then_exit ∷ [];
   natives = codes "p" ∷ [];
   automata = [];
@@ -34,7 +36,7 @@ code_of_small = refl
 no_zero : (byte : ℕ) → byte ≡ 112 → byte ≢ 0
 no_zero byte e z = absurd (omega (arith, e, z))
 
-name_is_fit : IsNativeName (codes "p")
+name_is_fit : IsName (codes "p")
 name_is_fit = record {
   no_zero = All-cons (λ byte. byte ≢ 0) 112 [] (no_zero 112 refl) (All-nil (λ byte. byte ≢ 0));
   least = omega arith;
@@ -47,14 +49,16 @@ small_is_straight = record {
   tag = 0;
   stmts = call_then_exit;
   room = 4096;
+  objects = refl;
   functions = refl;
+  tag_fits = omega arith;
   straight = ((omega arith, (search rules, (search rules, tt))), ((search rules, refl), tt));
   automata = refl;
   tags = refl;
   publics = refl;
   entry = refl;
   dynamic = refl;
-  names = All-cons IsNativeName (codes "p") [] name_is_fit (All-nil IsNativeName);
+  names = All-cons IsName (codes "p") [] name_is_fit (All-nil IsName);
   names_fit = omega arith;
   memory = omega arith;
 }

@@ -1,31 +1,33 @@
 -- The theorem on the file of a straight program.
-use Rattle.std.proofs.Common.{◌≡◌, inl, inr, ◌<◌, ◌≤◌, ℕ, ℤ, pos, true, false, List, [], ◌∷◌, Some, None, length, slice_get, option_and_then, nat_le, refl, sym, ap, subst, ◌∙◌, arith, le-leb}
+use Rattle.std.proofs.Common.{◌≡◌, inl, inr, ◌<◌, ◌≤◌, ℕ, ℤ, pos, true, false, List, [], ◌∷◌, Option, Some, None, negsuc, if◌then◌else◌, length, slice_get, option_map, nat_le, refl, sym, ap, subst, ◌∙◌, arith, le-leb}
 use Rattle.std.proofs.lemmas.Bool.{lt-leb}
 use Rattle.host_script.specs.declared.script.Script.{Script}
 use Rattle.host_script.specs.declared.event.End.{End}
 use Rattle.host_script.specs.declared.event.End.TheVariants.{Error}
-use Rattle.pawn_program.specs.Program.{Program, Public, Function}
-use Rattle.pawn_meaning.specs.Meaning.{whole}
+use Rattle.pawn_program.specs.Program.{Program, Public}
 use Rattle.pawn_meaning.specs.Run.{Outcome}
 use Rattle.pawn_meaning.specs.World.{Entry}
-use Rattle.pawn_meaning.specs.Told.{meaning, events_of}
+use Rattle.pawn_meaning.specs.Told.{meaning, events_of, scene_of, whole}
 use Rattle.pawn_meaning.proofs.Monotone.{whole_below, whole_grows}
-use Rattle.amx_ops.specs.Runs.{Steps, Over_by, joined}
+use Rattle.amx_ops.specs.Runs.{Traced, Steps, Over_by, joined}
 use Rattle.amx_ops.specs.Moves.{Config, move}
-use Rattle.amx_ops.specs.Trace.{Main, address_of, started, first_state, trace_from}
+use Rattle.pawn_cells.specs.Cells.{equal}
+use Rattle.amx_ops.specs.State.{State}
+use Rattle.amx_ops.specs.Trace.{Main, address_of, loaded, begun, trace_by, trace_from}
+use Rattle.gen_sim.proofs.Start.{Started, starts, fails}
 use Rattle.amx_ops.specs.Trace as trace
 use Rattle.amx_ops.proofs.CutLaws.{joined_cut}
 use Rattle.gen_agrees.specs.Agrees.{function_of}
 use Rattle.gen_agrees.specs.AgreesOn.{Meanings, Mark, is_cut, AgreesOn}
-use Rattle.gen_straight.specs.Straight.{IsStraight, main_of}
-use Rattle.gen_straight.specs.Code.{entry_of, program_code, file_of}
+use Rattle.gen_straight.specs.Straight.{IsStraight}
+use Rattle.gen_straight.specs.Code.{main_code, entry_of, program_code, file_of}
 use Rattle.gen_straight.specs.Theorems.{StraightProgramsAgree}
-use Rattle.gen_straight.proofs.Sim.{wider}
-use Rattle.gen_straight.proofs.Orders.{either}
-use Rattle.gen_straight.proofs.Fronts.{said_more}
-use Rattle.gen_straight.proofs.Marks.{mark_of, marked}
-use Rattle.gen_straight.proofs.Final as final
-use Rattle.gen_straight.proofs.Whole.{main_code, code_is, whole_does}
+use Rattle.gen_sim.proofs.Sim.{wider}
+use Rattle.gen_sim.proofs.Orders.{either}
+use Rattle.gen_sim.proofs.Fronts.{said_more}
+use Rattle.gen_sim.proofs.Marks.{mark_of, marked}
+use Rattle.gen_sim.proofs.Final as final
+use Rattle.gen_straight.proofs.Whole.{code_is, whole_does}
 use Rattle.gen_straight.proofs.Shape.{cells_least, has_shape}
 
 -- ---- the start finds no room
@@ -43,6 +45,7 @@ no_start : (means : Meanings) (cells room bound : ℕ) (c : Config) → room < 2
       stop = Over_by (Error (pos 3));
       config = c;
       bound = bound;
+      steps = 0;
     })
 no_start means cells room bound c h e =
     let told = means 0 in
@@ -80,45 +83,44 @@ no_start means cells room bound c h e =
 
 module _ (program : Program) (straight : IsStraight program) (script : Script) (room bound : ℕ)
     (bounds : List ℕ) where
-  abbrev main : Function
-  main = main_of straight.tag straight.stmts
-
   abbrev size : ℕ
   size = length (file_of program).code
 
   abbrev outs : ℕ → Outcome ⊥
-  outs m = whole (record { program = program; script = script; limit = m }) main
+  outs m = whole (scene_of program script m) 0
 
   instructions : length (main_code straight.stmts) ≤ size
   instructions =
       subst (λ is. length is ≤ size) (code_is program straight) (cells_least (program_code program))
 
-  with_room : 2 ≤ room → AgreesOn (meaning program script main) size room
-      (joined (move (file_of program) script) bound bounds (started (file_of program) room (pos 8)))
-  with_room h =
+  with_room : (st : Started (file_of program) room (pos 8) refl) → AgreesOn (meaning program script 0) size room
+      (joined (move (file_of program) script) bound bounds (begun st.state))
+  with_room st =
       final.agrees (move (file_of program) script) size room
-      (started (file_of program) room (pos 8)) (said_more (file_of program) script)
-      (length program.automata) outs
+      (begun st.state) (said_more (file_of program) script)
+      program outs
       (λ m. wider (move (file_of program) script) size room instructions
-      (whole_does program straight script m size room h))
-      (λ t m least. whole_below t m least program script main)
-      (λ m. whole_grows m m (omega arith) program script main)
-      (joined (move (file_of program) script) bound bounds (started (file_of program) room (pos 8)))
-      (joined_cut (move (file_of program) script) bound bounds
-      (started (file_of program) room (pos 8)))
+      (whole_does program straight script m size room st))
+      (λ t m least. whole_below t m least program script 0)
+      (λ m. whole_grows m m (omega arith) program script 0)
+      (bound ∷ bounds)
+      (joined (move (file_of program) script) bound bounds (begun st.state))
+      (joined_cut (move (file_of program) script) bound bounds (begun st.state))
 
-  from_main : AgreesOn (meaning program script main) size room
+  abbrev traced_by : Option State → Traced Config End
+  traced_by o = trace_by (file_of program) script (loaded (file_of program) room) o bound bounds
+
+  from_main : AgreesOn (meaning program script 0) size room
       (trace_from (file_of program) room script (pos 8) bound bounds)
   from_main = elim (either 2 room) [
-    | inl enough ↦ let e : nat_le 2 room ≡ true = le-leb _ _ enough in rw e (with_room enough)
+    | inl enough ↦
+        let st = starts (file_of program) room (pos 8) refl enough in
+        subst (λ o. AgreesOn (meaning program script 0) size room (traced_by o)) (sym st.is) (with_room st)
     | inr few ↦
-        let e : nat_le 2 room ≡ false = lt-leb _ _ few in
-        rw e (no_start (meaning program script main) size room bound
-        (record {
-          state = first_state (file_of program) room (pos 8);
-          position = 0;
-          events = [];
-        }) few refl)
+        subst (λ o. AgreesOn (meaning program script 0) size room (traced_by o))
+        (sym (fails (file_of program) room (pos 8) refl few))
+        (no_start (meaning program script 0) size room bound
+        (begun (loaded (file_of program) room)) few refl)
   ]
 
 some_is : {A : Type 0} (a b : A) → Some a ≡ Some b → a ≡ b
@@ -127,30 +129,31 @@ some_is a b e = cc
 none_is : {A : Type 0} (a : A) → None ≡ Some a → ⊥
 none_is a e = cc
 
+-- where main is
+abbrev address_by : ℤ → Option ℤ
+address_by address = if equal address (negsuc 0) then None else Some address
+
 runs_by : (program : Program) (straight : IsStraight program) (script : Script) (room : ℕ)
-    (entry : trace.Entry) (function : Function) (address : ℤ) (bound : ℕ) (bounds : List ℕ)
-    → function_of program entry ≡ Some function → address_of (file_of program) entry ≡ Some address
-    → AgreesOn (meaning program script function) (length (file_of program).code) room
+    (entry : trace.Entry) (f : ℕ) (address : ℤ) (bound : ℕ) (bounds : List ℕ)
+    → function_of program entry ≡ Some f → address_of (file_of program) entry ≡ Some address
+    → AgreesOn (meaning program script f) (length (file_of program).code) room
     (trace_from (file_of program) room script address bound bounds)
-runs_by program straight script room Main function address bound bounds f a =
-    let main : Function = main_of straight.tag straight.stmts in
-    let e : function_of program Main ≡ Some main = rw (straight.entry, straight.functions) refl in
-    let same : main ≡ function = some_is main function (sym e ∙ f) in
+runs_by program straight script room Main f address bound bounds e a =
+    let same : 0 ≡ f = some_is 0 f (sym straight.entry ∙ e) in
     let here : pos 8 ≡ address =
-    some_is (pos 8) address (ap (λ o. Some (entry_of o)) (sym straight.entry) ∙ a) in
+    some_is (pos 8) address (ap (λ o. address_by (entry_of o)) (sym straight.entry) ∙ a) in
     subst (λ g. AgreesOn (meaning program script g) (length (file_of program).code) room
     (trace_from (file_of program) room script address bound bounds)) same
-    (subst (λ z. AgreesOn (meaning program script main) (length (file_of program).code) room
+    (subst (λ z. AgreesOn (meaning program script 0) (length (file_of program).code) room
     (trace_from (file_of program) room script z bound bounds)) here
     (from_main program straight script room bound bounds))
-runs_by program straight script room (trace.Public n) function address bound bounds f a =
-    elim (none_is function (subst (λ ps. option_and_then
-    (λ (it : Public). slice_get program.functions it.function)
-    (slice_get ps n) ≡ Some function) straight.publics f)) [ ]
+runs_by program straight script room (trace.Public n) f address bound bounds e a =
+    elim (none_is f (subst (λ ps. option_map (λ (it : Public). it.function) (slice_get ps n) ≡ Some f)
+    straight.publics e)) [ ]
 
 pub straight_programs_agree_lem : StraightProgramsAgree
 straight_programs_agree_lem program straight = record {
   shape = has_shape program straight;
-  runs = λ script room entry function address bound bounds keeps serves within f a.
-      runs_by program straight script room entry function address bound bounds f a;
+  runs = λ script room entry f address bound bounds keeps serves within e a.
+      runs_by program straight script room entry f address bound bounds e a;
 }

@@ -1,5 +1,5 @@
 -- The file of a straight program has the program's shape.
-use Rattle.std.proofs.Common.{◌≡◌, ◌+◌, ◌*◌, ◌%◌, ◌≤◌, inr, ℕ, pos, negsuc, List, [], ◌∷◌, ◌++◌, Some, All, map, length, sum_by, is_some, refl, sym, ap, subst, ◌∙◌, arith, length-append, append_assoc}
+use Rattle.std.proofs.Common.{◌≡◌, ◌+◌, ◌*◌, ◌%◌, ◌≤◌, ℕ, ℤ, pos, negsuc, List, [], ◌∷◌, ◌++◌, Some, None, Bool, true, All, map, length, sum_by, is_some, refl, sym, ap, subst, ◌∙◌, arith, length-append, append_assoc, nat_lt, lt-ltb, ◌==◌, eq-eqb, ◌<◌}
 use Rattle.std.proofs.lemmas.Grind.{flat_map-append}
 use Rattle.std.proofs.lemmas.List.Sums.{sum_by-cons}
 use Rattle.std.proofs.lemmas.List.Elements.{All-cons, All-nil, All-map}
@@ -7,20 +7,24 @@ use Rattle.std.proofs.lemmas.List.{length-map}
 use Rattle.pawn_program.specs.Program.{Expr, Const, Native, Args, no_args, then_arg, Stmt, Block, Do, Exit, Stmts, no_stmts, then_stmt, Program}
 use Rattle.pawn_program.specs.Program as node
 use Rattle.pawn_meaning.specs.Need.{count_of}
-use Rattle.pawn_meaning.specs.Weight.{expr_weight, args_weight, stmt_weight, stmts_weight, function_weight, weight}
+use Rattle.pawn_meaning.specs.Weight.{expr_weight, args_weight, stmt_weight, stmts_weight, function_weight, never, weight}
 use Rattle.amx_ops.specs.declared.op.Op.TheVariants as op
 use Rattle.amx_ops.specs.declared.amx.Record.{Record}
-use Rattle.amx_ops.specs.Instructions.{Placed, placed}
-use Rattle.amx_ops.specs.Valid.{IsValidOperand, IsValid}
+use Rattle.amx_ops.specs.Instructions.{instr, Placed, placed, is_start}
+use Rattle.amx_ops.specs.Valid.{Entry, unless, or_else, main_fault, piece_fault, IsValid}
+use Rattle.amx_ops.proofs.Rows.{size_is, takes, acts_as}
+use Rattle.gen_sim.proofs.GoodCode.{IsGood, AreGood, good_on, piece_is_good}
+use Rattle.gen_straight.proofs.PlainCode.{main_plain}
 use Rattle.amx_ops.specs.Writable.{names_size, IsWritableName, IsWritable}
-use Rattle.gen_agrees.specs.Shape.{names, last_of, HasShape}
+use Rattle.gen_agrees.specs.Shape.{last_of, HasShape}
 use Rattle.gen_straight.specs.Straight.{AreConstants, IsConstant, IsStraightCall, IsStraightStmt, AreStraight, IsStraight}
-use Rattle.gen_straight.specs.declared.instruction.Instruction.{Instruction}
-use Rattle.gen_straight.specs.declared.instruction.Instruction.TheVariants.{PushC, Proc, Retn, ZeroPri, ZeroAlt, Halt}
-use Rattle.gen_straight.specs.Code.{cells, cells_of, args_code, call_code, expr_code, stmt_code, stmts_code, native_record, room_of, program_code, file_of}
-use Rattle.gen_straight.specs.declared.instruction.Instruction.TheVariants as code
-use Rattle.gen_straight.proofs.Lie.{read_as, next, past, placed_at, placed_all, placed_is, takes}
-use Rattle.gen_straight.proofs.Whole.{main_code, code_is, all_lie}
+use Rattle.amx_ops.specs.Instructions.{Instruction}
+use Rattle.gen_straight.specs.Code.{args_code, call_code, expr_code, stmt_code, stmts_code, room_of, program_code, main_code, entry_of, file_of}
+use Rattle.gen_agrees.specs.Shape.{native_record}
+use Rattle.gen_sim.specs.Cells.{cells_of, begin_frame, call_number, clear_alt, clear_pri, end_frame, halt_with, load_const, move_stk, push_const}
+use Rattle.amx_ops.specs.Instructions.{cells}
+use Rattle.gen_sim.proofs.Lie.{next, past, placed_at, placed_all, placed_is}
+use Rattle.gen_straight.proofs.Whole.{code_is, all_lie}
 
 -- ---- cells
 
@@ -29,49 +33,40 @@ pub cells-append : (is js : List Instruction)
 cells-append is js =
     ap length (flat_map-append cells is js) ∙ length-append (cells_of is) (cells_of js)
 
-size_of : (i : Instruction) → length (cells i) ≡ (read_as i).size
-size_of (code.ConstPri v) = refl
-size_of (PushC v) = refl
-size_of (code.Stack v) = refl
-size_of Proc = refl
-size_of Retn = refl
-size_of ZeroPri = refl
-size_of ZeroAlt = refl
-size_of (Halt v) = refl
-size_of (code.SysreqC n) = refl
-
 pub cells_least : (is : List Instruction) → length is ≤ length (cells_of is)
 cells_least [] = omega arith
 cells_least (i ∷ is) =
-    omega (arith, cells_least is, length-append (cells i) (cells_of is), size_of i, takes i)
+    omega (arith, cells_least is, length-append (cells i) (cells_of is), size_is i, takes i)
 
 args_cells : (args : Args) → AreConstants args
-    → length (cells_of (args_code args)) ≤ args_weight args
+    → length (cells_of (args_code args)) ≤ args_weight never args
 args_cells no_args h = omega arith
 args_cells (then_arg (node.Value (Const v)) args) h =
-    omega (arith, args_cells args h.1, cells-append (args_code args) (PushC v ∷ []))
-args_cells (then_arg (node.Value (Native n others)) args) h = elim h.0 [ ]
+    omega (arith, args_cells args h.1, cells-append (args_code args) (push_const v ∷ []))
+args_cells (then_arg (node.Value e) args) h = elim h.0 [ ]
+args_cells (then_arg a args) h = elim h.0 [ ]
 
 call_cells : (natives : ℕ) (e : Expr) → IsStraightCall natives e
-    → length (cells_of (expr_code e)) ≤ expr_weight e
-call_cells natives (Const v) h = elim h [ ]
+    → length (cells_of (expr_code e)) ≤ expr_weight never e
 call_cells natives (Native n args) h =
     omega (arith, args_cells args h.1, cells-append (args_code args) (call_code n (count_of args)))
+call_cells natives e h = elim h [ ]
 
 exit_cells : (e : Expr) (tag : ℕ) → IsConstant e
-    → length (cells_of (stmt_code (Exit e tag))) ≤ stmt_weight (Exit e tag)
+    → length (cells_of (stmt_code (Exit e tag))) ≤ stmt_weight never (Exit e tag)
 exit_cells (Const v) tag h = omega arith
-exit_cells (Native n args) tag h = elim h [ ]
+exit_cells e tag h = elim h [ ]
 
 mutual
   stmt_cells : (natives : ℕ) (s : Stmt) → IsStraightStmt natives s
-      → length (cells_of (stmt_code s)) ≤ stmt_weight s
+      → length (cells_of (stmt_code s)) ≤ stmt_weight never s
   stmt_cells natives (Block stmts) h = omega (arith, stmts_cells natives stmts h)
   stmt_cells natives (Do e) h = omega (arith, call_cells natives e h)
   stmt_cells natives (Exit e tag) h = exit_cells e tag h.0
+  stmt_cells natives s h = elim h [ ]
 
   stmts_cells : (natives : ℕ) (stmts : Stmts) → AreStraight natives stmts
-      → length (cells_of (stmts_code stmts)) ≤ stmts_weight stmts
+      → length (cells_of (stmts_code stmts)) ≤ stmts_weight never stmts
   stmts_cells natives no_stmts h = omega arith
   stmts_cells natives (then_stmt s stmts) h =
       omega (
@@ -85,8 +80,8 @@ mutual
 pub code_cells : (program : Program) (straight : IsStraight program)
     → length (cells_of (program_code program)) ≤ weight program + 2
 code_cells program straight =
-    let all : weight program ≡ 40 + stmts_weight straight.stmts =
-    ap (sum_by function_weight) straight.functions ∙ omega arith in
+    let all : weight program ≡ 40 + stmts_weight never straight.stmts =
+    ap (sum_by (function_weight never)) straight.functions ∙ omega arith in
     let same : length (cells_of (program_code program)) ≡ length (cells_of (main_code
     straight.stmts)) = ap (λ is. length (cells_of is)) (code_is program straight) in
     omega (
@@ -96,77 +91,75 @@ code_cells program straight =
       stmts_cells
           (length program.natives) straight.stmts straight.straight,
       cells-append
-          (stmts_code straight.stmts) (ZeroPri ∷ Retn ∷ []),
+          (stmts_code straight.stmts) (clear_pri ∷ end_frame ∷ []),
     )
 
 -- ---- valid code
 
-sizes : (p : ℕ) (is : List Instruction) → sum_by (λ (it : Placed). it.instruction.size)
-    (placed_all p is) ≡ length (cells_of is)
-sizes p [] = refl
-sizes p (i ∷ is) =
-    sum_by-cons (λ (it : Placed). it.instruction.size) (placed_at p i) (placed_all (next p i) is)
-    ∙ omega (arith, sizes (next p i) is, size_of i, length-append (cells i) (cells_of is))
+-- any operand will do
+any_const : (natives : ℕ) (v : ℤ) → IsGood natives (push_const v)
+any_const natives v = record { operand = λ at. refl; still = λ starts begin code it. refl }
 
-abbrev IsGood : ℕ → List Instruction → Type 0
-IsGood natives [] = Unit {0}
-IsGood natives (i ∷ is) =
-    IsValidOperand natives (read_as i).kind (read_as i).operand × IsGood natives is
+clears : (natives : ℕ) → IsGood natives clear_alt
+clears natives = record { operand = λ at. refl; still = λ starts begin code it. refl }
 
-abbrev IsGoodPlaced : ℕ → Placed → Type 0
-IsGoodPlaced natives it = IsValidOperand natives it.instruction.kind it.instruction.operand
+halts : (natives : ℕ) (v : ℤ) → IsGood natives (halt_with v)
+halts natives v = record { operand = λ at. refl; still = λ starts begin code it. refl }
 
-good_placed : (natives p : ℕ) (is : List Instruction) → IsGood natives is
-    → All (IsGoodPlaced natives) (placed_all p is)
-good_placed natives p [] g = All-nil (IsGoodPlaced natives)
-good_placed natives p (i ∷ is) g =
-    All-cons (IsGoodPlaced natives) (placed_at p i) (placed_all (next p i) is) g.0
-    (good_placed natives (next p i) is g.1)
+loads : (natives : ℕ) (v : ℤ) → IsGood natives (load_const v)
+loads natives v = record { operand = λ at. refl; still = λ starts begin code it. refl }
 
-good_on : (natives : ℕ) (is js : List Instruction) → IsGood natives is → IsGood natives js
-    → IsGood natives (is ++ js)
-good_on natives [] js a b = b
-good_on natives (i ∷ is) js a b = (a.0, good_on natives is js a.1 b)
+calls : (natives n : ℕ) → n < natives → IsGood natives (call_number n)
+calls natives n h =
+    let e : nat_lt n natives ≡ true = lt-ltb _ _ h in
+    record { operand = λ at. rw e refl; still = λ starts begin code it. refl }
 
-good_args : (natives : ℕ) (args : Args) → AreConstants args → IsGood natives (args_code args)
+moves : (natives n : ℕ) → n % 4 ≡ 0 → IsGood natives (move_stk (pos n))
+moves natives n h =
+    let e : (n % 4 == 0) ≡ true = eq-eqb _ _ h in
+    record { operand = λ at. rw e refl; still = λ starts begin code it. refl }
+
+ends : (natives : ℕ) → AreGood natives (clear_pri ∷ end_frame ∷ [])
+ends natives = (
+  record { operand = λ at. refl; still = λ starts begin code it. refl },
+  (record { operand = λ at. refl; still = λ starts begin code it. refl }, tt),
+)
+
+good_args : (natives : ℕ) (args : Args) → AreConstants args → AreGood natives (args_code args)
 good_args natives no_args h = tt
 good_args natives (then_arg (node.Value (Const v)) args) h =
-    good_on natives (args_code args) (PushC v ∷ []) (good_args natives args h.1) (tt, tt)
-good_args natives (then_arg (node.Value (Native n others)) args) h = elim h.0 [ ]
+    good_on natives (args_code args) (push_const v ∷ []) (good_args natives args h.1) (any_const natives v, tt)
+good_args natives (then_arg (node.Value e) args) h = elim h.0 [ ]
+good_args natives (then_arg a args) h = elim h.0 [ ]
 
-good_call : (natives : ℕ) (e : Expr) → IsStraightCall natives e → IsGood natives (expr_code e)
-good_call natives (Const v) h = elim h [ ]
+good_call : (natives : ℕ) (e : Expr) → IsStraightCall natives e → AreGood natives (expr_code e)
 good_call natives (Native n args) h =
-    let multiple : (4 * count_of args + 4) % 4 ≡ 0 = omega arith in
     good_on natives (args_code args) (call_code n (count_of args)) (good_args natives args h.1)
-    (tt, (h.0, (multiple, tt)))
+    (any_const natives (pos (4 * count_of args)), (calls natives n h.0, (moves natives (4 * count_of args + 4) (omega arith), tt)))
+good_call natives e h = elim h [ ]
 
-good_exit : (natives : ℕ) (e : Expr) (tag : ℕ) → IsConstant e
-    → IsGood natives (stmt_code (Exit e tag))
-good_exit natives (Const v) tag h = (tt, (tt, (tt, tt)))
-good_exit natives (Native n args) tag h = elim h [ ]
+good_exit : (natives : ℕ) (e : Expr) (tag : ℕ) → IsConstant e → AreGood natives (stmt_code (Exit e tag))
+good_exit natives (Const v) tag h = (loads natives v, (clears natives, (halts natives (pos 1), tt)))
+good_exit natives e tag h = elim h [ ]
 
 mutual
-  good_stmt : (natives : ℕ) (s : Stmt) → IsStraightStmt natives s → IsGood natives (stmt_code s)
+  good_stmt : (natives : ℕ) (s : Stmt) → IsStraightStmt natives s → AreGood natives (stmt_code s)
   good_stmt natives (Block stmts) h = good_stmts natives stmts h
   good_stmt natives (Do e) h = good_call natives e h
   good_stmt natives (Exit e tag) h = good_exit natives e tag h.0
+  good_stmt natives s h = elim h [ ]
 
-  good_stmts : (natives : ℕ) (stmts : Stmts) → AreStraight natives stmts
-      → IsGood natives (stmts_code stmts)
+  good_stmts : (natives : ℕ) (stmts : Stmts) → AreStraight natives stmts → AreGood natives (stmts_code stmts)
   good_stmts natives no_stmts h = tt
   good_stmts natives (then_stmt s stmts) h =
-      good_on natives (stmt_code s) (stmts_code stmts) (good_stmt natives s h.0)
-      (good_stmts natives stmts h.1)
+      good_on natives (stmt_code s) (stmts_code stmts) (good_stmt natives s h.0) (good_stmts natives stmts h.1)
 
-good_main : (natives : ℕ) (stmts : Stmts) → AreStraight natives stmts
-    → IsGood natives (main_code stmts)
+good_main : (natives : ℕ) (stmts : Stmts) → AreStraight natives stmts → AreGood natives (main_code stmts)
 good_main natives stmts h = (
-  tt,
+  halts natives (pos 0),
   (
-    tt,
-    good_on natives (stmts_code stmts) (ZeroPri ∷ Retn ∷ [])
-        (good_stmts natives stmts h) (tt, (tt, tt)),
+    record { operand = λ at. refl; still = λ starts begin code it. refl },
+    good_on natives (stmts_code stmts) (clear_pri ∷ end_frame ∷ []) (good_stmts natives stmts h) (ends natives),
   ),
 )
 
@@ -174,25 +167,29 @@ pub placed_main : (program : Program) (straight : IsStraight program)
     → placed (cells_of (program_code program)) ≡ placed_all 0 (main_code straight.stmts)
 placed_main program straight =
     ap (λ is. placed (cells_of is)) (code_is program straight)
-    ∙ placed_is 0 (main_code straight.stmts)
+    ∙ placed_is 0 (main_code straight.stmts) (main_plain straight.stmts)
+
+piece_is : (program : Program) (straight : IsStraight program) (starts : ℕ → Bool)
+    → piece_fault (length (map native_record program.natives)) starts 0 (cells_of (program_code program)) ≡ None
+piece_is program straight starts =
+    let natives : ℕ = length (map native_record program.natives) in
+    ap (λ is. piece_fault natives starts 0 (cells_of is)) (code_is program straight)
+    ∙ piece_is_good natives starts 0 (main_code straight.stmts) (main_plain straight.stmts)
+    (good_main natives straight.stmts (subst (λ n. AreStraight n straight.stmts)
+    (sym (length-map program.natives native_record)) straight.straight))
+
+main_starts : (program : Program) (straight : IsStraight program) → main_fault (file_of program).code (file_of program).entry ≡ None
+main_starts program straight =
+    let e : is_start (file_of program).code 8 ≡ true = ap is_some (all_lie program straight).1.0 in
+    ap (λ o. main_fault (file_of program).code (entry_of o)) straight.entry
+    ∙ ap (λ b. unless b (Entry (negsuc 0))) e
 
 is_valid : (program : Program) (straight : IsStraight program)
     → IsValid (file_of program).code (length (file_of program).natives) (file_of program).entry []
-is_valid program straight = record {
-  whole =
-      ap (sum_by (λ (it : Placed). it.instruction.size)) (placed_main program straight)
-      ∙ sizes 0 (main_code straight.stmts)
-      ∙ ap (λ is. length (cells_of is)) (sym (code_is program straight));
-  operands =
-      subst (λ its. All (IsGoodPlaced (length (map native_record program.natives))) its)
-      (sym (placed_main program straight))
-      (good_placed (length (map native_record program.natives)) 0 (main_code straight.stmts)
-      (good_main (length (map native_record program.natives)) straight.stmts
-      (subst (λ n. AreStraight n straight.stmts)
-      (sym (length-map program.natives native_record)) straight.straight)));
-  entry_starts = inr (rw straight.entry (ap is_some (all_lie program straight).1.0));
-  publics_start = All-nil _;
-}
+is_valid program straight =
+    ap (λ o. or_else o (or_else (main_fault (file_of program).code (file_of program).entry) None))
+    (piece_is program straight (is_start (file_of program).code))
+    ∙ ap (λ o. or_else o None) (main_starts program straight)
 
 -- ---- the last instruction
 
@@ -205,21 +202,17 @@ last_one p (j ∷ k ∷ is) i = last_one (next p j) (k ∷ is) i
 last_is_retn : (program : Program) (straight : IsStraight program)
     → last_of (placed (file_of program).code) ≡ Some
     (placed_at
-    (past 0 (Halt (pos 0) ∷ Proc ∷ (stmts_code straight.stmts ++ ZeroPri ∷ []))) Retn)
+    (past 0 (halt_with (pos 0) ∷ begin_frame ∷ (stmts_code straight.stmts ++ clear_pri ∷ []))) end_frame)
 last_is_retn program straight =
     ap last_of (placed_main program straight)
-    ∙ ap (λ is. last_of (placed_all 0 (Halt (pos 0) ∷ Proc ∷ is)))
-    (sym (append_assoc (stmts_code straight.stmts) (ZeroPri ∷ []) (Retn ∷ [])))
-    ∙ last_one 0 (Halt (pos 0) ∷ Proc ∷ (stmts_code straight.stmts ++ ZeroPri ∷ [])) Retn
+    ∙ ap (λ is. last_of (placed_all 0 (halt_with (pos 0) ∷ begin_frame ∷ is)))
+    (sym (append_assoc (stmts_code straight.stmts) (clear_pri ∷ []) (end_frame ∷ [])))
+    ∙ last_one 0 (halt_with (pos 0) ∷ begin_frame ∷ (stmts_code straight.stmts ++ clear_pri ∷ [])) end_frame
 
-retn_is_no_halt : op.Retn ≡ op.Halt → ⊥
+retn_is_no_halt : Some op.Retn ≡ Some op.Halt → ⊥
 retn_is_no_halt e = cc
 
 -- ---- writable files
-
-names_are : (natives : List (List ℕ)) → names (map native_record natives) ≡ natives
-names_are [] = refl
-names_are (name ∷ natives) = ap (λ others. name ∷ others) (names_are natives)
 
 records_size : (natives : List (List ℕ))
     → 8 * length natives + names_size (map native_record natives) ≡ sum_by
@@ -263,7 +256,7 @@ pub has_shape : (program : Program) (straight : IsStraight program)
 has_shape program straight = record {
   writable = is_writable program straight;
   valid = is_valid program straight;
-  natives = names_are program.natives;
+  natives = refl;
   publics = rw straight.publics refl;
   tags = rw straight.tags refl;
   no_libraries = refl;
@@ -274,7 +267,7 @@ has_shape program straight = record {
   room = rw straight.dynamic refl;
   code = code_cells program straight;
   store = omega arith;
-  last_is_no_sleep = rw (last_is_retn program straight) (λ sleep. retn_is_no_halt sleep.0);
+  last_is_no_sleep = rw (last_is_retn program straight) (λ sleep. retn_is_no_halt (sym (acts_as end_frame) ∙ sleep.0));
 }
   where
     entry_clash : pos 8 ≡ negsuc 0 → ⊥

@@ -1,32 +1,36 @@
 -- The file of a straight program does what the whole program means.
-use Rattle.std.proofs.Common.{◌≡◌, ◌+◌, ◌-◌, ◌≤◌, ℕ, zero, suc, ℤ, pos, List, [], ◌∷◌, ◌++◌, map, length, replicate, is_some, slice_get, unwrap_or, refl, sym, ap, ◌∙◌, arith, length-append, append-nil}
+use Rattle.std.proofs.Common.{◌≡◌, ◌+◌, ◌-◌, ◌≤◌, ℕ, zero, suc, ℤ, pos, List, [], ◌∷◌, ◌++◌, map, length, replicate, is_some, slice_get, unwrap_or, Some, refl, sym, ap, subst, ◌∙◌, arith, length-append, append-nil}
 use Rattle.std.proofs.lemmas.List.{drop-replicate, length-replicate}
 use Rattle.host_script.specs.declared.script.Script.{Script}
 use Rattle.host_script.specs.declared.event.End.{End}
 use Rattle.host_script.specs.declared.event.End.TheVariants as end
-use Rattle.pawn_program.specs.Program.{Stmts, Program, Function}
+use Rattle.pawn_program.specs.Program.{Stmt, Stmts, Program, Function}
+use Rattle.pawn_meaning.specs.Memory.{Frame, needs_of}
 use Rattle.pawn_meaning.specs.World.{World, first_world, entered, left, but_first}
 use Rattle.pawn_meaning.specs.Run.{Outcome, Gives, Stops, Run, then_do, give, stop}
 use Rattle.pawn_meaning.specs.Need.{need}
-use Rattle.pawn_meaning.specs.Meaning.{Way, Scene, Fewer, run_all, value_of, nested, whole}
-use Rattle.pawn_meaning.proofs.Grows.{Later, world_of, same_later, after_grows, give_grows, stop_grows, leave_grows}
+use Rattle.pawn_meaning.specs.Calls.{Way, value_of, frame_of}
+use Rattle.pawn_meaning.specs.Meaning.{Scene, Fewer, run_all}
+use Rattle.pawn_meaning.specs.Told.{nested, scene_of, entry_or_stray, whole}
+use Rattle.pawn_meaning.proofs.Monotone.{nested_up}
+use Rattle.pawn_meaning.proofs.Grows.{Later, world_of, Grows, same_later, after_grows, give_grows, stop_grows, leave_grows}
 use Rattle.amx_ops.specs.Runs.{Moved}
 use Rattle.amx_ops.specs.Moves.{Config, move}
 use Rattle.amx_ops.specs.Moves as moves
-use Rattle.amx_ops.specs.Trace.{started}
-use Rattle.gen_straight.specs.Straight.{IsStraight, main_of}
-use Rattle.gen_straight.specs.declared.instruction.Instruction.{Instruction}
-use Rattle.gen_straight.specs.declared.instruction.Instruction.TheVariants.{Proc, Retn, ZeroPri, Halt}
-use Rattle.gen_straight.specs.Code.{stmts_code, program_code, native_record, file_of}
-use Rattle.gen_straight.proofs.Lie.{past, Lies, lies, lies_first, lies_rest}
-use Rattle.gen_straight.proofs.Sim.{nothing, Does, stays, gives, stops, reach_after, in_turn, size_is}
-use Rattle.gen_straight.proofs.Stands.{At}
-use Rattle.gen_straight.proofs.Steps.{zero_pri_does, done_does, proc_does, retn_does}
+use Rattle.amx_ops.specs.Trace.{begun}
+use Rattle.gen_straight.specs.Straight.{IsStraight, main_of, body_of}
+use Rattle.amx_ops.specs.Instructions.{Instruction}
+use Rattle.gen_straight.specs.Code.{main_code, stmts_code, program_code, file_of}
+use Rattle.gen_agrees.specs.Shape.{native_record}
+use Rattle.gen_sim.proofs.Start.{Started}
+use Rattle.gen_straight.proofs.PlainCode.{main_plain}
+use Rattle.gen_sim.proofs.Lie.{ArePlain, past, Lies, lies, lies_first, lies_rest}
+use Rattle.gen_sim.specs.Does.{nothing, Does}
+use Rattle.gen_sim.proofs.Sim.{stays, gives, stops, reach_after, in_turn, size_is}
+use Rattle.gen_sim.proofs.Stands.{At}
+use Rattle.gen_sim.proofs.Steps.{zero_pri_does, done_does, proc_does, retn_does}
 use Rattle.gen_straight.proofs.Statements.{Passed, stmts_grow, stmts_does}
-
--- the code of a main of these statements
-abbrev pub main_code : Stmts → List Instruction
-main_code stmts = Halt (pos 0) ∷ Proc ∷ (stmts_code stmts ++ (ZeroPri ∷ Retn ∷ []))
+use Rattle.gen_sim.specs.Cells.{begin_frame, clear_pri, end_frame, halt_with}
 
 pub code_is : (program : Program) (straight : IsStraight program)
     → program_code program ≡ main_code straight.stmts
@@ -43,6 +47,7 @@ pub all_lie : (program : Program) (straight : IsStraight program)
     → Lies (file_of program).code 0 (main_code straight.stmts)
 all_lie program straight =
     lies (program_code program) [] (main_code straight.stmts) []
+    (subst ArePlain (sym (code_is program straight)) (main_plain straight.stmts))
     (code_is program straight ∙ sym (append-nil (main_code straight.stmts)))
 
 -- what a body leaves behind: 0, at an address
@@ -50,6 +55,10 @@ pub record Returns (room frm : ℕ) (ns : List ℕ) (stack : List ℤ) (p : ℕ)
     (c : Config) : Type 0 where
   pub is_zero : v ≡ pos 0
   pub stands : At room frm ns stack p w c
+
+needs_left : (n : ℕ) (frames : List Frame) → needs_of frames ≡ n ∷ [] → needs_of (but_first frames) ≡ []
+needs_left n [] e = absurd (cc)
+needs_left n (frame ∷ frames) e = cc
 
 pub left_at : (room frm n : ℕ) (stack : List ℤ) (p : ℕ) (w : World) (c : Config)
     → At room frm (n ∷ []) stack p w c → At room frm [] stack p (left w) c
@@ -59,13 +68,25 @@ left_at room frm n stack p w c a = record {
   frame = a.frame;
   said = a.said;
   position = a.position;
-  needs = ap but_first a.needs;
+  needs = needs_left n w.memory.frames a.needs;
   high = omega arith;
   at = a.at;
 }
 
+-- the run of main, whose function is the program's first
+abbrev pub main_run : Program → ℕ → Stmts → Script → ℕ → Outcome ⊥
+main_run program tag stmts script limit =
+    entry_or_stray (scene_of program script limit) 0 (Some (main_of tag stmts)) (first_world program)
+
+pub main_is : (program : Program) (straight : IsStraight program) (script : Script) (limit : ℕ)
+    → whole (scene_of program script limit) 0 ≡ main_run program straight.tag straight.stmts script limit
+main_is program straight script limit =
+    ap (λ functions. entry_or_stray (scene_of program script limit) 0 (slice_get functions 0)
+    (first_world program)) straight.functions
+
 module _ (program : Program) (straight : IsStraight program) (script : Script)
-    (limit cells room : ℕ) (h : 2 ≤ room) where
+    (limit cells room : ℕ)
+    (st : Started (file_of program) room (pos 8) refl) where
   abbrev mv : Config → Moved Config End
   mv = move (file_of program) script
 
@@ -81,33 +102,31 @@ module _ (program : Program) (straight : IsStraight program) (script : Script)
   abbrev live : List ℕ
   live = need main ∷ []
 
-  abbrev begun : World
-  begun = entered (need main) (first_world (length program.automata))
+  abbrev fewer : Fewer
+  fewer = nested scene limit
 
-  first_at : At room 0 live (pos 0 ∷ pos 0 ∷ []) 8 begun (started (file_of program) room (pos 8))
-  first_at =
-      let two : room - (room - 2) ≡ 2 = omega (arith, h) in
-      record {
-        mem = record {
-          free = room - 2;
-          stk = omega arith;
-          hea = refl;
-          held = drop-replicate (room - 2) room (pos 0) ∙ ap (λ n. replicate n (pos 0)) two;
-          size = length-replicate room (pos 0) ∙ omega (arith, h);
-        };
-        cells_are = length-replicate room (pos 0);
-        frame = refl;
-        said = refl;
-        position = refl;
-        needs = refl;
-        high = omega arith;
-        at = refl;
-      }
+  grow : (s : Stmt) → Grows (fewer s)
+  grow s = (nested_up limit limit (omega arith) program script limit limit (omega arith) s).low
+
+  abbrev first_one : World
+  first_one = entered (frame_of 0 main [] (Some (body_of stmts))) (first_world program)
+
+  first_at : At room 0 live (pos 0 ∷ pos 0 ∷ []) 8 first_one (begun st.state)
+  first_at = record {
+    mem = st.mem;
+    cells_are = st.cells;
+    frame = st.frm;
+    said = refl;
+    position = refl;
+    needs = refl;
+    high = omega arith;
+    at = st.cip;
+  }
 
   -- the end of main
   ends : (f p : ℕ) (v : ℤ) (w : World) (c : Config)
       → Returns room f [] (pos 0 ∷ pos 0 ∷ pos 0 ∷ []) p v w c
-      → Lies (file_of program).code p (ZeroPri ∷ Retn ∷ [])
+      → Lies (file_of program).code p (clear_pri ∷ end_frame ∷ [])
       → Does mv cells room 3 w.turns c (Stops (end.Done v) w) nothing
   ends f p v w c b l =
       let r =
@@ -122,37 +141,36 @@ module _ (program : Program) (straight : IsStraight program) (script : Script)
       rw b.is_zero (stops mv cells room {e = end.Done (pos 0)}
       (reach_after mv cells room r (reach_after mv cells room q x)))
 
-  pub whole_does : Does mv cells room (length (main_code stmts)) 0
-      (started (file_of program) room (pos 8)) (whole scene main) nothing
-  whole_does =
-      let fewer : Fewer = nested scene limit in
+  main_does : Does mv cells room (length (main_code stmts)) 0
+      (begun st.state) (main_run program straight.tag stmts script limit) nothing
+  main_does =
       let stack : List ℤ = pos 0 ∷ pos 0 ∷ pos 0 ∷ [] in
       let p : ℕ = past 12 (stmts_code stmts) in
-      let body : Outcome Way = run_all scene fewer stmts begun in
+      let body : Outcome Way = run_all scene fewer stmts first_one in
       let go1 : Way → Run ℤ = λ way. give (value_of way) in
       let go2 : ℤ → Run ℤ = λ v w. Gives v (left w) in
       let go3 : ℤ → Run ⊥ = λ v. stop (end.Done v) in
-      let l : Later begun (world_of (whole scene main)) =
-      (after_grows (after_grows (after_grows (stmts_grow program script limit fewer stmts)
+      let l : Later first_one (world_of (main_run program straight.tag stmts script limit)) =
+      (after_grows (after_grows (after_grows (stmts_grow program script limit fewer grow stmts)
       (λ way. give_grows (value_of way)))
       (λ v. after_grows leave_grows (λ d. give_grows v)))
-      (λ v. stop_grows (end.Done v))).at begun in
+      (λ v. stop_grows (end.Done v))).at first_one in
       let count : ℕ = length (stmts_code stmts) in
       let size : 1 + (count + 0 + 0 + 3) ≡ length (main_code stmts) =
-      omega (arith, length-append (stmts_code stmts) (ZeroPri ∷ Retn ∷ [])) in
+      omega (arith, length-append (stmts_code stmts) (clear_pri ∷ end_frame ∷ [])) in
       size_is mv cells room size
-      (proc_does (file_of program) script cells room 0 live (pos 0 ∷ pos 0 ∷ []) 8 begun
-      (started (file_of program) room (pos 8)) first_at {d = count + 0 + 0 + 3}
-      (whole scene main) l (all_lie program straight).1.0 (omega arith)
+      (proc_does (file_of program) script cells room 0 live (pos 0 ∷ pos 0 ∷ []) 8 first_one
+      (begun st.state) first_at {d = count + 0 + 0 + 3}
+      (main_run program straight.tag stmts script limit) l (all_lie program straight).1.0 (omega arith)
       (λ f t a.
       in_turn mv cells room (then_do (then_do body go1) go2) go3
       (λ v w x. Returns room f [] stack p v w x) (λ v w. same_later w)
       (in_turn mv cells room (then_do body go1) go2 (λ v w x. Returns room f live stack p v w x)
       (λ v w. (leave_grows).at w)
       (in_turn mv cells room body go1 (Passed room f live stack p) (λ way w. same_later w)
-      (stmts_does program script limit fewer (file_of program) cells room
-      (names_are program.natives) f live stack stmts 12 begun t straight.straight a
-      (lies_first (file_of program).code 12 (stmts_code stmts) (ZeroPri ∷ Retn ∷ [])
+      (stmts_does program script limit fewer grow (file_of program) cells room
+      (names_are program.natives) f live stack stmts 12 first_one t straight.straight a
+      (lies_first (file_of program).code 12 (stmts_code stmts) (clear_pri ∷ end_frame ∷ [])
       (all_lie program straight).1.1) (omega arith))
       (λ way w x b. gives mv cells room (stays mv cells room x w b.stands.said
       (record { is_zero = ap value_of b.through; stands = b.stands }))))
@@ -163,4 +181,9 @@ module _ (program : Program) (straight : IsStraight program) (script : Script)
             (need main) stack p w x b.stands;
       }))))
       (λ v w x b. ends f p v w x b (lies_rest (file_of program).code 12 (stmts_code stmts)
-      (ZeroPri ∷ Retn ∷ []) (all_lie program straight).1.1))))
+      (clear_pri ∷ end_frame ∷ []) (all_lie program straight).1.1))))
+
+  pub whole_does : Does mv cells room (length (main_code stmts)) 0
+      (begun st.state) (whole scene 0) nothing
+  whole_does = subst (λ o. Does mv cells room (length (main_code stmts)) 0
+      (begun st.state) o nothing) (sym (main_is program straight script limit)) main_does

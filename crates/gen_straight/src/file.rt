@@ -1,7 +1,9 @@
 ghost use Rattle.std.specs.Prelude.{◌≡◌, IfOk, map};
+ghost use Rattle.pawn_program.specs.Valid.{IsValid};
 ghost use Rattle.pawn_program.specs.View.{program_view};
 ghost use Rattle.gen_agrees.specs.Agrees.{Agrees};
-ghost use Rattle.gen_straight.specs.Code.{entry_of, room_of, native_record, file_of};
+ghost use Rattle.gen_straight.specs.Code.{entry_of, room_of, file_of};
+ghost use Rattle.gen_agrees.specs.Shape.{native_record};
 ghost use Rattle.gen_straight.specs.Straight.{IsStraight};
 
 use super::emit::emit_program;
@@ -12,7 +14,8 @@ use std::alloc::Global;
 
 /// The file of a straight program: whatever it does is what the program means.
 pub fn generate(alloc: Global, program: &Program) -> Result<Amx, Memory>
-    requires { IsStraight (program_view program.now) }
+    requires valid { IsValid (program_view program.now) }
+    requires straight { IsStraight (program_view program.now) }
     ensures agrees { IfOk result (λ amx. Agrees (program_view program.now) amx) }
     ensures file { IfOk result (λ amx. amx ≡ file_of (program_view program.now)) }
 {

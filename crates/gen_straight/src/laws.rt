@@ -1,4 +1,4 @@
-ghost use Rattle.gen_straight.specs.Theorems.{StraightProgramsAgree, StraightProgramsEnd};
+ghost use Rattle.gen_straight.specs.Theorems.{StraightProgramsAgree, StraightProgramsAreValid, StraightProgramsEnd};
 
 /// The file of a straight program agrees with it: its shape, and in each room and under each script
 /// its events, its end, its use of the stack and its steps.
@@ -11,4 +11,9 @@ pub fn straight_programs_agree()
 #[tactic(auto, using(crate::proofs::Plain::straight_programs_end_lem))]
 pub fn straight_programs_end()
     ensures { StraightProgramsEnd }
+{}
+
+/// A straight program is valid.
+pub fn straight_programs_are_valid()
+    ensures { StraightProgramsAreValid }
 {}

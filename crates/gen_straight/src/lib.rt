@@ -4,8 +4,7 @@
 
 mod emit;
 mod file;
-mod instruction;
 mod laws;
 
 pub use file::generate;
-pub use laws::{straight_programs_agree, straight_programs_end};
+pub use laws::{straight_programs_agree, straight_programs_are_valid, straight_programs_end};

@@ -8,7 +8,7 @@ use Rattle.amx_ops.specs.State.{State}
 use Rattle.std.proofs.lemmas.Bool.{ne_eqb}
 use Rattle.std.proofs.lemmas.Int.{to_z-of_z}
 use Rattle.host_script.specs.declared.event.End.TheVariants as end
-use Rattle.amx_ops.specs.Instructions.{is_number}
+use Rattle.amx_ops.specs.Table.{is_number}
 use Rattle.host_script.specs.declared.script.Script.{Script}
 use Rattle.amx_ops.specs.declared.amx.Amx.{Amx}
 use Rattle.amx_ops.specs.Step.{step}
@@ -73,15 +73,15 @@ abbrev pub from : Amx → Script → State → Config → Moved Config End
 from amx script old c = move amx script (record c { state = old })
 
 module _ (amx : Amx) (script : Script) {said : List ℕ → Type 0} where
-  pub by_goes : {new : State} → (old : State) → step amx.code old ≡ step_of.Goes new → said [] → Advances (from amx script old) new (Ok moved.Goes) said
+  pub by_goes : {new : State} → (old : State) → step amx old ≡ step_of.Goes new → said [] → Advances (from amx script old) new (Ok moved.Goes) said
   by_goes old e t = goes_on t (λ c. ap (moves.moved amx script (record c { state = old })) e)
 
-  pub by_errs : {old new : State} → (code : ℤ) → step amx.code old ≡ step_of.Errs code → new ≡ old → said []
+  pub by_errs : {old new : State} → (code : ℤ) → step amx old ≡ step_of.Errs code → new ≡ old → said []
       → Advances (from amx script old) new (Ok (moved.Ended (end.Error code))) said
   by_errs {old = old} code e same t = ends (end.Error code) t (λ c.
       ap (moves.moved amx script (record c { state = old })) e ∙ ap (λ s. run.Ends (end.Error code) (record c { state = s })) (sym same))
 
-  pub by_halt : {mid new : State} {result : Result Move SinkFault} → (old : State) (code : ℤ) → step amx.code old ≡ step_of.Halts code mid
+  pub by_halt : {mid new : State} {result : Result Move SinkFault} → (old : State) (code : ℤ) → step amx old ≡ step_of.Halts code mid
       → Advances (λ c. halted code mid c) new result said → Advances (from amx script old) new result said
   by_halt {new = new} {result = result} old code e a = record {
     shown = a.shown;
@@ -89,7 +89,7 @@ module _ (amx : Amx) (script : Script) {said : List ℕ → Type 0} where
     moves = λ c. subst (λ m. IsMoved result m (λ s. after c s a.shown) new) (sym (ap (moves.moved amx script (record c { state = old })) e)) (a.moves (record c { state = old }));
   }
 
-  pub by_call : {mid new : State} {result : Result Move SinkFault} → (old : State) (n : ℕ) (name : List ℕ) → step amx.code old ≡ step_of.Asks n mid → name ≡ name_of amx.natives n
+  pub by_call : {mid new : State} {result : Result Move SinkFault} → (old : State) (n : ℕ) (name : List ℕ) → step amx old ≡ step_of.Asks n mid → name ≡ name_of amx.natives n
       → Advances (λ c. asked script name (arguments mid) mid c) new result said → Advances (from amx script old) new result said
   by_call {mid = mid} {new = new} {result = result} old n name e is a = record {
     shown = a.shown;

@@ -1,12 +1,10 @@
 -- The file of a source: it can be written and agrees with the source's program, and its run ends as that does.
-use Rattle.std.proofs.Common.{◌≡◌, ℕ, pos, List, Some, length, map, slice_get, option_and_then, sym, ap, ap₂, subst, ◌∙◌}
-use Rattle.pawn_program.specs.Program.{Function}
+use Rattle.std.proofs.Common.{◌≡◌, ℕ, pos, List, Some, sym, ap, subst, ◌∙◌}
 use Rattle.amx_ops.specs.declared.amx.Amx.{Amx}
-use Rattle.amx_ops.specs.Valid.{IsValid}
 use Rattle.amx_ops.specs.Writable.{IsWritable}
 use Rattle.amx_ops.specs.Trace.{Main}
 use Rattle.gen_agrees.specs.Agrees.{Agrees, function_of}
-use Rattle.gen_straight.specs.Straight.{IsStraight, main_of}
+use Rattle.gen_straight.specs.Straight.{IsStraight}
 use Rattle.gen_straight.specs.Code.{entry_of, room_of, file_of}
 use Rattle.gen_straight.specs.Theorems.{EndsAlike}
 use Rattle.gen_straight.proofs.Main.{straight_programs_agree_lem}
@@ -17,12 +15,8 @@ module _ {source : List ℕ} {amx : Amx} (it : HasFile source amx) where
   abbrev pub straight : IsStraight it.program
   straight = it.small.straight
 
-  abbrev pub main : Function
-  main = main_of straight.tag straight.stmts
-
-  pub main_entry : function_of it.program Main ≡ Some main
-  main_entry = ap₂ (λ fs e. option_and_then (λ f. slice_get fs f) e) straight.functions
-      straight.entry
+  pub main_entry : function_of it.program Main ≡ Some 0
+  main_entry = straight.entry
 
   pub agrees : Agrees it.program amx
   agrees = subst (Agrees it.program) (sym it.amx_is) (straight_programs_agree_lem it.program
@@ -39,6 +33,3 @@ module _ {source : List ℕ} {amx : Amx} (it : HasFile source amx) where
 
   pub writable : IsWritable amx
   writable = agrees.shape.writable
-
-  pub valid : IsValid amx.code (length amx.natives) amx.entry (map (λ it. it.address) amx.publics)
-  valid = agrees.shape.valid

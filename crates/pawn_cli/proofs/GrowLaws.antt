@@ -5,7 +5,7 @@ use Rattle.host_script.specs.declared.event.Event.{Event}
 use Rattle.host_script.specs.declared.event.End.{End}
 use Rattle.host_script.specs.NativeCall.{Called, Ends_there, Answers, native_call}
 use Rattle.amx_ops.specs.declared.amx.Amx.{Amx}
-use Rattle.amx_ops.specs.Instructions.{is_number}
+use Rattle.amx_ops.specs.Table.{is_number}
 use Rattle.amx_ops.specs.State.{State, Turned, Goes, Errs, Halts, Asks}
 use Rattle.amx_ops.specs.Step.{step}
 use Rattle.amx_ops.specs.Moves.{Config, move, moved, halted_by, asked, answered, arguments, name_of, look}
@@ -34,7 +34,7 @@ by_halted v false false true s c = (_, refl)
 by_halted v false false false s c = stays c.events
 
 by_answered : (called : Called ℕ) (s : State) (c : Config) → Grows c.events (config_of (answered called s c)).events
-by_answered (Ends_there trap) s c = stays c.events
+by_answered (Ends_there trap position) s c = stays c.events
 by_answered (Answers event result position puts) s c = (event ∷ [], refl)
 
 by_asked : (script : Script) (name : List ℕ) (cells : Option (List ℤ)) (s : State) (c : Config) → Grows c.events (config_of (asked script name cells s c)).events
@@ -48,7 +48,7 @@ by_moved amx script c (Halts v s) = by_halted v (is_number 0 v) (is_number 1 v) 
 by_moved amx script c (Asks n s) = by_asked script (name_of amx.natives n) (arguments s) s c
 
 pub move_grows : (amx : Amx) (script : Script) (c : Config) → Grows c.events (config_of (move amx script c)).events
-move_grows amx script c = by_moved amx script c (step amx.code c.state)
+move_grows amx script c = by_moved amx script c (step amx c.state)
 
 module _ (go : Config → Moved Config End) (grows : (c : Config) → Grows c.events (config_of (go c)).events) where
   segment_by : (n k : ℕ) (c : Config) (m : Moved Config End) → go c ≡ m → Grows c.events (config_of m).events

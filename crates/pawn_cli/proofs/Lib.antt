@@ -1,10 +1,11 @@
 pub mod AdvanceLaws
-pub mod CodeLaws
-pub mod FileLaws
 pub mod EndsLaws
+pub mod FileLaws
 pub mod FinishLaws
 pub mod GrowLaws
 pub mod LoopLaws
 pub mod MarkLaws
 pub mod PrepareLaws
+pub mod ServedLaws
+pub mod StartLaws
 pub mod WordLaws

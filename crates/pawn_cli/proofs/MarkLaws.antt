@@ -2,7 +2,7 @@
 use Rattle.std.proofs.Common.{◌≡◌, ◌≢◌, ◌+◌, ◌-◌, ◌*◌, ◌/◌, ◌%◌, ◌<◌, ◌≤◌, ◌==◌, ℕ, zero, suc, ℤ, List, [], ◌∷◌, Bool, true, false, Option, None, Some, refl, sym, ap, ◌∙◌, ◌++◌, append_assoc, arith, length, drop, get_or, find, option_map}
 use Rattle.std.proofs.lemmas.Bool.{eq-eqb, ne_eqb}
 use Rattle.std.proofs.lemmas.List.{drop-drop}
-use Rattle.amx_ops.specs.declared.instruction.Instruction.{Instruction}
+use Rattle.amx_ops.specs.declared.instr.Instr.{Instr}
 use Rattle.amx_ops.specs.Instructions.{Placed, placed, placed_from, placed_by, front, fetched}
 use Rattle.pawn_cli.specs.Marks.{mark_by, passed_by, marks}
 
@@ -12,13 +12,13 @@ length-marks (suc passed) (cell ∷ cells) = ap suc (length-marks passed cells)
 length-marks zero (cell ∷ cells) = ap suc (length-marks (passed_by (front (cell ∷ cells)) (length cells)) cells)
 
 -- the instruction at an address, among some that were placed
-abbrev pub at_address : ℕ → List Placed → Option Instruction
-at_address a ps = option_map (λ it. it.instruction) (find (λ it. it.at == a) ps)
+abbrev pub at_address : ℕ → List Placed → Option Instr
+at_address a ps = option_map (λ it. it.instr) (find (λ it. it.at == a) ps)
 
-head_is : (at a : ℕ) (i : Instruction) (ps : List Placed) → at ≡ a → at_address a (record { at = at; instruction = i } ∷ ps) ≡ Some i
+head_is : (at a : ℕ) (i : Instr) (ps : List Placed) → at ≡ a → at_address a (record { at = at; instr = i } ∷ ps) ≡ Some i
 head_is at a i ps e = rw (eq-eqb at a e) refl
 
-head_isnt : (at a : ℕ) (i : Instruction) (ps : List Placed) → at ≢ a → at_address a (record { at = at; instruction = i } ∷ ps) ≡ at_address a ps
+head_isnt : (at a : ℕ) (i : Instr) (ps : List Placed) → at ≢ a → at_address a (record { at = at; instr = i } ∷ ps) ≡ at_address a ps
 head_isnt at a i ps e = rw (ne_eqb at a e) refl
 
 -- an address that none of them has
@@ -28,9 +28,9 @@ record Misses (a at : ℕ) (cells : List ℤ) : Type 0 where
 misses_tail : (a at : ℕ) (cell : ℤ) (cells : List ℤ) → Misses a at (cell ∷ cells) → Misses a (at + 4) cells
 misses_tail a at cell cells m = record { misses = λ k h e. m.misses (suc k) (omega (arith, h)) (omega (arith, e)) }
 
-missed_by : (a at : ℕ) (o : Option Instruction) (cells : List ℤ) → at ≢ a
-    → ((i : Instruction) → at_address a (placed_from (at + 4) (i.size - 1) cells) ≡ None)
-    → at_address a (placed_by at o (λ i. placed_from (at + 4) (i.size - 1) cells)) ≡ None
+missed_by : (a at : ℕ) (o : Option Instr) (cells : List ℤ) → at ≢ a
+    → ((i : Instr) → at_address a (placed_from (at + 4) (i.cells - 1) cells) ≡ None)
+    → at_address a (placed_by at o (λ i. placed_from (at + 4) (i.cells - 1) cells)) ≡ None
 missed_by a at None cells e rest = refl
 missed_by a at (Some i) cells e rest = head_isnt at a i _ e ∙ rest i
 
@@ -39,7 +39,7 @@ missed a at passed [] m = refl
 missed a at (suc passed) (cell ∷ cells) m = missed a (at + 4) passed cells (misses_tail a at cell cells m)
 missed a at zero (cell ∷ cells) m =
     missed_by a at (front (cell ∷ cells)) cells (λ e. m.misses 0 (omega arith) (omega (arith, e)))
-    (λ i. missed a (at + 4) (i.size - 1) cells (misses_tail a at cell cells m))
+    (λ i. missed a (at + 4) (i.cells - 1) cells (misses_tail a at cell cells m))
 
 no_marks : (passed k : ℕ) (cells : List ℤ) → length cells ≤ passed → get_or (marks passed cells) k false ≡ false
 no_marks passed k [] h = refl
@@ -48,21 +48,21 @@ no_marks (suc passed) zero (cell ∷ cells) h = refl
 no_marks (suc passed) (suc k) (cell ∷ cells) h = no_marks passed k cells (omega (arith, h))
 
 -- an instruction where there is a mark
-abbrev pub marked : Bool → Option Instruction → Option Instruction
+abbrev pub marked : Bool → Option Instr → Option Instr
 marked true o = o
 marked false o = None
 
-at_mark_by : (at k : ℕ) (cell : ℤ) (cells : List ℤ) (o : Option Instruction) → front (cell ∷ cells) ≡ o
-    → ((i : Instruction) (j : ℕ) → k ≡ suc j
-    → at_address ((at + 4) + 4 * j) (placed_from (at + 4) (i.size - 1) cells) ≡ marked (get_or (marks (i.size - 1) cells) j false) (front (drop j cells)))
-    → at_address (at + 4 * k) (placed_by at o (λ i. placed_from (at + 4) (i.size - 1) cells))
+at_mark_by : (at k : ℕ) (cell : ℤ) (cells : List ℤ) (o : Option Instr) → front (cell ∷ cells) ≡ o
+    → ((i : Instr) (j : ℕ) → k ≡ suc j
+    → at_address ((at + 4) + 4 * j) (placed_from (at + 4) (i.cells - 1) cells) ≡ marked (get_or (marks (i.cells - 1) cells) j false) (front (drop j cells)))
+    → at_address (at + 4 * k) (placed_by at o (λ i. placed_from (at + 4) (i.cells - 1) cells))
     ≡ marked (get_or (mark_by o ∷ marks (passed_by o (length cells)) cells) k false) (front (drop k (cell ∷ cells)))
 at_mark_by at zero cell cells None e rest = refl
 at_mark_by at (suc k) cell cells None e rest = rw (no_marks (length cells) k cells (omega arith)) refl
 at_mark_by at zero cell cells (Some i) e rest = head_is at (at + 4 * 0) i _ (omega arith) ∙ sym e
 at_mark_by at (suc k) cell cells (Some i) e rest =
     head_isnt at (at + 4 * suc k) i _ (λ same. omega (arith, same))
-    ∙ ap (λ a. at_address a (placed_from (at + 4) (i.size - 1) cells)) (omega arith) ∙ rest i k refl
+    ∙ ap (λ a. at_address a (placed_from (at + 4) (i.cells - 1) cells)) (omega arith) ∙ rest i k refl
 
 pub at_mark : (at passed k : ℕ) (cells : List ℤ) → k < length cells
     → at_address (at + 4 * k) (placed_from at passed cells) ≡ marked (get_or (marks passed cells) k false) (front (drop k cells))
@@ -72,7 +72,7 @@ at_mark at (suc passed) zero (cell ∷ cells) h =
 at_mark at (suc passed) (suc k) (cell ∷ cells) h =
     ap (λ a. at_address a (placed_from (at + 4) passed cells)) (omega arith) ∙ at_mark (at + 4) passed k cells (omega (arith, h))
 at_mark at zero k (cell ∷ cells) h =
-    at_mark_by at k cell cells (front (cell ∷ cells)) refl (λ i j e. at_mark (at + 4) (i.size - 1) j cells (omega (arith, h, e)))
+    at_mark_by at k cell cells (front (cell ∷ cells)) refl (λ i j e. at_mark (at + 4) (i.cells - 1) j cells (omega (arith, h, e)))
 
 -- the instruction at an address within the code
 pub fetched-in : (code : List ℤ) (a : ℕ) → a % 4 ≡ 0 → a / 4 < length code
@@ -111,7 +111,7 @@ pub marks-passed : (passed : ℕ) (cells : List ℤ) → 0 < length cells → ma
 marks-passed passed [] h = absurd (omega (arith, h))
 marks-passed passed (cell ∷ cells) h = refl
 
-pub marks-front : (cells : List ℤ) → 0 < length cells → (o : Option Instruction) → o ≡ front cells
+pub marks-front : (cells : List ℤ) → 0 < length cells → (o : Option Instr) → o ≡ front cells
     → marks 0 cells ≡ mark_by o ∷ marks (passed_by o (length cells - 1)) (drop 1 cells)
 marks-front [] h o e = absurd (omega (arith, h))
 marks-front (cell ∷ cells) h o e = rw e (ap (λ n. mark_by (front (cell ∷ cells)) ∷ marks (passed_by (front (cell ∷ cells)) n) cells) (omega arith))

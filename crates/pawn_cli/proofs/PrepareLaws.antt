@@ -2,13 +2,14 @@
 use Rattle.std.specs.FinMap.{get, insert, remove, same_map, get-remove, get-insert, nat_cmp-IsAntisymmetric, slice_cmp-IsAntisymmetric}
 use Rattle.std.specs.Ordering.{nat_cmp, eq_by_cmp}
 use Rattle.std.specs.Cmp.Lexicographic.{slice_cmp, nat_list_cmp_total}
-use Rattle.std.proofs.Common.{Bool, true, false, true≢false, IsTrue, ◌↔◌, cond, ◌+◌, ◌*◌, ◌^◌, ◌<◌, ◌≤◌, length, map, to_z, of_z, w32, arith, ◌≡◌, ◌∙◌, ℕ, pos, List, Option, None, Some, Result, Ok, Err, refl, sym, ap, ap₂, subst}
+use Rattle.std.proofs.Common.{Bool, true, false, true≢false, IsTrue, ◌↔◌, cond, ◌+◌, ◌*◌, ◌^◌, ◌<◌, ◌≤◌, length, map, to_z, of_z, w32, arith, ◌≡◌, ◌∙◌, ℕ, pos, List, [], Option, None, Some, Result, Ok, Err, refl, sym, ap, ap₂, subst}
 use Rattle.pawn_outside.specs.Held.{Held, Tells, with_put, without}
 use Rattle.pawn_cells.specs.Cells.{bits_of, cell_of}
 use Rattle.amx_ops.specs.declared.amx.Amx.{Amx}
 use Rattle.amx_ops.specs.State.{State}
-use Rattle.amx_ops.specs.Trace.{started}
-use Rattle.amx_ops.specs.Valid.{IsValid}
+use Rattle.amx_ops.specs.Trace.{loaded, start_at}
+use Rattle.pawn_cli.specs.Served.{IsServed}
+use Rattle.pawn_cli.proofs.ServedLaws.{served}
 use Rattle.amx_format.specs.File.{IsFile}
 use Rattle.amx_format.proofs.Determines.{file_determines}
 use Rattle.pawn_cli.specs.declared.stop.StopEarly.{StopEarly}
@@ -18,7 +19,7 @@ use Rattle.pawn_cli.specs.Compiled.{HasFile}
 use Rattle.pawn_cli.specs.Put.{IsBytesOf, IsStarted}
 use Rattle.pawn_cli.specs.Ready.{IsPrepared}
 use Rattle.pawn_cli.specs.Reply.{Met, Reads, source_limit}
-use Rattle.pawn_cli.proofs.FileLaws.{entry_is, room_is, writable, valid}
+use Rattle.pawn_cli.proofs.FileLaws.{entry_is, room_is, writable}
 
 -- a put changes no other file
 same_by : (b : Bool) (o : Option (List ℕ)) (bytes : List ℕ)
@@ -48,12 +49,8 @@ module _ {bytes : List ℕ} (given : (source : List ℕ)
   pub code_small : 4 * length read.code < 2 ^ 31
   code_small = omega (arith, (writable has).memory)
 
-  pub must_be_valid : (ready : Amx) (b : Bool) → ready ≡ read
-      → (IsTrue b ↔ IsValid ready.code (length ready.natives) ready.entry
-      (map (λ it. it.address) ready.publics)) → b ≡ false → ⊥
-  must_be_valid ready b same told is =
-      true≢false (sym (told.1 (subst (λ (it : Amx). IsValid it.code (length it.natives) it.entry
-      (map (λ it. it.address) it.publics)) (sym same) (valid has))) ∙ is)
+  pub code_served : IsServed read.code
+  code_served = subst (λ (a : Amx). IsServed a.code) (sym has.amx_is) (served has.program has.small.straight)
 
   room_of_read : (amx : Amx) → amx ≡ read → amx.room ≡ 4096
   room_of_read amx same = ap (λ (a : Amx). a.room) (same ∙ has.amx_is) ∙ room_is has
@@ -66,16 +63,16 @@ module _ {bytes : List ℕ} (given : (source : List ℕ)
 
   pub starts : (ready amx : Amx) (entry : ℕ) (state : State) → ready ≡ read → amx ≡ ready
       → entry ≡ bits_of (to_z w32 (of_z w32 ready.entry))
-      → state ≡ (started amx amx.room (cell_of entry)).state → IsFile bytes ready
-      × (state ≡ (started ready 4096 ready.entry).state)
+      → start_at amx (cell_of entry) [] (loaded amx amx.room) ≡ Some state → IsFile bytes ready
+      × (start_at ready ready.entry [] (loaded ready 4096) ≡ Some state)
   starts ready amx entry state same lent at e =
       let main : ready.entry ≡ pos 8 = ap (λ (a : Amx). a.entry) (same ∙ has.amx_is)
       ∙ entry_is has in
       let place : cell_of entry ≡ ready.entry =
       ap cell_of (at ∙ ap (λ z. bits_of (to_z w32 (of_z w32 z))) main) ∙ sym main in (
         subst (IsFile bytes) (sym same) file,
-        e ∙ ap₂ (λ (a : Amx) n. (started a n (cell_of entry)).state) lent (room_of_read amx
-            (lent ∙ same)) ∙ ap (λ z. (started ready 4096 z).state) place,
+        sym (ap₂ (λ (a : Amx) n. start_at a (cell_of entry) [] (loaded a n)) lent (room_of_read amx
+            (lent ∙ same)) ∙ ap (λ z. start_at ready z [] (loaded ready 4096)) place) ∙ e,
       )
 
 pub prepared : {T : Type 0} (amx : T → Amx) (state : T

@@ -1,5 +1,5 @@
+pub mod Acts
 pub mod Advance
-pub mod Code
 pub mod Command
 pub mod Compiled
 pub mod Ends
@@ -9,6 +9,7 @@ pub mod Ran
 pub mod Ready
 pub mod Reply
 pub mod RunText
+pub mod Served
 pub mod Sound
 pub mod Status
 pub mod Stopped

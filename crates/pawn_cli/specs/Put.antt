@@ -1,11 +1,11 @@
 -- The steps of a compilation: a source is read, its file's bytes are made and put, and a machine starts.
-use Rattle.std.specs.Prelude.{◌≡◌, ◌≤◌, ◌<◌, ℕ, List, Option, None, Some, Result, Ok, Err, length}
+use Rattle.std.specs.Prelude.{◌≡◌, ◌≤◌, ◌<◌, ℕ, List, [], Option, None, Some, Result, Ok, Err, length}
 use Rattle.pawn_outside.specs.Held.{Held, Tells, HoldsThat, with_put, without}
 use Rattle.pawn_outside.specs.Rose.{Rose}
 use Rattle.pawn_program.specs.Program.{Program}
 use Rattle.amx_ops.specs.declared.amx.Amx.{Amx}
 use Rattle.amx_ops.specs.State.{State}
-use Rattle.amx_ops.specs.Trace.{started}
+use Rattle.amx_ops.specs.Trace.{loaded, start_at}
 use Rattle.amx_format.specs.File.{IsFile}
 use Rattle.pawn_cli.specs.declared.stop.StopEarly.{StopEarly}
 use Rattle.pawn_cli.specs.declared.stop.StopEarly.TheVariants.{Refused, NoFile, TooLarge, FileFault, NoMemory}
@@ -52,7 +52,7 @@ IsPutStop held after name bytes faults faults_after (Err Refused) = ⊥
 -- a machine at the main of a file
 abbrev pub IsStarted : {T : Type 0} → (T → Amx) → (T → State) → List ℕ → Result T StopEarly → Type 0
 IsStarted amx state bytes (Ok ready) = IsFile bytes (amx ready)
-    × (state ready ≡ (started (amx ready) 4096 (amx ready).entry).state)
+    × (start_at (amx ready) (amx ready).entry [] (loaded (amx ready) 4096) ≡ Some (state ready))
 IsStarted amx state bytes (Err NoMemory) = Unit {0}
 IsStarted amx state bytes (Err FileFault) = ⊥
 IsStarted amx state bytes (Err NoFile) = ⊥

@@ -1,8 +1,8 @@
 -- A file that was compiled and put, and a machine at its start.
-use Rattle.std.specs.Prelude.{◌≡◌, ℕ, List, Some, Result, Ok, Err}
+use Rattle.std.specs.Prelude.{◌≡◌, ℕ, List, [], Some, Result, Ok, Err}
 use Rattle.amx_ops.specs.declared.amx.Amx.{Amx}
 use Rattle.amx_ops.specs.State.{State}
-use Rattle.amx_ops.specs.Trace.{started}
+use Rattle.amx_ops.specs.Trace.{loaded, start_at}
 use Rattle.pawn_outside.specs.Held.{with_put}
 use Rattle.amx_format.specs.File.{IsFile}
 use Rattle.pawn_cli.specs.declared.stop.StopEarly.{StopEarly}
@@ -19,7 +19,7 @@ pub record IsReady (command : Command) (met : Met) (amx : Amx) (state : State) :
   pub bytes : List ℕ
   pub file : IsFile bytes amx
   pub puts : met.after ≡ with_put met.held command.amx bytes
-  pub starts : state ≡ (started amx 4096 amx.entry).state
+  pub starts : start_at amx amx.entry [] (loaded amx 4096) ≡ Some state
 
 -- what stops early replies
 abbrev pub IsPrepared : {T : Type 0} → (T → Amx) → (T → State) → Command → Met

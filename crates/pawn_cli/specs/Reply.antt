@@ -5,7 +5,7 @@ use Rattle.pawn_outside.specs.Rose.{Rose}
 use Rattle.host_script.specs.declared.event.End.{End}
 use Rattle.host_script.specs.Text.{end_text}
 use Rattle.host_script.specs.Script.{plain}
-use Rattle.pawn_program.specs.Program.{Program, Function}
+use Rattle.pawn_program.specs.Program.{Program}
 use Rattle.pawn_meaning.specs.Told.{Ended, meaning, events_of}
 use Rattle.amx_ops.specs.declared.amx.Amx.{Amx}
 use Rattle.amx_ops.specs.Runs.{Over_by}
@@ -29,7 +29,7 @@ step_limit = 10000000
 pub record Went (source bytes text : List ℕ) : Type 0 where
   pub program : Program
   pub means : Means source program
-  pub function : Function
+  pub function : ℕ
   pub entry : function_of program Main ≡ Some function
   pub amx : Amx
   pub file : IsFile bytes amx

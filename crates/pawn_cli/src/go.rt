@@ -6,7 +6,6 @@ use super::compile::compile;
 use super::machine::Machine;
 use super::stop::StopEarly;
 use super::verified::Verified;
-use super::verify::is_valid;
 use super::words::Go;
 use amx_format::{ReadFault, read, write};
 use pawn_base::{Bytes, Memory};
@@ -85,7 +84,7 @@ fn put<F: Files>(files: &mut F, name: &str, bytes: &[u8]) -> Result<(), StopEarl
     }
 }
 
-/// Reads and verifies a file's bytes, and starts a machine.
+/// Reads a file's bytes, and starts a machine.
 fn start(alloc: Global, bytes: &[u8]) -> Result<Ready, StopEarly>
     requires { (source : List ℕ) × IsBytesOf source bytes.now }
     ensures { IsStarted (λ ready. ready.verified) (λ ready. ready.machine) bytes.now result }
@@ -99,9 +98,6 @@ fn start(alloc: Global, bytes: &[u8]) -> Result<Ready, StopEarly>
         Ok(verified) => verified,
         Err(Memory) => return Err(StopEarly::NoMemory),
     };
-    if !is_valid(&verified) {
-        unreachable!();
-    }
     let entry = verified.amx().entry.cast_unsigned();
     match Machine::start(alloc, verified.amx(), entry) {
         Ok(machine) => Ok(Ready { verified, machine }),

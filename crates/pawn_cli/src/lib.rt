@@ -11,7 +11,6 @@ mod session;
 mod status;
 mod stop;
 mod verified;
-mod verify;
 mod words;
 
 pub use command::pawn;

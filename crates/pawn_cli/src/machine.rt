@@ -1,12 +1,16 @@
-ghost use Rattle.std.specs.Prelude.{◌≡◌, ◌+ℤ◌, ◌^◌, ◌+◌, ◌-◌, ◌*◌, ◌/◌, ◌<◌, ◌≤◌, length, nat_le, slice_set, pos, IfOk, option_map};
+ghost use Rattle.std.specs.Prelude.{◌≡◌, ◌+ℤ◌, ◌^◌, ◌+◌, ◌-◌, ◌*◌, ◌/◌, ◌<◌, ◌≤◌, length, nat_le, slice_set, pos, [], Some, IfOk, option_map};
 ghost use Rattle.pawn_cells.specs.Cells.{bits_of, cell_of};
 ghost use Rattle.amx_ops.specs.State as state;
 ghost use Rattle.amx_ops.specs.Step as step;
 ghost use Rattle.amx_ops.specs.Moves.{arguments};
-ghost use Rattle.amx_ops.specs.Trace.{started};
+ghost use Rattle.amx_ops.specs.Table.{op_of};
+ghost use Rattle.amx_ops.specs.Effects.{at_next};
+ghost use Rattle.amx_ops.specs.Trace.{loaded, start_at};
+ghost use Rattle.pawn_cli.specs.Acts as acts;
+ghost use Rattle.pawn_cli.specs.Served.{IsServedOp};
 
 use super::verified::Verified;
-use amx_ops::{Amx, Instruction, Op};
+use amx_ops::{Amx, Instr, Op, op_at};
 use pawn_base::Memory;
 use std::alloc::Global;
 use std::marker::Model;
@@ -62,11 +66,14 @@ impl Machine {
         requires room { 2 ≤ amx.now.room }
         requires small { 4 * (length amx.now.store + amx.now.room) < 2 ^ 31 }
         ensures { IfOk result (λ machine.
-            machine ≡ (started amx.now amx.now.room (cell_of address)).state) }
+            start_at amx.now (cell_of address) [] (loaded amx.now amx.now.room) ≡ Some machine) }
     {
         let data = amx.store.as_slice();
         let mut cells = Vec::from_slice(alloc, data)?;
         cells.resize(data.len() + amx.room as usize, 0)?;
+        let top = cells.len();
+        cells[top - 1] = 0;
+        cells[top - 2] = 0;
         let hea = 4 * data.len() as u32;
         Ok(Machine {
             pri: 0,
@@ -81,7 +88,7 @@ impl Machine {
 
     /// Does one instruction.
     pub fn step(&mut self, verified: &Verified) -> Turn
-        ensures { IsTurn (step.step verified.now.code self.old) self.old result self.new }
+        ensures { IsTurn (step.step verified.now self.old) self.old result self.new }
     {
         match verified.fetch(self.cip) {
             None => Turn::Errs(6),
@@ -89,27 +96,30 @@ impl Machine {
         }
     }
 
-    fn act(&mut self, verified: &Verified, instruction: Instruction) -> Turn
-        requires { self.old.cip + 4 * instruction.size < 2 ^ 31 }
-        ensures { IsTurn (step.act_on verified.now.code (Some instruction) self.old)
+    #[tactic(auto, using(crate::proofs::ServedLaws::must_be))]
+    fn act(&mut self, verified: &Verified, instruction: Instr) -> Turn
+        requires within { self.old.cip + 4 * instruction.cells < 2 ^ 31 }
+        requires served { IsServedOp (op_of instruction.op) }
+        ensures { IsTurn (step.act_on verified.now (Some instruction) self.old)
             self.old result self.new }
     {
-        let next = self.cip + 4 * instruction.size;
-        match instruction.op {
-            Op::ConstPri => self.set_pri(instruction.operand, next),
-            Op::PushC => self.push(instruction.operand, next),
-            Op::Stack => self.move_stack(instruction.operand, next),
-            Op::Proc => self.enter(next),
-            Op::Retn => self.leave(verified),
-            Op::ZeroPri => self.set_pri(0, next),
-            Op::ZeroAlt => self.clear_alt(next),
-            Op::Halt => self.halt(instruction.operand, next),
-            Op::SysreqC => self.ask(instruction.operand, next),
+        let next = self.cip + 4 * instruction.cells;
+        match operation(instruction) {
+            Some(Op::ConstPri) => self.set_pri(instruction.operand, next),
+            Some(Op::PushC) => self.push(instruction.operand, next),
+            Some(Op::Stack) => self.move_stack(instruction.operand, next),
+            Some(Op::Proc) => self.enter(next),
+            Some(Op::Retn) => self.leave(verified),
+            Some(Op::ZeroPri) => self.set_pri(0, next),
+            Some(Op::ZeroAlt) => self.clear_alt(next),
+            Some(Op::Halt) => self.halt(instruction.operand, next),
+            Some(Op::SysreqC) => self.ask(instruction.operand, next),
+            _ => unreachable!(),
         }
     }
 
     fn set_pri(&mut self, value: i32, next: u32) -> Turn
-        ensures { IsTurn (step.at_next next (record self.old { pri = value }))
+        ensures { IsTurn (at_next next (record self.old { pri = value }))
             self.old result self.new }
     {
         self.pri = value;
@@ -118,7 +128,7 @@ impl Machine {
     }
 
     fn clear_alt(&mut self, next: u32) -> Turn
-        ensures { IsTurn (step.at_next next (record self.old { alt = pos 0 }))
+        ensures { IsTurn (at_next next (record self.old { alt = pos 0 }))
             self.old result self.new }
     {
         self.alt = 0;
@@ -127,7 +137,7 @@ impl Machine {
     }
 
     fn push(&mut self, value: i32, next: u32) -> Turn
-        ensures { IsTurn (state.push self.old value (step.at_next next)) self.old result self.new }
+        ensures { IsTurn (state.push self.old value (at_next next)) self.old result self.new }
     {
         if self.hea + 4 <= self.stk {
             self.stk -= 4;
@@ -141,7 +151,7 @@ impl Machine {
     }
 
     fn enter(&mut self, next: u32) -> Turn
-        ensures { IsTurn (step.enter next self.old) self.old result self.new }
+        ensures { IsTurn (acts.enter next self.old) self.old result self.new }
     {
         if self.hea + 68 <= self.stk {
             self.stk -= 4;
@@ -156,7 +166,7 @@ impl Machine {
     }
 
     fn move_stack(&mut self, by: i32, next: u32) -> Turn
-        ensures { IsTurn (step.moved_to (pos self.old.stk +ℤ by) next self.old)
+        ensures { IsTurn (acts.move_stack (pos self.old.stk +ℤ by) next self.old)
             self.old result self.new }
     {
         let size = by.unsigned_abs();
@@ -170,7 +180,7 @@ impl Machine {
     }
 
     fn set_stack(&mut self, stk: u32, next: u32) -> Turn
-        ensures { IsTurn (step.moved_to (pos stk) next self.old) self.old result self.new }
+        ensures { IsTurn (acts.move_stack (pos stk) next self.old) self.old result self.new }
     {
         if stk > self.top() {
             Turn::Errs(7)
@@ -185,7 +195,7 @@ impl Machine {
     }
 
     fn halt(&mut self, code: i32, next: u32) -> Turn
-        ensures { IsTurn (step.halt code next self.old) self.old result self.new }
+        ensures { IsTurn (acts.halt code next self.old) self.old result self.new }
     {
         if code == 12 {
             self.sweep();
@@ -195,14 +205,14 @@ impl Machine {
     }
 
     fn ask(&mut self, native: i32, next: u32) -> Turn
-        ensures { IsTurn (step.ask native next self.old) self.old result self.new }
+        ensures { IsTurn (acts.ask native next self.old) self.old result self.new }
     {
         self.cip = next;
         Turn::Asks(native.cast_unsigned())
     }
 
     fn leave(&mut self, verified: &Verified) -> Turn
-        ensures { IsTurn (step.leave verified.now.code self.old) self.old result self.new }
+        ensures { IsTurn (acts.leave verified.now self.old) self.old result self.new }
     {
         if self.top() <= self.stk + 8 {
             return Turn::Errs(7);
@@ -285,4 +295,11 @@ impl Machine {
         let (low, high) = ((self.hea / 4) as usize, (self.stk / 4) as usize);
         self.cells[low..high].fill(0);
     }
+}
+
+/// The operation of an instruction.
+fn operation(instruction: Instr) -> Option<Op>
+    ensures { result ≡ op_of instruction.op }
+{
+    op_at(i32::from(instruction.op))
 }

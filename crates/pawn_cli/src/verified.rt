@@ -1,14 +1,16 @@
 ghost use Rattle.std.specs.Prelude.{◌≡◌, ◌+◌, ◌*◌, ◌^◌, ◌<◌, ◌∷◌, drop, length, IfOk, IfSome};
 ghost use Rattle.amx_ops.specs.Instructions.{fetched, is_start};
+ghost use Rattle.amx_ops.specs.Table.{op_of};
 ghost use Rattle.pawn_cli.specs.Marks.{marks};
+ghost use Rattle.pawn_cli.specs.Served.{IsServed, IsServedOp};
 
-use amx_ops::{Amx, Instruction};
+use amx_ops::{Amx, Instr, decode};
 use pawn_base::Memory;
 use std::alloc::Global;
 use std::marker::Model;
 
-/// A file with a mark for each cell of its code that says whether an instruction starts there.
-/// Contracts see the file.
+/// A file with a mark for each cell of its code that says whether an instruction starts there. The
+/// machine here has each of its instructions. Contracts see the file.
 #[derive(Debug, Drop)]
 pub struct Verified {
     amx: Amx,
@@ -29,7 +31,8 @@ impl Model for Verified {
 impl Verified {
     /// Marks where the instructions start, as far as they are whole.
     pub fn new(alloc: Global, amx: Amx) -> Result<Verified, Memory>
-        requires { 4 * length amx.code < 2 ^ 31 }
+        requires small { 4 * length amx.code < 2 ^ 31 }
+        requires served { IsServed amx.code }
         ensures { IfOk result (λ verified. verified ≡ amx) }
     {
         let starts = starts_of(alloc, amx.code.as_slice())?;
@@ -43,13 +46,14 @@ impl Verified {
     }
 
     /// The instruction that starts at an address, in bytes.
-    pub fn fetch(&self, address: u32) -> Option<Instruction>
+    pub fn fetch(&self, address: u32) -> Option<Instr>
         ensures value { result ≡ fetched self.now.code address }
-        ensures within { IfSome result (λ it. address + 4 * it.size < 2 ^ 31) }
+        ensures within { IfSome result (λ it. address + 4 * it.cells < 2 ^ 31) }
+        ensures served { IfSome result (λ it. IsServedOp (op_of it.op)) }
     {
         let place = (address / 4) as usize;
         if address % 4 == 0 && place < self.starts.len() && self.starts[place] {
-            Instruction::read(self.amx.code.as_slice().split_at(place).1)
+            decode(self.amx.code.as_slice(), place as u32)
         } else {
             None
         }
@@ -65,6 +69,7 @@ impl Verified {
 
 /// A mark for each cell where an instruction starts. What follows one that isn't whole has none.
 fn starts_of(alloc: Global, cells: &[i32]) -> Result<Vec<bool>, Memory>
+    requires { length cells.now < 2 ^ 32 }
     ensures { IfOk result (λ starts. starts.items ≡ marks 0 cells.now) }
 {
     let mut starts = Vec::with_capacity(alloc, cells.len())?;
@@ -80,14 +85,15 @@ fn starts_of(alloc: Global, cells: &[i32]) -> Result<Vec<bool>, Memory>
 /// The mark of the first cell, and how many cells behind it belong to its instruction. So many
 /// belong to the one before.
 fn first_mark(passed: usize, cells: &[i32]) -> (bool, usize)
-    requires { 0 < length cells.now }
+    requires some { 0 < length cells.now }
+    requires small { length cells.now < 2 ^ 32 }
     ensures { marks passed cells.now ≡ result.0 ∷ marks result.1 (drop 1 cells.now) }
 {
     if passed > 0 {
         return (false, passed - 1);
     }
-    match Instruction::read(cells) {
-        Some(instruction) => (true, (instruction.size as usize).saturating_sub(1)),
+    match decode(cells, 0) {
+        Some(instruction) => (true, (instruction.cells as usize).saturating_sub(1)),
         None => (false, cells.len() - 1),
     }
 }

@@ -9,6 +9,7 @@ use Rattle.pawn_program.specs.declared.node.Expr as expr
 use Rattle.pawn_program.specs.declared.node.Arg as arg
 use Rattle.pawn_program.specs.declared.node.Stmt as stmt
 use Rattle.pawn_program.specs.declared.program.Slot as slot
+use Rattle.pawn_program.specs.declared.program.Object as object
 use Rattle.pawn_program.specs.declared.program.Body as body
 use Rattle.pawn_program.specs.declared.program.Function as function
 use Rattle.pawn_program.specs.declared.program.Automaton as automaton
@@ -119,7 +120,7 @@ module _ (made : Option (List stmt.Stmt)) (numbers natives : List (List ℕ))
 
 pub main_is : (natives : List (List ℕ)) (stmts : List stmt.Stmt) (slots params : List slot.Slot)
     (no_bodies bodies : List body.Body) (no_functions functions : List function.Function)
-    (automata : List automaton.Automaton) (tags : List tag.Tag) (publics : List item.Public)
+    (objects : List object.Object) (automata : List automaton.Automaton) (tags : List tag.Tag) (publics : List item.Public)
     → slots ≡ [] → params ≡ [] → no_bodies ≡ [] → no_functions ≡ []
     → bodies ≡ no_bodies ++ record { slots = slots; stmt = stmt.Block stmts } ∷ []
     → functions ≡ no_functions ++ record {
@@ -129,8 +130,9 @@ pub main_is : (natives : List (List ℕ)) (stmts : List stmt.Stmt) (slots params
       bodies =
           bodies;
     } ∷ []
-    → automata ≡ [] → tags ≡ [] → publics ≡ []
+    → objects ≡ [] → automata ≡ [] → tags ≡ [] → publics ≡ []
     → program_view (record {
+      objects = objects;
       functions = functions;
       natives = natives;
       automata =
@@ -141,8 +143,8 @@ pub main_is : (natives : List (List ℕ)) (stmts : List stmt.Stmt) (slots params
       dynamic =
           pos 4096;
     }) ≡ with_main natives (stmts_view stmts)
-main_is natives stmts slots params no_bodies bodies no_functions functions automata tags publics
-    s p nb nf b f a t u =
+main_is natives stmts slots params no_bodies bodies no_functions functions objects automata tags publics
+    s p nb nf b f o a t u =
     let one : bodies ≡ record { slots = []; stmt = stmt.Block stmts } ∷ [] = b
     ∙ ap (λ l. l ++ record { slots = slots; stmt = stmt.Block stmts } ∷ []) nb
     ∙ ap (λ it. record { slots = it; stmt = stmt.Block stmts } ∷ []) s in
@@ -167,6 +169,7 @@ main_is natives stmts slots params no_bodies bodies no_functions functions autom
           y;
     } ∷ []) p one in
     (λ i. program_view (record {
+      objects = o i;
       functions = all i;
       natives = natives;
       automata = a i;

@@ -4,8 +4,9 @@ use Rattle.std.specs.Int.{w32}
 use Rattle.std.specs.List.{flat_map, list_all}
 use Rattle.std.proofs.lemmas.List.Sums.{sum_by-cons}
 use Rattle.std.proofs.lemmas.List.Elements.{All-head, All-tail, All-nil, All-cons}
-use Rattle.pawn_meaning.specs.Weight.{stmts_weight}
-use Rattle.gen_straight.specs.Straight.{IsStraight, IsNativeName, AreStraight}
+use Rattle.pawn_program.specs.Names as program_names
+use Rattle.pawn_meaning.specs.Weight.{stmts_weight, never}
+use Rattle.gen_straight.specs.Straight.{IsStraight, AreStraight}
 use Rattle.gen_straight.specs.Theorems.{IsSmall, all_statements, AllCallWithFew}
 use Rattle.straight_source.specs.declared.form.Form.{Form}
 use Rattle.straight_source.specs.declared.form.Call.{Call}
@@ -45,12 +46,12 @@ module _ (natives : List (List ℕ)) where
         calls found) (All-tail (λ (it : Call). it.number < 2 ^ 31) call calls numbers) small,
   )
 
-  exit_weight : (exit : Option ℕ) → stmts_weight (exit_of exit) ≤ 80
+  exit_weight : (exit : Option ℕ) → stmts_weight never (exit_of exit) ≤ 80
   exit_weight None = omega arith
   exit_weight (Some n) = omega arith
 
   calls_weight : (calls : List Call) (exit : Option ℕ)
-      → stmts_weight (stmts_of natives calls exit) ≤ 160 * length calls + 80
+      → stmts_weight never (stmts_of natives calls exit) ≤ 160 * length calls + 80
   calls_weight [] exit = exit_weight exit
   calls_weight (call ∷ calls) exit = omega (arith, calls_weight calls exit)
 
@@ -86,7 +87,7 @@ some_bytes : (name : List ℕ) → is_letter (slice_index name 0) ≡ true → 1
 some_bytes [] letter = absurd (true≢false (sym letter))
 some_bytes (byte ∷ name) letter = omega arith
 
-native_name : (name : List ℕ) → IsName name → IsNativeName name
+native_name : (name : List ℕ) → IsName name → program_names.IsName name
 native_name name is = record {
   no_zero = bytes_no_zero name is.word;
   least =
@@ -95,14 +96,14 @@ native_name name is = record {
 }
 
 module _ (p : List ℕ → Bool) where
-  names_good : (names : List (List ℕ)) → All IsName names → All IsNativeName (filter p names)
-  names_good [] all = All-nil IsNativeName
+  names_good : (names : List (List ℕ)) → All IsName names → All program_names.IsName (filter p names)
+  names_good [] all = All-nil program_names.IsName
   names_good (name ∷ names) all = by (p name) (native_name name (All-head IsName name names all))
       (names_good names (All-tail IsName name names all))
     where
-      by : (b : Bool) → IsNativeName name → All IsNativeName (filter p names)
-          → All IsNativeName (cond b (name ∷ filter p names) (filter p names))
-      by true one rest = All-cons IsNativeName name (filter p names) one rest
+      by : (b : Bool) → program_names.IsName name → All program_names.IsName (filter p names)
+          → All program_names.IsName (cond b (name ∷ filter p names) (filter p names))
+      by true one rest = All-cons program_names.IsName name (filter p names) one rest
       by false one rest = rest
 
   names_size : (names : List (List ℕ)) → sum_by (λ name. length name + 9)
@@ -139,7 +140,9 @@ module _ (form : Form) (source : List ℕ) (good : IsForm form) (spelled : sourc
     tag = 0;
     stmts = stmts_of (natives_called form) form.calls form.exit;
     room = 4096;
+    objects = refl;
     functions = refl;
+    tag_fits = omega arith;
     straight = stmts_straight (natives_called form) form.calls form.exit
         ((found_both form).1 good.declared) good.numbers good.exit;
     automata = refl;

@@ -45,6 +45,7 @@ stmts_of natives (call ∷ calls) exit = then_stmt (call_of natives call)
 -- a program of a main alone, with the room that a source gets which asks for none
 abbrev pub with_main : List (List ℕ) → Stmts → Program
 with_main natives stmts = record {
+  objects = [];
   functions = main_of 0 stmts ∷ [];
   natives = natives;
   automata = [];

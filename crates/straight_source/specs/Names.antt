@@ -4,8 +4,8 @@
 use Rattle.std.specs.Prelude.{◌≡◌, ◌≤◌, ℕ, List, [], ◌∷◌, Bool, true, false, ◌||◌, None, codes, length, slice_index}
 use Rattle.std.specs.List.{list_all}
 use Rattle.name_table.specs.Among.{is_among}
-use Rattle.pawn_lex.specs.Class.{is_between}
-use Rattle.pawn_lex.specs.Keys.{key_of}
+use Rattle.pawn_token.specs.Class.{is_between}
+use Rattle.pawn_token.specs.Keys.{key_of}
 
 abbrev pub is_letter : ℕ → Bool
 is_letter byte = is_between 97 122 byte

@@ -4,7 +4,7 @@ ghost use Rattle.straight_source.specs.Names.{AreDistinct, IsName, IsWord, is_le
 
 use name_table::Names;
 use pawn_base::{Bytes, Memory};
-use pawn_lex::key_of;
+use pawn_token::key_of;
 use std::alloc::Global;
 
 /// The most bytes of a name.

@@ -155,6 +155,7 @@ fn with_main(alloc: Global, natives: List<Bytes>, stmts: List<Stmt>) -> Result<P
         bodies,
     })?;
     Ok(Program {
+        objects: List::new(alloc),
         functions,
         natives,
         automata: List::new(alloc),

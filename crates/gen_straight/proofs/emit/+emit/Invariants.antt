@@ -1,6 +1,7 @@
 use Rattle.std.proofs.Common.{◌≡◌, ◌++◌, drop}
 use Rattle.pawn_program.specs.View.{stmts_view}
-use Rattle.gen_straight.specs.Code.{cells_of, stmts_code}
+use Rattle.gen_straight.specs.Code.{stmts_code}
+use Rattle.gen_sim.specs.Cells.{cells_of}
 use Rattle.gen_straight.proofs.emit.+emit.Given as goal
 
 abbrev pub invariant-emit_stmts-loop-stmt : goal.invariant-emit_stmts-loop-stmt

@@ -1,7 +1,8 @@
 use Rattle.std.proofs.Common.{◌≡◌, ◌++◌, drop, map}
 use Rattle.std.specs.List.{flat_map}
 use Rattle.pawn_program.specs.View.{body_view}
-use Rattle.gen_straight.specs.Code.{cells_of, body_code}
+use Rattle.gen_straight.specs.Code.{body_code}
+use Rattle.gen_sim.specs.Cells.{cells_of}
 use Rattle.gen_straight.proofs.emit.emit_function.Given as goal
 
 abbrev pub invariant-loop-body : goal.invariant-loop-body

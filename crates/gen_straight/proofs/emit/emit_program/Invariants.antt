@@ -1,7 +1,8 @@
 use Rattle.std.proofs.Common.{◌≡◌, ◌++◌, drop, map}
 use Rattle.std.specs.List.{flat_map}
 use Rattle.pawn_program.specs.View.{function_view, program_view}
-use Rattle.gen_straight.specs.Code.{cells_of, function_code, program_code}
+use Rattle.gen_straight.specs.Code.{function_code, program_code}
+use Rattle.gen_sim.specs.Cells.{cells_of}
 use Rattle.gen_straight.proofs.emit.emit_program.Given as goal
 
 abbrev pub invariant-loop-function : goal.invariant-loop-function

@@ -4,7 +4,7 @@ use Rattle.gen_straight.proofs.FitsLaws.{program_fits, agrees_as}
 use Rattle.gen_straight.proofs.file.generate.Goals as goal
 
 pub emit_program-requires : goal.emit_program-requires
-emit_program-requires c = program_fits (program_view c.args.program.now) c.requires
+emit_program-requires c = program_fits (program_view c.args.program.now) c.requires.straight
 
 pub returns-clause-agrees : goal.returns-clause-agrees
-returns-clause-agrees c = agrees_as _ _ c.requires (search rules)
+returns-clause-agrees c = agrees_as _ _ c.requires.straight (search rules)

@@ -1,15 +1,14 @@
 use Rattle.std.proofs.Common.{◌∙◌, ap, to_z, of_z, w32}
 use Rattle.amx_ops.specs.declared.amx.Amx.{Amx}
 use Rattle.pawn_cells.specs.Cells.{bits_of}
-use Rattle.pawn_cli.proofs.PrepareLaws.{code_small, must_be_valid, room_enough, cells_few, starts}
+use Rattle.pawn_cli.proofs.PrepareLaws.{code_small, code_served, room_enough, cells_few, starts}
 use Rattle.pawn_cli.proofs.go.start.Goals as goal
 
-pub new-requires : goal.new-requires
-new-requires c = code_small c.requires c.in-Ok.amx c.in-Ok.ensures.file
+pub new-requires-clause-small : goal.new-requires-clause-small
+new-requires-clause-small c = code_small c.requires c.in-Ok.amx c.in-Ok.ensures.file
 
-pub unreachable-requires-then-not-is_valid : goal.unreachable-requires-then-not-is_valid
-unreachable-requires-then-not-is_valid c =
-    must_be_valid c.requires c.in-Ok.amx c.in-Ok.ensures.file c.in-Ok-new.verified c.is_valid.result c.in-Ok-new.ensures c.is_valid.ensures c.if-not-is_valid.true
+pub new-requires-clause-served : goal.new-requires-clause-served
+new-requires-clause-served c = code_served c.requires c.in-Ok.amx c.in-Ok.ensures.file
 
 pub start-requires-clause-room : goal.start-requires-clause-room
 start-requires-clause-room c = room_enough c.requires c.in-Ok.amx c.in-Ok.ensures.file c.amx-2.result.now (c.amx-2.ensures ∙ c.in-Ok-new.ensures)

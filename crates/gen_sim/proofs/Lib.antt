@@ -1,0 +1,13 @@
+pub mod Calls
+pub mod Final
+pub mod Fronts
+pub mod GoodCode
+pub mod Iterations
+pub mod Lie
+pub mod Marks
+pub mod Natives
+pub mod Orders
+pub mod Sim
+pub mod Stands
+pub mod Start
+pub mod Steps

@@ -1,0 +1,3 @@
+//! What a machine does for a run of a program: the relation between the two, and agreement from it.
+//! Nothing here knows of sources, or of the nodes of a program.
+#![tactic(auto)]
