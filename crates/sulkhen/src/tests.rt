@@ -131,18 +131,96 @@ fn sources(rt: HostRuntime) -> Result<(), Fail> {
     Ok(())
 }
 
+/// A source of a front, a part so many times and an end, and the status.
+type Large = (&'static str, &'static str, &'static str, u32, Status);
+
+/// The front of a source with a native, ten calls of it, and the end of a source.
+const NATIVE: &str = "native p(v);\nmain() {\n";
+
+const CALLS: &str =
+    "  p(1);\n  p(2);\n  p(3);\n  p(4);\n  p(5);\n  p(6);\n  p(7);\n  p(8);\n  p(9);\n  p(0);\n";
+
+const END: &str = "}\n";
+
+/// Sources at the limits, and large ones: 70,000 lines, two megabytes, a name of 32 bytes that isn't
+/// declared.
+const LARGE: [Large; 6] = [
+    (NATIVE, CALLS, END, 1000, Status::Ok),
+    (NATIVE, CALLS, "  p(1);\n}\n", 1000, Status::Refused),
+    ("", "\n", "main() {\n}\n", 70_000, Status::Refused),
+    (NATIVE, CALLS, END, 25_000, Status::Refused),
+    (
+        NATIVE,
+        "",
+        "  abcdefghijklmnopqrstuvwxyz012345(1);\n}\n",
+        0,
+        Status::Refused,
+    ),
+    (
+        "native ",
+        CALLS,
+        "(v);\nmain() {\n}\n",
+        25_000,
+        Status::Refused,
+    ),
+];
+
 #[test]
-fn most_calls(rt: HostRuntime) -> Result<(), Fail> {
+fn large(rt: HostRuntime) -> Result<(), Fail> {
     let alloc = rt.alloc();
-    for (calls, status) in [(10_000, Status::Ok), (10_001, Status::Refused)] {
-        let mut source = Vec::from_slice(alloc, b"native p(v);\nmain() {\n")?;
-        for _ in 0..calls {
-            source.extend_from_slice(b"  p(1);\n")?;
+    for (front, part, end, count, status) in LARGE {
+        let mut source = Vec::from_slice(alloc, front.as_bytes())?;
+        for _ in 0..count {
+            source.extend_from_slice(part.as_bytes())?;
         }
-        source.extend_from_slice(b"}\n")?;
+        source.extend_from_slice(end.as_bytes())?;
         let got = gone(alloc, &source, 200_000)?;
-        assert_eq!(rt; got.status, status, "{calls}");
+        assert_eq!(rt; got.status, status, "{count} {end}");
     }
+    Ok(())
+}
+
+#[test]
+fn many_natives(rt: HostRuntime) -> Result<(), Fail> {
+    // 300 natives, each called once.
+    let alloc = rt.alloc();
+    let mut source = String::new(alloc);
+    for i in 0..300u32 {
+        source.push_str(format!(in alloc; "native n{i}(v);\n")?.as_str())?;
+    }
+    source.push_str("main() {\n")?;
+    for i in 0..300u32 {
+        source.push_str(format!(in alloc; "  n{i}({i});\n")?.as_str())?;
+    }
+    source.push_str("}\n")?;
+    let got = gone(alloc, source.as_bytes(), 20_000)?;
+    assert_eq!(rt; got.status, Status::Ok);
+    assert!(rt;
+        got.text
+            .as_str()
+            .starts_with("native n0 0 -> 0\nnative n1 1 -> 0\n")
+    );
+    assert!(rt;
+        got.text
+            .as_str()
+            .ends_with("native n299 299 -> 0\ndone 0\n")
+    );
+    Ok(())
+}
+
+#[test]
+fn a_long_name(rt: HostRuntime) -> Result<(), Fail> {
+    // A source's name of 300 bytes that isn't held.
+    let alloc = rt.alloc();
+    let mut name = String::new(alloc);
+    for _ in 0..30u32 {
+        name.push_str("abcdefghi/")?;
+    }
+    let mut files = MemoryFiles::new(alloc, &[])?;
+    let line = format!(in alloc; "go {} s.amx", name.as_str())?;
+    let got = told(alloc, line.as_str(), &mut files, 400)?;
+    assert_eq!(rt; got.status, Status::NoFile);
+    assert_eq!(rt; got.text.as_str().len(), 309);
     Ok(())
 }
 
@@ -179,6 +257,7 @@ fn files_put(rt: HostRuntime) -> Result<(), Fail> {
         files.hold("s.p", source.as_bytes())?;
         let got = told(alloc, "go s.p s.amx", &mut files, 100)?;
         assert_eq!(rt; got.status, Status::Ok);
+        assert_eq!(rt; files.calls(), 2);
         match files.read(alloc, "s.amx", 1000) {
             ReadAnswer::Got(bytes) => assert_eq!(rt; bytes.as_slice(), file),
             _ => return Err(Fail::from("not put")),
@@ -194,6 +273,7 @@ fn faults(rt: HostRuntime) -> Result<(), Fail> {
         ([0], 100, Status::Ok, "done 0\n"),
         ([1], 100, Status::FileFault, "file fault\n"),
         ([2], 100, Status::FileFault, "file fault\n"),
+        ([3], 100, Status::Ok, "done 0\n"),
         ([0], 3, Status::SinkFault, ""),
     ] {
         let mut files = MemoryFiles::new(alloc, &fails)?;
