@@ -1,4 +1,4 @@
-//! Tests of the crates up to the preprocessor, by their public calls.
+//! Tests of the crates up to the lexer, by their public calls.
 #![tactic(auto)]
 
 #[cfg(test)]

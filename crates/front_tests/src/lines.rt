@@ -1,16 +1,14 @@
-use pawn_lines::{
-    is_blank, is_digit, is_name_byte, is_name_start, name_len, past_blanks, read_rows, trimmed,
-    trimmed_end,
-};
+use pawn_lines::{past_blanks, read_rows, split_word, trimmed, trimmed_end};
+use pawn_token::{Class, is_in};
 use std::test::Fail;
 
 #[test]
 fn bytes(rt: HostRuntime) {
-    assert!(rt; is_blank(b'\t') && !is_blank(b'\n'));
-    assert!(rt; is_digit(b'9') && !is_digit(b'a'));
-    assert!(rt; is_name_start(b'@') && !is_name_start(b'1'));
-    assert!(rt; is_name_byte(b'1') && !is_name_byte(b'-'));
-    assert_eq!(rt; name_len(b"a1_-b"), 3);
+    assert!(rt; is_in(Class::Blank, b'\t') && !is_in(Class::Blank, b'\n'));
+    assert!(rt; is_in(Class::Digit, b'9') && !is_in(Class::Digit, b'a'));
+    assert!(rt; is_in(Class::NameStart, b'@') && !is_in(Class::NameStart, b'1'));
+    assert!(rt; is_in(Class::NameByte, b'1') && !is_in(Class::NameByte, b'-'));
+    assert_eq!(rt; split_word(b"a1_-b").0, b"a1_".as_slice());
     assert_eq!(rt; past_blanks(b" \ta b "), b"a b ".as_slice());
     assert_eq!(rt; trimmed_end(b" a b \r"), b" a b".as_slice());
     assert_eq!(rt; trimmed(b" a b \r"), b"a b".as_slice());

@@ -1,4 +1,4 @@
-pub mod ByteClass
+pub mod Blanks
 pub mod Comments
 pub mod File
 pub mod Joined

@@ -7,12 +7,13 @@ use Rattle.std.proofs.Math.Seq.{take-append-add, take-append_seam}
 use Rattle.std.proofs.lemmas.Bool.{ltb-true, lt-ltb}
 use Rattle.std.proofs.lemmas.List.{length-take, take_all, take_min}
 use Rattle.pawn_lines.specs.declared.quote.Quote.{Quote}
-use Rattle.pawn_lines.specs.ByteClass.{is_name_byte}
+use Rattle.pawn_token.specs.declared.class.Class.TheVariants as class
+use Rattle.pawn_token.specs.Class.{is_in}
 use Rattle.pawn_lines.specs.Quote.{quote_after}
 use Rattle.pawn_macro.specs.Table.{Rules}
 use Rattle.pawn_macro.specs.declared.matching.Given.{Given}
 use Rattle.pawn_macro.specs.declared.piece.Piece.{Piece}
-use Rattle.pawn_macro.specs.Substitution.{Cursor, bytes_for, filled, begins_name, place_at, substituted, with_before, or_later, is_long}
+use Rattle.pawn_macro.specs.Substitution.{Cursor, bytes_for, filled, begins_whole_name, place_at, substituted, with_before, or_later, is_long}
 use Rattle.pawn_macro.specs.Expansion.{IsCut, IsPlace, IsCursor, up_to_long}
 
 long_front : (a b : ℕ) → is_long a ≡ true → is_long (a + b) ≡ true
@@ -139,11 +140,11 @@ before_both front more (Some cursor) = ap (λ (bytes : List ℕ). let o : Option
 -- the next byte of a line, whether a place begins there or not
 module _ (rules : Rules) (control : ℕ) (quote : Quote) (joined : Bool) (front bytes : List ℕ) (b : ℕ) (rest : List ℕ) (whole : Option Cursor)
     (cut : bytes ≡ b ∷ rest) (so_far : with_before front (substituted rules control quote joined bytes) ≡ whole) where
-  pub place_here : (after : List ℕ) → IsPlace (if begins_name quote joined b then place_at rules control bytes else None) (Some after) → IsCursor whole front after
+  pub place_here : (after : List ℕ) → IsPlace (if begins_whole_name quote joined b then place_at rules control bytes else None) (Some after) → IsCursor whole front after
   unfolding substituted
   place_here after h = rw (sym so_far) (rw cut (placed front after _ _ (rw cut at h)))
 
-  pub no_place : (if begins_name quote joined b then place_at rules control bytes else None) ≡ None →
-      with_before (front ++ b ∷ []) (substituted rules control (quote_after control quote b) (is_name_byte b) rest) ≡ whole
+  pub no_place : (if begins_whole_name quote joined b then place_at rules control bytes else None) ≡ None →
+      with_before (front ++ b ∷ []) (substituted rules control (quote_after control quote b) (is_in class.NameByte b) rest) ≡ whole
   unfolding substituted
   no_place h = before_both front (b ∷ []) _ ∙ rw (rw cut at h) at (rw cut at so_far)

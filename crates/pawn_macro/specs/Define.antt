@@ -6,14 +6,15 @@ use Rattle.pawn_lines.specs.declared.quote.Quote.TheVariants.{Outside}
 use Rattle.pawn_macro.specs.declared.piece.Piece.{Piece}
 use Rattle.pawn_macro.specs.declared.piece.Piece.TheVariants.{Byte, Param}
 use Rattle.pawn_macro.specs.declared.define.Definition.{Definition}
-use Rattle.pawn_lines.specs.ByteClass.{is_blank, is_name_start, past_blanks, trimmed}
-use Rattle.pawn_lines.specs.ByteClass.{run, behind_run}
+use Rattle.pawn_token.specs.declared.class.Class.TheVariants as class
+use Rattle.pawn_token.specs.Class.{is_in}
+use Rattle.pawn_lines.specs.Blanks.{past_blanks, trimmed, front_word, behind_word}
 use Rattle.pawn_macro.specs.Piece.{pieces, follower}
 
 -- a name stands in front
 abbrev pub begins_name : List ℕ → Bool
 begins_name [] = false
-begins_name (b ∷ rest) = is_name_start b
+begins_name (b ∷ rest) = is_in class.NameStart b
 
 -- each parameter stands once, and a byte follows it
 unfoldable pub is_tail : List ℕ → List Piece → Bool
@@ -40,13 +41,13 @@ is_text tail text = list_all (is_known tail) text
 abbrev pub checked : ℕ → List ℕ → List ℕ → List Piece → Option Definition
 checked control pattern text tail =
     if begins_name pattern && (is_tail [] tail && is_text tail (pieces (Some control) Outside text))
-    then Some (record { key = run pattern; rule = record { tail = tail; text = text } })
+    then Some (record { key = front_word pattern; rule = record { tail = tail; text = text } })
     else None
 
 -- a pattern is a key and its tail
 abbrev pub of_parts : ℕ → List ℕ → List ℕ → Option Definition
 of_parts control pattern text =
-    checked control pattern text (pieces None Outside (behind_run pattern))
+    checked control pattern text (pieces None Outside (behind_word pattern))
 
 -- by the place of the first blank
 abbrev pub split_by : ℕ → List ℕ → Option ℕ → Option Definition
@@ -56,11 +57,11 @@ split_by control body (Some len) = of_parts control (take len body) (trimmed (dr
 -- the pattern ends at the first blank; the text loses the blanks at its ends
 abbrev pub definition : ℕ → List ℕ → Option Definition
 definition control rest =
-    let body = past_blanks rest in split_by control body (position is_blank body)
+    let body = past_blanks rest in split_by control body (position (is_in class.Blank) body)
 
 -- a name in front, if one stands there
 abbrev pub undefined_by : List ℕ → Option (List ℕ)
-undefined_by bytes = if begins_name bytes then Some (run bytes) else None
+undefined_by bytes = if begins_name bytes then Some (front_word bytes) else None
 
 -- the key of `#undef`, behind blanks
 abbrev pub undefined : List ℕ → Option (List ℕ)

@@ -4,11 +4,13 @@ use Rattle.std.specs.Prelude.{List, [], ◌∷◌, length, Bool, if◌then◌els
 use Rattle.std.specs.Str.{bytes_eq}
 use Rattle.std.specs.FinMap.{get}
 use Rattle.pawn_lines.specs.declared.quote.Quote.{Quote}
-use Rattle.pawn_lines.specs.ByteClass.{is_name_byte, past_blanks, run, behind_run}
+use Rattle.pawn_token.specs.declared.class.Class.TheVariants as class
+use Rattle.pawn_token.specs.Class.{is_in}
+use Rattle.pawn_lines.specs.Blanks.{past_blanks, front_word, behind_word}
 use Rattle.pawn_lines.specs.Quote.{quote_after}
 use Rattle.pawn_macro.specs.Table.{Rules}
 use Rattle.pawn_macro.specs.Define as define
-use Rattle.pawn_macro.specs.Substitution.{begins_name}
+use Rattle.pawn_macro.specs.Substitution.{begins_whole_name}
 
 -- a name that is asked for, and the bytes behind it
 pub record Asked : Type 0 where
@@ -22,7 +24,7 @@ asked name rest = record { name = name; rest = rest }
 -- a name in front
 abbrev pub bare : List ℕ → Option Asked
 bare bytes =
-    if define.begins_name bytes then Some (asked (run bytes) (behind_run bytes)) else None
+    if define.begins_name bytes then Some (asked (front_word bytes) (behind_word bytes)) else None
 
 -- a name behind which `)` has to stand
 abbrev pub closed_by : List ℕ → List ℕ → Option Asked
@@ -46,7 +48,7 @@ asked_behind bytes = asked_by (past_blanks bytes)
 -- `defined` and a name
 abbrev pub defined_at : List ℕ → Option Asked
 defined_at bytes =
-    if bytes_eq (run bytes) (codes "defined") then asked_behind (behind_run bytes) else None
+    if bytes_eq (front_word bytes) (codes "defined") then asked_behind (behind_word bytes) else None
 
 -- `1` or `0`
 abbrev pub digit : Rules → List ℕ → ℕ
@@ -62,8 +64,8 @@ answer_then rules b rest (Some a) go_on =
 unfoldable pub answered : Rules → ℕ → Quote → Bool → ℕ → List ℕ → List ℕ
 answered rules control quote joined left [] = []
 answered rules control quote joined (suc left) (b ∷ rest) =
-    answered rules control (quote_after control quote b) (is_name_byte b) left rest
+    answered rules control (quote_after control quote b) (is_in class.NameByte b) left rest
 answered rules control quote joined zero (b ∷ rest) =
     answer_then rules b rest
-    (if begins_name quote joined b then defined_at (b ∷ rest) else None)
-    (λ left. answered rules control (quote_after control quote b) (is_name_byte b) left rest)
+    (if begins_whole_name quote joined b then defined_at (b ∷ rest) else None)
+    (λ left. answered rules control (quote_after control quote b) (is_in class.NameByte b) left rest)

@@ -1,11 +1,11 @@
 -- How far a parameter of a pattern reaches: to the first place of the byte that follows it, over
 -- whole literals and whole groups (Language Guide, "Preprocessor", on text substitution).
-use Rattle.std.specs.Prelude.{ℕ, ◌==◌, suc, Option, Some, None, List, [], ◌∷◌, Bool, true, false}
-use Rattle.std.specs.Prelude.{if◌then◌else◌, ◌&&◌, ◌||◌}
-use Rattle.std.specs.Option.{option_map}
+use Rattle.std.specs.Prelude.{ℕ, ◌-◌, ◌==◌, zero, suc, Option, Some, None, List, [], ◌∷◌, length}
+use Rattle.std.specs.Prelude.{Bool, if◌then◌else◌, ◌||◌}
+use Rattle.std.specs.Option.{option_map, option_and_then}
 use Rattle.pawn_lines.specs.declared.quote.Quote.{Quote}
-use Rattle.pawn_lines.specs.declared.quote.Quote.TheVariants.{Outside, Within, Escaped}
-use Rattle.pawn_lines.specs.Quote.{quote_after, is_quote_mark}
+use Rattle.pawn_lines.specs.declared.quote.Quote.TheVariants.{Within}
+use Rattle.pawn_lines.specs.Quote.{is_outside, quote_after, is_quote_mark}
 
 -- the bracket that closes a group
 abbrev pub closer_of : ℕ → Option ℕ
@@ -17,52 +17,42 @@ closer_of b =
 abbrev pub is_closer : ℕ → Bool
 is_closer b = (b == 41) || (b == 93) || (b == 125)
 
--- what a byte is to a parameter: its end, a bracket that closes nothing here, or a part of it
--- behind which these brackets are awaited, the innermost first
-pub data Look : Type 0 where
-  Here : Look
-  Fails : Look
-  On : List ℕ → Quote → Look
+-- what stands behind the literal that is open
+unfoldable pub past_literal : ℕ → Quote → List ℕ → Option (List ℕ)
+past_literal control quote [] = None
+past_literal control quote (b ∷ rest) =
+    if is_outside (quote_after control quote b) then Some rest
+    else past_literal control (quote_after control quote b) rest
 
--- a byte that opens a group awaits its closer
-abbrev pub open_group : List ℕ → Option ℕ → Look → Look
-open_group awaited (Some closer) other = On (closer ∷ awaited) Outside
-open_group awaited None other = other
+-- a group goes up to its closer; any other bracket or byte is what it is
+abbrev pub past_group : Option ℕ → (ℕ → Option (List ℕ)) → Option (List ℕ) → Option (List ℕ)
+past_group None up_to other = other
+past_group (Some closer) up_to other = up_to closer
 
--- a closing bracket has to be the one awaited
-abbrev pub close_group : List ℕ → ℕ → Look
-close_group [] b = Fails
-close_group (closer ∷ awaited) b = if b == closer then On awaited Outside else Fails
+-- what stands behind the literal, the group or the byte that begins with this byte; a bracket that
+-- closes nothing begins none of them
+abbrev pub past_part : ℕ → ℕ → List ℕ → (ℕ → Option (List ℕ)) → Option (List ℕ)
+past_part control b rest up_to =
+    if is_quote_mark b then past_literal control (Within b) rest
+    else past_group (closer_of b) up_to (if is_closer b then None else Some rest)
 
--- no group is open
-abbrev pub is_none_awaited : List ℕ → Bool
-is_none_awaited [] = true
-is_none_awaited (closer ∷ awaited) = false
+-- what stands behind the first place of a byte, over whole literals and whole groups, where so many
+-- bytes may be looked at; a group ends at the first place of its closer
+unfoldable pub past : ℕ → ℕ → ℕ → List ℕ → Option (List ℕ)
+past control zero stop bytes = None
+past control (suc more) stop [] = None
+past control (suc more) stop (b ∷ rest) =
+    if b == stop then Some rest
+    else option_and_then (λ behind. past control more stop behind)
+    (past_part control b rest (λ closer. past control more closer rest))
 
--- tested in this order: the byte that follows the parameter, a literal, a group, its end
-unfoldable pub look : ℕ → ℕ → List ℕ → Quote → ℕ → Look
-look control end awaited Outside b =
-    if is_none_awaited awaited && (b == end) then Here
-    else (if is_quote_mark b then On awaited (Within b)
-    else open_group awaited (closer_of b)
-    (if is_closer b then close_group awaited b else On awaited Outside))
-look control end awaited (Within q) b = On awaited (quote_after control (Within q) b)
-look control end awaited (Escaped q) b = On awaited (quote_after control (Escaped q) b)
-
--- the bytes up to the end, by what the first one is
-abbrev pub reach_by : Look → (List ℕ → Quote → Option ℕ) → Option ℕ
-reach_by Here go_on = Some 0
-reach_by Fails go_on = None
-reach_by (On awaited quote) go_on = option_map suc (go_on awaited quote)
-
--- how many bytes a parameter takes
-unfoldable pub reach : ℕ → ℕ → List ℕ → Quote → List ℕ → Option ℕ
-reach control end awaited quote [] = None
-reach control end awaited quote (b ∷ rest) =
-    reach_by (look control end awaited quote b)
-    (λ awaited' quote'. reach control end awaited' quote' rest)
+-- how many bytes a parameter takes that `stop` follows
+unfoldable pub reach : ℕ → ℕ → List ℕ → Option ℕ
+reach control stop bytes =
+    option_map (λ behind. length bytes - suc (length behind))
+    (past control (length bytes) stop bytes)
 
 -- the same, where a byte follows it
 abbrev pub reach_to : ℕ → Option ℕ → List ℕ → Option ℕ
 reach_to control None bytes = None
-reach_to control (Some end) bytes = reach control end [] Outside bytes
+reach_to control (Some stop) bytes = reach control stop bytes

@@ -4,6 +4,7 @@ pub mod Defined
 pub mod Evaluation
 pub mod Expansion
 pub mod Group
+pub mod GroupScan
 pub mod Matched
 pub mod Matching
 pub mod Piece

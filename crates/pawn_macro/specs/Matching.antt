@@ -5,7 +5,7 @@ use Rattle.std.specs.Prelude.{if◌then◌else◌}
 use Rattle.pawn_macro.specs.declared.piece.Piece.{Piece}
 use Rattle.pawn_macro.specs.declared.piece.Piece.TheVariants.{Byte, Param}
 use Rattle.pawn_macro.specs.declared.matching.Given.{Given}
-use Rattle.pawn_lines.specs.ByteClass.{past_blanks, trimmed}
+use Rattle.pawn_lines.specs.Blanks.{past_blanks, trimmed}
 use Rattle.pawn_macro.specs.Group.{reach_to}
 use Rattle.pawn_macro.specs.Piece.{follower}
 

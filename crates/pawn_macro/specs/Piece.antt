@@ -6,7 +6,8 @@ use Rattle.pawn_lines.specs.declared.quote.Quote.{Quote}
 use Rattle.pawn_lines.specs.declared.quote.Quote.TheVariants.{Outside}
 use Rattle.pawn_macro.specs.declared.piece.Piece.{Piece}
 use Rattle.pawn_macro.specs.declared.piece.Piece.TheVariants.{Byte, Param}
-use Rattle.pawn_lines.specs.ByteClass.{is_digit}
+use Rattle.pawn_token.specs.declared.class.Class.TheVariants as class
+use Rattle.pawn_token.specs.Class.{is_in}
 use Rattle.pawn_lines.specs.Quote.{is_outside, quote_after}
 
 -- literals are told apart by a control character, or not at all
@@ -16,7 +17,7 @@ next_quote (Some control) quote b = quote_after control quote b
 
 -- `%` and a digit, outside literals
 abbrev pub is_parameter : Quote → ℕ → ℕ → Bool
-is_parameter quote b d = is_outside quote && ((b == 37) && is_digit d)
+is_parameter quote b d = is_outside quote && ((b == 37) && is_in class.Digit d)
 
 -- the parameter that a byte begins, by the bytes behind it
 abbrev pub param_at : Quote → ℕ → List ℕ → Option ℕ

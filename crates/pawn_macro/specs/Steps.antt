@@ -3,7 +3,7 @@ use Rattle.std.specs.Prelude.{◌≡◌, ℕ, List}
 use Rattle.pawn_lines.specs.declared.quote.Quote.{Quote}
 use Rattle.pawn_macro.specs.declared.group.Step.{Step}
 use Rattle.pawn_macro.specs.declared.group.Step.TheVariants as step
-use Rattle.pawn_macro.specs.Group.{Look, Here, Fails, On}
+use Rattle.pawn_macro.specs.GroupScan.{Look, Here, Fails, On}
 
 -- the same, with what is open behind the byte
 abbrev pub Steps : Look → Step → List ℕ → Quote → Type 0

@@ -1,7 +1,7 @@
 -- Substitution in a line: a step goes from a line with a cursor to the next one, at most 1,000
 -- times (Language Guide, "Preprocessor", on text substitution).
 use Rattle.std.specs.Prelude.{ℕ, ◌+◌, ◌==◌, zero, suc, not, nat_lt, Option, Some, None, Result}
-use Rattle.std.specs.Prelude.{Ok, Err, List, [], ◌∷◌, ◌++◌, length, take, drop, Bool, false}
+use Rattle.std.specs.Prelude.{Ok, Err, List, [], ◌∷◌, ◌++◌, length, Bool, false}
 use Rattle.std.specs.Prelude.{if◌then◌else◌, ◌&&◌}
 use Rattle.std.specs.Option.{option_map}
 use Rattle.std.specs.List.{find}
@@ -13,7 +13,9 @@ use Rattle.pawn_macro.specs.declared.matching.Given.{Given}
 use Rattle.pawn_macro.specs.declared.rule.Rule.{Rule}
 use Rattle.std.specs.FinMap.{get}
 use Rattle.pawn_macro.specs.Table.{Rules}
-use Rattle.pawn_lines.specs.ByteClass.{is_name_byte, is_name_start, name_len}
+use Rattle.pawn_token.specs.declared.class.Class.TheVariants as class
+use Rattle.pawn_token.specs.Class.{is_in}
+use Rattle.pawn_lines.specs.Blanks.{front_word, behind_word}
 use Rattle.pawn_lines.specs.Quote.{is_outside, quote_after}
 use Rattle.pawn_macro.specs.Piece.{pieces}
 use Rattle.pawn_macro.specs.Matching.{Match, matched}
@@ -46,11 +48,11 @@ place_by control (Some rule) behind =
 -- a match whose key stands in front
 unfoldable pub place_at : Rules → ℕ → List ℕ → Option (List ℕ)
 place_at rules control bytes =
-    place_by control (get rules (take (name_len bytes) bytes)) (drop (name_len bytes) bytes)
+    place_by control (get rules (front_word bytes)) (behind_word bytes)
 
 -- a whole name begins here
-abbrev pub begins_name : Quote → Bool → ℕ → Bool
-begins_name quote joined b = is_outside quote && (not joined && is_name_start b)
+abbrev pub begins_whole_name : Quote → Bool → ℕ → Bool
+begins_whole_name quote joined b = is_outside quote && (not joined && is_in class.NameStart b)
 
 -- a line around its cursor
 pub record Cursor : Type 0 where
@@ -72,9 +74,9 @@ or_later (Some after) later = Some (record { before = []; after = after })
 unfoldable pub substituted : Rules → ℕ → Quote → Bool → List ℕ → Option Cursor
 substituted rules control quote joined [] = None
 substituted rules control quote joined (b ∷ rest) =
-    or_later (if begins_name quote joined b then place_at rules control (b ∷ rest) else None)
+    or_later (if begins_whole_name quote joined b then place_at rules control (b ∷ rest) else None)
     (with_before (b ∷ [])
-    (substituted rules control (quote_after control quote b) (is_name_byte b) rest))
+    (substituted rules control (quote_after control quote b) (is_in class.NameByte b) rest))
 
 -- more than 4,095 bytes
 abbrev pub is_long : ℕ → Bool

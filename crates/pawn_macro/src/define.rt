@@ -1,13 +1,14 @@
 ghost use Rattle.std.specs.Prelude.{◌≡◌, ◌==◌, [], IfOk, position};
 ghost use Rattle.std.specs.List.{list_any};
 ghost use Rattle.std.specs.Option.{option_map};
-ghost use Rattle.pawn_lines.specs.ByteClass as class;
+ghost use Rattle.pawn_token.specs.Class as class;
 ghost use Rattle.pawn_macro.specs.Define as spec;
 
 use super::piece::{Piece, follower, pieces};
 use super::rule::Rule;
 use pawn_base::{Bytes, Memory};
-use pawn_lines::{is_blank, is_name_start, name_len, past_blanks, trimmed};
+use pawn_lines::{past_blanks, split_word, trimmed};
+use pawn_token::{Class, is_in};
 use std::alloc::Global;
 use std::collections::VecDeque;
 
@@ -83,7 +84,7 @@ pub fn begins_name(bytes: &[u8]) -> bool
     ensures { result ≡ spec.begins_name bytes.now }
 {
     match bytes {
-        [first, ..] => is_name_start(*first),
+        [first, ..] => is_in(Class::NameStart, *first),
         [] => false,
     }
 }
@@ -97,7 +98,7 @@ fn of_parts(
 ) -> Result<Option<Definition>, Memory>
     ensures { IfOk result (λ found. found ≡ spec.of_parts control pattern.now text.now) }
 {
-    let (key, behind) = pattern.split_at(name_len(pattern));
+    let (key, behind) = split_word(pattern);
     let tail = pieces(alloc, None, behind)?;
     let parts = pieces(alloc, Some(control), text)?;
     let good_tail = is_tail(alloc, tail.as_slice())?;
@@ -114,9 +115,9 @@ fn of_parts(
 }
 
 fn first_blank(bytes: &[u8]) -> Option<usize>
-    ensures { result ≡ position class.is_blank bytes.now }
+    ensures { result ≡ position (class.is_in Class.Blank) bytes.now }
 {
-    bytes.iter().position(|byte| is_blank(*byte))
+    bytes.iter().position(|byte| is_in(Class::Blank, *byte))
 }
 
 /// The definition behind `#define`, or nothing where its pattern or text is bad: the pattern is a
@@ -150,7 +151,7 @@ pub fn undefined(rest: &[u8]) -> Option<&[u8]>
 {
     let bytes = past_blanks(rest);
     if begins_name(bytes) {
-        Some(bytes.split_at(name_len(bytes)).0)
+        Some(split_word(bytes).0)
     } else {
         None
     }

@@ -1,5 +1,5 @@
 ghost use Rattle.std.specs.Prelude.{◌≡◌, ◌≤◌, length, IfOk, if◌then◌else◌, None, false};
-ghost use Rattle.pawn_lines.specs.ByteClass.{past_blanks};
+ghost use Rattle.pawn_lines.specs.Blanks.{past_blanks};
 ghost use Rattle.pawn_macro.specs.Defined as spec;
 ghost use Rattle.pawn_macro.specs.AskedFor.{IsAsked};
 
@@ -7,7 +7,8 @@ use super::define::begins_name;
 use super::substitution::begins_whole_name;
 use super::table::Table;
 use pawn_base::{Bytes, Memory};
-use pawn_lines::{Quote, is_name_byte, name_len, past_blanks};
+use pawn_lines::{Quote, past_blanks, split_word};
+use pawn_token::{Class, is_in};
 use std::alloc::Global;
 
 /// A name that `defined` asks for, and the bytes behind it.
@@ -23,7 +24,7 @@ fn bare(bytes: &[u8]) -> Option<Question<'_>>
     if !begins_name(bytes) {
         return None;
     }
-    let (name, rest) = bytes.split_at(name_len(bytes));
+    let (name, rest) = split_word(bytes);
     Some(Question { name, rest })
 }
 
@@ -59,7 +60,7 @@ fn asked_behind(bytes: &[u8]) -> Option<Question<'_>>
 fn defined_at(begins: bool, bytes: &[u8]) -> Option<Question<'_>>
     ensures { IsAsked (if begins then spec.defined_at bytes.now else None) result }
 {
-    let (word, behind) = bytes.split_at(name_len(bytes));
+    let (word, behind) = split_word(bytes);
     if begins && word == b"defined".as_slice() {
         asked_behind(behind)
     } else {
@@ -91,7 +92,7 @@ impl Table {
         for (i, byte) in bytes.iter().enumerate() {
             let begins = begins_whole_name(quote, joined, *byte);
             quote = quote.after(control, *byte);
-            joined = is_name_byte(*byte);
+            joined = is_in(Class::NameByte, *byte);
             if left > 0 {
                 left -= 1;
                 continue;

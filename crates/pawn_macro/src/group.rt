@@ -1,6 +1,7 @@
 ghost use Rattle.std.specs.Prelude.{◌≡◌, ◌≤◌, Option, Some, None, [], IfOk, IfSome, length};
 ghost use Rattle.std.specs.Option.{option_map};
 ghost use Rattle.pawn_macro.specs.Group as spec;
+ghost use Rattle.pawn_macro.specs.GroupScan as scan;
 ghost use Rattle.pawn_macro.specs.Steps.{Steps};
 
 use pawn_base::Memory;
@@ -47,10 +48,10 @@ fn is_closer(byte: u8) -> bool
 
 impl Group {
     /// Takes the next byte of a parameter that `end` follows.
-    #[tactic(auto, unfolding(crate::specs::Group::look))]
+    #[tactic(auto, unfolding(crate::specs::GroupScan::look))]
     fn take(&mut self, control: u8, end: u8, byte: u8) -> Result<Step, Memory>
         ensures { IfOk result (λ step. Steps
-            (spec.look control end self.old.awaited.items self.old.quote byte)
+            (scan.look control end self.old.awaited.items self.old.quote byte)
             step self.new.awaited.items self.new.quote) }
     {
         if !self.quote.is_outside() {
@@ -78,11 +79,16 @@ impl Group {
     }
 }
 
-/// How many bytes a parameter takes that `end` follows.
-#[tactic(auto, unfolding(crate::specs::Group::reach))]
-pub fn reach(alloc: Global, control: u8, end: u8, bytes: &[u8]) -> Result<Option<usize>, Memory>
+/// The same, byte by byte.
+#[tactic(auto, unfolding(crate::specs::GroupScan::reach_bytewise))]
+fn reach_bytewise(
+    alloc: Global,
+    control: u8,
+    end: u8,
+    bytes: &[u8],
+) -> Result<Option<usize>, Memory>
     ensures taken { IfOk result (λ taken.
-        taken ≡ spec.reach control end [] Quote.Outside bytes.now) }
+        taken ≡ scan.reach_bytewise control end [] Quote.Outside bytes.now) }
     ensures within { IfOk result (λ taken. IfSome taken (λ len. len ≤ length bytes.now)) }
 {
     let mut group = Group {
@@ -97,4 +103,12 @@ pub fn reach(alloc: Global, control: u8, end: u8, bytes: &[u8]) -> Result<Option
         }
     }
     Ok(None)
+}
+
+/// How many bytes a parameter takes that `end` follows.
+pub fn reach(alloc: Global, control: u8, end: u8, bytes: &[u8]) -> Result<Option<usize>, Memory>
+    ensures taken { IfOk result (λ taken. taken ≡ spec.reach control end bytes.now) }
+    ensures within { IfOk result (λ taken. IfSome taken (λ len. len ≤ length bytes.now)) }
+{
+    reach_bytewise(alloc, control, end, bytes)
 }

@@ -2,7 +2,8 @@ ghost use Rattle.std.specs.Prelude.{◌≡◌, ◌≤◌, IfOk, IfSome, length};
 ghost use Rattle.pawn_macro.specs.Piece as spec;
 
 use pawn_base::{List, Memory};
-use pawn_lines::{Quote, is_digit};
+use pawn_lines::Quote;
+use pawn_token::{Class, is_in};
 use std::alloc::Global;
 
 /// What a definition's tail and text are made of.
@@ -37,7 +38,7 @@ fn next_quote(control: Option<u8>, quote: Quote, byte: u8) -> Quote
 fn is_parameter(quote: Quote, byte: u8, behind: u8) -> bool
     ensures { result ≡ spec.is_parameter quote byte behind }
 {
-    quote.is_outside() && byte == b'%' && is_digit(behind)
+    quote.is_outside() && byte == b'%' && is_in(Class::Digit, behind)
 }
 
 /// The parameter that a byte begins, by the bytes behind it.

@@ -11,7 +11,8 @@ use super::piece::{Piece, pieces};
 use super::refusal::Refusal;
 use super::table::Table;
 use pawn_base::{Bytes, Memory};
-use pawn_lines::{Quote, is_name_byte, is_name_start, name_len};
+use pawn_lines::{Quote, split_word};
+use pawn_token::{Class, is_in};
 use std::alloc::Global;
 
 /// The most bytes that a line has.
@@ -88,7 +89,7 @@ impl Table {
         ensures { IfOk result (λ after.
             IsPlace (spec.place_at self.now control bytes.now) after) }
     {
-        let (name, behind) = bytes.split_at(name_len(bytes));
+        let (name, behind) = split_word(bytes);
         let Some(rule) = self.find(name) else {
             return Ok(None);
         };
@@ -139,7 +140,7 @@ impl Table {
                 Some(after) => return Ok(Some(Spot { before, after })),
                 None => {
                     quote = quote.after(control, *byte);
-                    joined = is_name_byte(*byte);
+                    joined = is_in(Class::NameByte, *byte);
                     continue;
                 }
             }
@@ -187,7 +188,7 @@ impl Table {
 
 /// Whether a whole name begins with a byte.
 pub fn begins_whole_name(quote: Quote, joined: bool, byte: u8) -> bool
-    ensures { result ≡ spec.begins_name quote joined byte }
+    ensures { result ≡ spec.begins_whole_name quote joined byte }
 {
-    quote.is_outside() && !joined && is_name_start(byte)
+    quote.is_outside() && !joined && is_in(Class::NameStart, byte)
 }

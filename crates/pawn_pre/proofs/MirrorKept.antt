@@ -7,7 +7,7 @@ use Rattle.pawn_pre.specs.declared.directive.Setting.TheVariants as setting
 use Rattle.pawn_pre.specs.declared.directive.Word.TheVariants as word
 use Rattle.pawn_pre.specs.declared.work.Work.{Work}
 use Rattle.pawn_pre.specs.Work.{act, keep, with_line, is_in_chosen, define, undefine, without, assert_true, set_pragma, pragma_by, with_definition, with_settings, is_set}
-use Rattle.pawn_lines.specs.ByteClass.{past_blanks}
+use Rattle.pawn_lines.specs.Blanks.{past_blanks}
 use Rattle.pawn_macro.specs.Define.{definition, undefined}
 use Rattle.pawn_pre.specs.Directive.{pragma, quoted_byte}
 use Rattle.pawn_pre.specs.Kept as kept_lines

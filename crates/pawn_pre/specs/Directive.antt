@@ -5,7 +5,7 @@ use Rattle.pawn_pre.specs.declared.directive.Word.{Word}
 use Rattle.pawn_pre.specs.declared.directive.Word.TheVariants as word
 use Rattle.pawn_pre.specs.declared.directive.Setting.{Setting}
 use Rattle.pawn_pre.specs.declared.directive.Setting.TheVariants as setting
-use Rattle.pawn_lines.specs.ByteClass.{past_blanks, run, behind_run}
+use Rattle.pawn_lines.specs.Blanks.{past_blanks, front_word, behind_word}
 
 -- a word in front, and the bytes behind it
 pub record Directive : Type 0 where
@@ -30,7 +30,7 @@ word_named name =
 
 -- the word in front, and what stands behind it
 abbrev pub worded : List ℕ → Directive
-worded bytes = record { word = word_named (run bytes); rest = behind_run bytes }
+worded bytes = record { word = word_named (front_word bytes); rest = behind_word bytes }
 
 -- behind blanks a `#` begins a directive
 abbrev pub behind_hash : List ℕ → Option Directive
@@ -58,7 +58,7 @@ setting_named name =
 abbrev pub pragma : List ℕ → Pragma
 pragma rest =
     let bytes = past_blanks rest in
-    record { setting = setting_named (run bytes); rest = behind_run bytes }
+    record { setting = setting_named (front_word bytes); rest = behind_word bytes }
 
 -- a byte between `'` and `'`
 abbrev pub quoted_byte : List ℕ → Option ℕ

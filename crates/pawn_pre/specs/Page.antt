@@ -12,7 +12,7 @@ use Rattle.pawn_pre.specs.declared.directive.Word.{Word}
 use Rattle.pawn_pre.specs.declared.directive.Word.TheVariants as word
 use Rattle.pawn_pre.specs.declared.directive.Setting.{Setting}
 use Rattle.pawn_pre.specs.declared.directive.Setting.TheVariants as setting
-use Rattle.pawn_lines.specs.ByteClass.{past_blanks}
+use Rattle.pawn_lines.specs.Blanks.{past_blanks}
 use Rattle.pawn_pre.specs.Conditionals.{if_by, elseif_line, else_line, endif_line}
 use Rattle.pawn_macro.specs.Define.{definition, undefined}
 use Rattle.pawn_pre.specs.Directive.{pragma, quoted_byte}

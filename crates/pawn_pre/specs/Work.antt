@@ -14,7 +14,7 @@ use Rattle.pawn_pre.specs.declared.directive.Word.TheVariants as word
 use Rattle.pawn_pre.specs.declared.directive.Setting.{Setting}
 use Rattle.pawn_pre.specs.declared.directive.Setting.TheVariants as setting
 use Rattle.pawn_macro.specs.declared.define.Definition.{Definition}
-use Rattle.pawn_lines.specs.ByteClass.{past_blanks}
+use Rattle.pawn_lines.specs.Blanks.{past_blanks}
 use Rattle.pawn_macro.specs.Substitution.{expanded}
 use Rattle.pawn_pre.specs.Directive.{pragma, quoted_byte}
 use Rattle.pawn_macro.specs.Define.{definition, undefined}

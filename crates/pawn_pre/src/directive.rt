@@ -2,7 +2,7 @@ ghost use Rattle.std.specs.Prelude.{◌≡◌};
 ghost use Rattle.pawn_pre.specs.Directive as spec;
 ghost use Rattle.pawn_pre.specs.Parsed.{IsDirective, IsPragma};
 
-use pawn_lines::{name_len, past_blanks};
+use pawn_lines::{past_blanks, split_word};
 
 /// The word of a directive.
 #[derive(Clone, Copy, Debug, PartialEq, Eq)]
@@ -101,7 +101,7 @@ pub fn directive(line: &[u8]) -> Option<Parts<'_>>
     match past_blanks(line) {
         [b'#', rest @ ..] => {
             let bytes = past_blanks(rest);
-            let (name, rest) = bytes.split_at(name_len(bytes));
+            let (name, rest) = split_word(bytes);
             let word = word_named(name);
             Some(Parts { word, rest })
         }
@@ -114,7 +114,7 @@ pub fn pragma(rest: &[u8]) -> PragmaParts<'_>
     ensures { IsPragma (spec.pragma rest.now) result }
 {
     let bytes = past_blanks(rest);
-    let (name, rest) = bytes.split_at(name_len(bytes));
+    let (name, rest) = split_word(bytes);
     let setting = setting_named(name);
     PragmaParts { setting, rest }
 }

@@ -10,7 +10,7 @@ loop-i-preserved-in-Some c =
     let so_far = rw (cut, first) at c.loop-i.invariant in
     let found = rw (c.in-Some.is, c.begins_whole_name-begins.ensures, c.split_at.ensures.back, cut) at c.defined_at.ensures in
     let len : length c.split_at.result.1.now - 1 ≡ length (drop (c.loop-i.i + 1) c.args.bytes.now) = rw (c.split_at.ensures.back, cut) (omega arith) in
-    rw (c.in_ok-push-in-Some.ensures.ok, c.digit.ensures, c.after-quote.ensures, c.is_name_byte-joined.ensures, c.saturating_sub-left.ensures, len)
+    rw (c.in_ok-push-in-Some.ensures.ok, c.digit.ensures, c.after-quote.ensures, c.is_in-joined.ensures, c.saturating_sub-left.ensures, len)
     (answered_name c.loop-i.out _ c.args.self.now c.args.control c.loop-i.quote c.loop-i.joined _ _ _ found so_far)
 
 pub loop-i-preserved : goal.loop-i-preserved
@@ -19,4 +19,4 @@ loop-i-preserved c =
     let first : c.loop-i.left ≡ 0 = grind arith in
     let so_far = rw (cut, first) at c.loop-i.invariant in
     let found = rw (c.in-None.is, c.begins_whole_name-begins.ensures, c.split_at.ensures.back, cut) at c.defined_at.ensures in
-    rw (c.in_ok-push-in-None.ensures.ok, c.after-quote.ensures, c.is_name_byte-joined.ensures, first) (kept_byte c.loop-i.out _ c.args.self.now c.args.control c.loop-i.quote c.loop-i.joined _ _ found so_far)
+    rw (c.in_ok-push-in-None.ensures.ok, c.after-quote.ensures, c.is_in-joined.ensures, first) (kept_byte c.loop-i.out _ c.args.self.now c.args.control c.loop-i.quote c.loop-i.joined _ _ found so_far)

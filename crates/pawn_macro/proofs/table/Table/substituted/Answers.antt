@@ -14,4 +14,4 @@ loop-i-preserved c =
     let cut : drop c.loop-i.i c.args.bytes.now ≡ get_or c.args.bytes.now c.loop-i.i 0 ∷ drop (c.loop-i.i + 1) c.args.bytes.now = grind (arith, common_steps) in
     let next : take (c.loop-i.i + 1) c.args.bytes.now ≡ take c.loop-i.i c.args.bytes.now ++ get_or c.args.bytes.now c.loop-i.i 0 ∷ [] = grind (arith, common_steps) in
     let none = rw (c.in-None.is, c.split_at.ensures.back, c.begins_whole_name-begins.ensures) at c.in_ok-after.ensures in
-    rw (next, c.after-quote.ensures, c.is_name_byte-joined.ensures) (no_place _ _ _ _ _ _ _ _ _ cut c.loop-i.invariant none)
+    rw (next, c.after-quote.ensures, c.is_in-joined.ensures) (no_place _ _ _ _ _ _ _ _ _ cut c.loop-i.invariant none)
