@@ -1,5 +1,5 @@
 -- Sleeps under several bounds, and natives with each form of argument, computed.
-use Rattle.std.proofs.Common.{◌≡◌, ℕ, ℤ, pos, negsuc, List, [], ◌∷◌, Option, None, Some, false, codes, refl}
+use Rattle.std.proofs.Common.{◌≡◌, ℕ, ℤ, pos, List, [], ◌∷◌, None, false, codes, refl}
 use Rattle.host_script.specs.Script.{plain}
 use Rattle.host_script.specs.declared.script.Script.{Script}
 use Rattle.host_script.specs.declared.script.Form.{Form}

@@ -1,13 +1,12 @@
 -- Each operation's row, by its number.
-use Rattle.std.proofs.Common.{◌≡◌, ◌≢◌, ◌+◌, ◌*◌, ◌≤◌, Bool, true, false, ℕ, ℤ, pos, List, [], ◌∷◌, ◌++◌, Option, None, Some, length, refl, ap, sym, subst, ◌∙◌, arith}
+use Rattle.std.proofs.Common.{◌≡◌, ◌≢◌, ◌+◌, ◌*◌, ◌≤◌, true, false, ℕ, ℤ, pos, List, ◌∷◌, ◌++◌, Some, length, refl, ap, sym, subst, ◌∙◌, arith}
 use Rattle.amx_ops.specs.declared.op.Op.{Op}
 use Rattle.amx_ops.specs.declared.op.Op.TheVariants as op
-use Rattle.amx_ops.specs.declared.instr.Instr.{Instr}
 use Rattle.amx_ops.specs.declared.table.Operand.{Operand}
 use Rattle.amx_ops.specs.declared.table.Operand.TheVariants as operand
-use Rattle.amx_ops.specs.Table.{row_at, row_of, op_of, operand_at, operand_by, number_of, operand_of, kind_by, table, Row}
+use Rattle.amx_ops.specs.Table.{row_at, row_of, op_of, operand_at, operand_by, number_of, operand_of}
 use Rattle.amx_ops.specs.Valid.{is_cases_kind}
-use Rattle.amx_ops.specs.Instructions.{Instruction, Placed, placed_from, front, read_row, cells_by, cells, encoded, IsProper, IsEncodable, IsEncodableBy, encoded_by, instr_by, instr}
+use Rattle.amx_ops.specs.Instructions.{Instruction, placed_from, front, cells_by, cells, encoded, IsProper, IsEncodable, IsEncodableBy, encoded_by, instr_by, instr}
 
 -- the row of an operation
 pub record HasRow (o : Op) : Type 0 where
@@ -163,55 +162,22 @@ encodable o v h = subst (λ r. IsEncodableBy r v) (sym (row_is o)) h
 -- it is read back, whatever stands behind it
 front_by : (n : ℕ) (v : ℤ) (kind : Operand) (rest : List ℤ) → kind ≢ operand.Cases → operand_at (pos n) ≡ Some (n, kind)
     → front (cells_by n v kind ++ rest) ≡ Some (instr_by n v kind)
-front_by n v operand.Nothing rest h e = rw e refl
-front_by n v operand.AnyCell rest h e = rw e refl
-front_by n v operand.ByteCount rest h e = rw e refl
-front_by n v operand.Register rest h e = rw e refl
-front_by n v operand.SetRegister rest h e = rw e refl
-front_by n v operand.Multiple rest h e = rw e refl
-front_by n v operand.Length rest h e = rw e refl
-front_by n v operand.CellsLength rest h e = rw e refl
-front_by n v operand.Target rest h e = rw e refl
-front_by n v operand.Relative rest h e = rw e refl
-front_by n v operand.NativeNumber rest h e = rw e refl
-front_by n v operand.CaseTable rest h e = rw e refl
 front_by n v operand.Cases rest h e = elim (h refl) [ ]
+front_by n v kind rest h e = rw e refl
 
 pub front_is : (i : Instruction) (rest : List ℤ) → operand_of i.op ≢ operand.Cases → front (cells i ++ rest) ≡ Some (instr i)
 front_is i rest h = front_by (number_of i.op) i.operand (operand_of i.op) rest h (row_is i.op)
 
 size_by : (n : ℕ) (v : ℤ) (kind : Operand) → length (cells_by n v kind) ≡ (instr_by n v kind).cells
 size_by n v operand.Nothing = refl
-size_by n v operand.AnyCell = refl
-size_by n v operand.ByteCount = refl
-size_by n v operand.Register = refl
-size_by n v operand.SetRegister = refl
-size_by n v operand.Multiple = refl
-size_by n v operand.Length = refl
-size_by n v operand.CellsLength = refl
-size_by n v operand.Target = refl
-size_by n v operand.Relative = refl
-size_by n v operand.NativeNumber = refl
-size_by n v operand.CaseTable = refl
-size_by n v operand.Cases = refl
+size_by n v kind = refl
 
 pub size_is : (i : Instruction) → length (cells i) ≡ (instr i).cells
 size_is i = size_by (number_of i.op) i.operand (operand_of i.op)
 
 op_by : (n : ℕ) (v : ℤ) (kind : Operand) → (instr_by n v kind).op ≡ n
 op_by n v operand.Nothing = refl
-op_by n v operand.AnyCell = refl
-op_by n v operand.ByteCount = refl
-op_by n v operand.Register = refl
-op_by n v operand.SetRegister = refl
-op_by n v operand.Multiple = refl
-op_by n v operand.Length = refl
-op_by n v operand.CellsLength = refl
-op_by n v operand.Target = refl
-op_by n v operand.Relative = refl
-op_by n v operand.NativeNumber = refl
-op_by n v operand.CaseTable = refl
-op_by n v operand.Cases = refl
+op_by n v kind = refl
 
 pub number_is : (i : Instruction) → (instr i).op ≡ number_of i.op
 number_is i = op_by (number_of i.op) i.operand (operand_of i.op)
@@ -222,18 +188,7 @@ acts_as i = ap op_of (op_by (number_of i.op) i.operand (operand_of i.op)) ∙ op
 
 takes_by : (n : ℕ) (v : ℤ) (kind : Operand) → 1 ≤ (instr_by n v kind).cells
 takes_by n v operand.Nothing = omega arith
-takes_by n v operand.AnyCell = omega arith
-takes_by n v operand.ByteCount = omega arith
-takes_by n v operand.Register = omega arith
-takes_by n v operand.SetRegister = omega arith
-takes_by n v operand.Multiple = omega arith
-takes_by n v operand.Length = omega arith
-takes_by n v operand.CellsLength = omega arith
-takes_by n v operand.Target = omega arith
-takes_by n v operand.Relative = omega arith
-takes_by n v operand.NativeNumber = omega arith
-takes_by n v operand.CaseTable = omega arith
-takes_by n v operand.Cases = omega arith
+takes_by n v kind = omega arith
 
 -- it takes at least a cell
 pub takes : (i : Instruction) → 1 ≤ (instr i).cells
@@ -245,22 +200,12 @@ no_cases e = cc
 pub plain_kind : (kind : Operand) → is_cases_kind kind ≡ false → kind ≢ operand.Cases
 plain_kind kind h e = no_cases (ap is_cases_kind (sym e) ∙ h)
 
-placed_by_kind : (p n : ℕ) (v : ℤ) (kind : Operand) (rest : List ℤ) → kind ≢ operand.Cases → operand_at (pos n) ≡ Some (n, kind)
+pub placed_by_kind : (p n : ℕ) (v : ℤ) (kind : Operand) (rest : List ℤ) → kind ≢ operand.Cases → operand_at (pos n) ≡ Some (n, kind)
     → placed_from p 0 (cells_by n v kind ++ rest)
     ≡ record { at = p; instr = instr_by n v kind } ∷ placed_from (p + 4 * (instr_by n v kind).cells) 0 rest
 placed_by_kind p n v operand.Nothing rest h e = rw e refl
-placed_by_kind p n v operand.AnyCell rest h e = let q : p + 4 + 4 ≡ p + 8 = omega arith in rw (e, q) refl
-placed_by_kind p n v operand.ByteCount rest h e = let q : p + 4 + 4 ≡ p + 8 = omega arith in rw (e, q) refl
-placed_by_kind p n v operand.Register rest h e = let q : p + 4 + 4 ≡ p + 8 = omega arith in rw (e, q) refl
-placed_by_kind p n v operand.SetRegister rest h e = let q : p + 4 + 4 ≡ p + 8 = omega arith in rw (e, q) refl
-placed_by_kind p n v operand.Multiple rest h e = let q : p + 4 + 4 ≡ p + 8 = omega arith in rw (e, q) refl
-placed_by_kind p n v operand.Length rest h e = let q : p + 4 + 4 ≡ p + 8 = omega arith in rw (e, q) refl
-placed_by_kind p n v operand.CellsLength rest h e = let q : p + 4 + 4 ≡ p + 8 = omega arith in rw (e, q) refl
-placed_by_kind p n v operand.Target rest h e = let q : p + 4 + 4 ≡ p + 8 = omega arith in rw (e, q) refl
-placed_by_kind p n v operand.Relative rest h e = let q : p + 4 + 4 ≡ p + 8 = omega arith in rw (e, q) refl
-placed_by_kind p n v operand.NativeNumber rest h e = let q : p + 4 + 4 ≡ p + 8 = omega arith in rw (e, q) refl
-placed_by_kind p n v operand.CaseTable rest h e = let q : p + 4 + 4 ≡ p + 8 = omega arith in rw (e, q) refl
 placed_by_kind p n v operand.Cases rest h e = elim (h refl) [ ]
+placed_by_kind p n v kind rest h e = let q : p + 4 + 4 ≡ p + 8 = omega arith in rw (e, q) refl
 
 -- an instruction stands in front of the others
 pub placed_first : (p : ℕ) (i : Instruction) (rest : List ℤ) → is_cases_kind (operand_of i.op) ≡ false

@@ -19,7 +19,7 @@ use Rattle.amx_ops.specs.State.{State, Turned}
 use Rattle.amx_ops.specs.Step.{step}
 use Rattle.amx_ops.specs.Runs.{Moved, Goes, Sleeps, Ends, Finish, Cut, Over, iterate, Stop, Steps, Asleep, Over_by, Segmented, segment, joined, sleeps}
 use Rattle.amx_ops.specs.Moves.{Config, look, with_writes, answered, asked, arguments, name_of, halted_by, moved, move}
-use Rattle.amx_ops.specs.Cuts.{Leads, IsCut, slept_in, showing, TraceIsOneIteration}
+use Rattle.amx_ops.specs.Cuts.{Leads, slept_in, showing, TraceIsOneIteration}
 use Rattle.amx_ops.proofs.RunLaws.{iterate-zero, iterate-goes, iterate-sleeps, iterate-ends, segment-zero, segment-goes, segment-sleeps, segment-ends, sleeps-zero, sleeps-goes, sleeps-sleeps, sleeps-ends}
 use Rattle.amx_ops.proofs.CutLaws.{joined_cut}
 

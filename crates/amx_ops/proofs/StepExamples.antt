@@ -1,11 +1,11 @@
 -- Each family of instructions at its edges, computed.
-use Rattle.std.proofs.Common.{◌≡◌, ℕ, ℤ, pos, negsuc, List, [], ◌∷◌, refl}
+use Rattle.std.proofs.Common.{◌≡◌, ℤ, pos, negsuc, [], ◌∷◌, refl}
 use Rattle.std.specs.Int.{int_wrap}
 use Rattle.amx_ops.specs.declared.amx.Amx.{Amx}
 use Rattle.amx_ops.specs.declared.op.Op.{Op}
 use Rattle.amx_ops.specs.declared.op.Op.TheVariants as op
 use Rattle.amx_ops.specs.Table.{row_at}
-use Rattle.amx_ops.specs.State.{State, Turned, Goes, Errs, Halts, Asks}
+use Rattle.amx_ops.specs.State.{State, Turned, Goes, Errs, Halts}
 use Rattle.amx_ops.specs.Step.{act}
 
 -- HALT 0; a case table of two pairs
@@ -119,6 +119,16 @@ bounds_are_met = refl
 move_of_three : does op.Movs (pos 3) (record s { pri = pos 0; alt = pos 12 })
     ≡ Goes (record s { pri = pos 0; alt = pos 12; cip = 8; cells = pos 0x01020304 ∷ pos 5 ∷ pos 6 ∷ pos 0x00020304 ∷ [] })
 move_of_three = refl
+
+-- the ranges lie over one another, and all is read first
+move_by_one : does op.Movs (pos 4) (record s { pri = pos 0; alt = pos 1 })
+    ≡ Goes (record s { pri = pos 0; alt = pos 1; cip = 8; cells = pos 0x02030404 ∷ pos 1 ∷ pos 6 ∷ pos 7 ∷ [] })
+move_by_one = refl
+
+-- cells without a byte that was moved stay what they are
+move_of_nothing : does op.Movs (pos 0) (record s { pri = pos 0; alt = pos 2; cells = pos 0x100000000 ∷ pos 5 ∷ pos 6 ∷ pos 7 ∷ [] })
+    ≡ Goes (record s { pri = pos 0; alt = pos 2; cip = 8; cells = pos 0x100000000 ∷ pos 5 ∷ pos 6 ∷ pos 7 ∷ [] })
+move_of_nothing = refl
 
 move_where_heap_and_stack_meet : does op.Movs (pos 4) (record s { pri = pos 6; alt = pos 0 })
     ≡ Goes (record s { pri = pos 6; alt = pos 0; cip = 8; cells = pos 0x00060000 ∷ pos 5 ∷ pos 6 ∷ pos 7 ∷ [] })

@@ -4,7 +4,7 @@ use Rattle.host_script.specs.declared.script.Script.{Script}
 use Rattle.host_script.specs.declared.event.Event.{Event}
 use Rattle.host_script.specs.declared.event.Event.TheVariants.{Native, Slept}
 use Rattle.amx_ops.specs.declared.amx.Amx.{Amx}
-use Rattle.amx_ops.specs.Runs.{Moved, Over, iterate, Stop, Steps, Asleep, Over_by, Segmented, segment, Traced, joined, sleeps}
+use Rattle.amx_ops.specs.Runs.{Moved, Over, iterate, Stop, Steps, Asleep, Over_by, segment, Traced, joined, sleeps}
 use Rattle.amx_ops.specs.Moves.{Config, move}
 
 -- after so many moves the iteration is where the trace stopped, or is over as the trace is
@@ -35,6 +35,7 @@ pub record IsCut {C E : Type 0} (move : C → Moved C E) (c : C) (bounds : List 
 
 -- ---- what is shown
 
+-- how many events are sleeps
 abbrev pub slept_in : List Event → ℕ
 slept_in [] = 0
 slept_in (Native name seen result ∷ events) = slept_in events

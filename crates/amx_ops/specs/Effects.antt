@@ -7,6 +7,7 @@ use Rattle.amx_ops.specs.declared.amx.Amx.{Amx}
 use Rattle.amx_ops.specs.Instructions.{is_start}
 use Rattle.amx_ops.specs.State.{State, Turned, Goes, Errs, Asks, stp, first_hea, with_margin, swept}
 
+-- it goes on at the next address
 abbrev pub at_next : ℕ → State → Turned
 at_next next s = Goes (record s { cip = next })
 
@@ -16,6 +17,7 @@ at_next next s = Goes (record s { cip = next })
 abbrev pub jump : Amx → ℕ → State → Turned
 jump amx at s = if is_start amx.code at then at_next at s else Errs (pos 6)
 
+-- to an address where a test holds, else to the next one
 abbrev pub jump_if : Bool → ℕ → ℕ → State → Turned
 jump_if true at next s = at_next at s
 jump_if false at next s = at_next next s
@@ -27,6 +29,7 @@ paired [] v (suc n) other = other
 paired (x ∷ []) v (suc n) other = other
 paired (x ∷ at ∷ cells) v (suc n) other = if equal x v then bits_of at else paired cells v n other
 
+-- the same in the cells of a case table: its count, its default, and the pairs
 abbrev pub case_in : List ℤ → ℤ → ℕ
 case_in [] v = 0
 case_in (count ∷ []) v = 0

@@ -2,6 +2,7 @@ pub mod Access
 pub mod Cuts
 pub mod Effects
 pub mod Instructions
+pub mod Keeps
 pub mod Moves
 pub mod Runs
 pub mod State
@@ -11,3 +12,4 @@ pub mod Table
 pub mod Trace
 pub mod Valid
 pub mod Writable
+pub mod Written

@@ -36,16 +36,19 @@ live_from s address =
     else (if nat_le s.stk address then drop (address / 4) s.cells else []))
     else []
 
+-- what was seen at an address where so many cells are live
 abbrev pub held_at : ℕ → ℕ → List ℤ → Seen → Sight (Sought ℕ)
 held_at address count cells it =
     if nat_le count (length cells)
     then Sees (record { seen = it; hold = Some (record { at = address; cells = count }) })
     else Blind native_error
 
+-- a text that has its end
 abbrev pub read_text : Option (List ℤ) → Sight (Sought ℕ)
 read_text None = Blind native_error
 read_text (Some text) = Sees (record { seen = seen.Text text; hold = None })
 
+-- the first of some cells
 abbrev pub first_cell : List ℤ → ℤ
 first_cell [] = pos 0
 first_cell (cell ∷ cells) = cell
@@ -67,16 +70,20 @@ arguments s =
 
 -- ---- what it does
 
+-- the cells with one write
 abbrev pub with_write : Put ℕ → List ℤ → List ℤ
 with_write put cells = take (put.to / 4) cells ++ (put.values ++ drop (put.to / 4 + length put.values) cells)
 
+-- with all writes, the first of them first
 abbrev pub with_writes : List (Put ℕ) → List ℤ → List ℤ
 with_writes [] cells = cells
 with_writes (put ∷ puts) cells = with_writes puts (with_write put cells)
 
+-- with an event behind those before
 abbrev pub shown : Event → Config → Config
 shown event c = record c { events = c.events ++ event ∷ [] }
 
+-- the AMX error of a call that ends the run
 abbrev pub error_of : Trap → ℤ
 error_of Lost = pos 10
 error_of (Fault code) = code
@@ -87,10 +94,12 @@ answered (Ends_there trap position) s c = run.Ends (end.Error (error_of trap)) (
 answered (Answers event result position puts) s c =
     run.Goes (shown event (record c { state = record s { pri = result; cells = with_writes puts s.cells }; position = position }))
 
+-- a native is called by its name, with its arguments where they can be read
 abbrev pub asked : Script → List ℕ → Option (List ℤ) → State → Config → Moved Config End
 asked script name None s c = run.Ends (end.Error (error_of native_error)) (record c { state = s })
 asked script name (Some cells) s c = answered (native_call script (look s) name cells c.position) s c
 
+-- the name of a native by its number
 abbrev pub name_of : List Record → ℕ → List ℕ
 name_of natives n = unwrap_or (option_map (λ it. it.name) (slice_get natives n)) []
 
@@ -101,14 +110,17 @@ halted_by v false true d s c = run.Ends (end.Exit s.pri s.alt) (record c { state
 halted_by v false false true s c = run.Sleeps (shown (event.Slept s.pri s.alt) (record c { state = s }))
 halted_by v false false false s c = run.Ends (end.Error v) (record c { state = s })
 
+-- what a HALT comes to
 abbrev pub halted : ℤ → State → Config → Moved Config End
 halted v s c = halted_by v (is_number 0 v) (is_number 1 v) (is_number 12 v) s c
 
+-- what the outcome of a step comes to
 abbrev pub moved : Amx → Script → Config → Turned → Moved Config End
 moved amx script c (Goes s) = run.Goes (record c { state = s })
 moved amx script c (Errs code) = run.Ends (end.Error code) c
 moved amx script c (Halts v s) = halted v s c
 moved amx script c (Asks n s) = asked script (name_of amx.natives n) (arguments s) s c
 
+-- one step, with the native that it calls
 abbrev pub move : Amx → Script → Config → Moved Config End
 move amx script c = moved amx script c (step amx c.state)

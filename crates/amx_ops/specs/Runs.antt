@@ -2,6 +2,7 @@
 -- moves and stops at a sleep; a trace joins segments, going on after each sleep.
 use Rattle.std.specs.Prelude.{ℕ, zero, suc, ◌+◌, List, [], ◌∷◌}
 
+-- what one move comes to
 pub data Moved (C E : Type 0) : Type 0 where
   Goes : C → Moved C E
   Sleeps : C → Moved C E
@@ -23,6 +24,7 @@ pub data Stop (E : Type 0) : Type 0 where
   Asleep : Stop E
   Over_by : E → Stop E
 
+-- what a segment came to: why it stopped, where, and after how many moves
 pub record Segmented (C E : Type 0) : Type 0 where
   pub stop : Stop E
   pub config : C
@@ -44,6 +46,7 @@ pub record Traced (C E : Type 0) : Type 0 where
   pub bound : ℕ
   pub steps : ℕ
 
+-- a segment with its bound
 abbrev pub traced : {C E : Type 0} → ℕ → Segmented C E → Traced C E
 traced bound segmented = record { stop = segmented.stop; config = segmented.config; bound = bound; steps = segmented.steps }
 

@@ -4,6 +4,7 @@ use Rattle.std.specs.Prelude.{◌+◌, ◌-◌, ◌*◌, ◌/◌, ◌++◌, ℕ,
 use Rattle.std.specs.List.{slice_index_or}
 use Rattle.amx_ops.specs.declared.amx.Amx.{Amx}
 
+-- the registers and the cells
 pub record State : Type 0 where
   pub pri : ℤ
   pub alt : ℤ

@@ -1,5 +1,5 @@
 -- States that a machine comes to, and those that it can be set to at a sleep.
-use Rattle.std.specs.Prelude.{◌≡◌, ◌*◌, ◌-◌, ◌/◌, ◌%◌, ◌^◌, ◌<◌, ◌≤◌, ℕ, pos, All, IsTrue, take, drop, replicate}
+use Rattle.std.specs.Prelude.{◌≡◌, ◌%◌, ◌^◌, ◌<◌, ◌≤◌, All, IsTrue}
 use Rattle.pawn_cells.specs.Cells.{IsCell}
 use Rattle.amx_ops.specs.declared.amx.Amx.{Amx}
 use Rattle.amx_ops.specs.Instructions.{is_start}

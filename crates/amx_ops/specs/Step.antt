@@ -1,6 +1,6 @@
 -- One step: what each instruction does, a clause each, in the order of the table (Implementer's Guide,
 -- "Instruction reference"). Tests stand in the order of the effect, and an error changes nothing.
-use Rattle.std.specs.Prelude.{◌+◌, ◌*◌, ℕ, ℤ, pos, negsuc, ◌+ℤ◌, not as no, Option, None, Some, nat_lt, if◌then◌else◌, option_and_then}
+use Rattle.std.specs.Prelude.{◌+◌, ◌*◌, ℕ, ℤ, pos, negsuc, ◌+ℤ◌, not as no, Option, None, Some, nat_lt, if◌then◌else◌}
 use Rattle.pawn_cells.specs.Cells.{bits_of, cell_of, wrapped_sum, add, sub, mul, neg, floor_div, floor_rem, unsigned_div, unsigned_rem, and, or, xor, invert, shl, shr, ushr, less, less_eq, equal, unsigned_less, unsigned_less_eq, is_zero, truth, not}
 use Rattle.amx_ops.specs.declared.amx.Amx.{Amx}
 use Rattle.amx_ops.specs.declared.instr.Instr.{Instr}
@@ -153,6 +153,7 @@ act amx op.PushAdr v q s = push s (cell_of (in_frame s v)) (at_next q)
 act amx op.Nop v q s = at_next q s
 act amx op.Break v q s = at_next q s
 
+-- an operation, or error 6 for a number that has none
 abbrev pub act_by : Amx → Option Op → ℤ → ℕ → State → Turned
 act_by amx None v next s = Errs (pos 6)
 act_by amx (Some operation) v next s = act amx operation v next s
@@ -162,5 +163,6 @@ abbrev pub act_on : Amx → Option Instr → State → Turned
 act_on amx None s = Errs (pos 6)
 act_on amx (Some i) s = act_by amx (op_of i.op) i.operand (s.cip + 4 * i.cells) s
 
+-- the instruction at CIP
 abbrev pub step : Amx → State → Turned
 step amx s = act_on amx (fetched amx.code s.cip) s

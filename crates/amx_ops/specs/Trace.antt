@@ -34,6 +34,7 @@ loaded amx room = record {
 
 -- ---- starts
 
+-- one cell pushed, where there is room above HEA
 abbrev pub pushed_by : ℤ → Option State → Option State
 pushed_by v None = None
 pushed_by v (Some s) =
@@ -69,6 +70,7 @@ start amx entry arguments s = option_and_then (λ address. start_at amx address 
 
 -- ---- the trace
 
+-- a state at the script's first answer, with nothing shown
 abbrev pub begun : State → Config
 begun s = record { state = s; position = 0; events = [] }
 
@@ -78,6 +80,7 @@ trace_by amx script idle (Some s) bound bounds = joined (move amx script) bound 
 trace_by amx script idle None bound bounds =
     record { stop = Over_by (end.Error (pos 3)); config = begun idle; bound = bound; steps = 0 }
 
+-- the trace of a file with this room, started at an address
 abbrev pub trace_from : Amx → ℕ → Script → ℤ → ℕ → List ℕ → Traced Config End
 trace_from amx room script address bound bounds =
     trace_by amx script (loaded amx room) (start_at amx address [] (loaded amx room)) bound bounds

@@ -14,13 +14,15 @@ table_size records = 8 * length records
 abbrev pub names_size : List Record → ℕ
 names_size records = sum_by (λ (it : Record). length it.name + 1) records
 
+-- the sizes of the five tables together
 abbrev pub over_tables : (List Record → ℕ) → Amx → ℕ
 over_tables size amx = size amx.publics + size amx.natives + size amx.libraries + size amx.variables + size amx.tags
 
--- where the name table begins, and where it ends
+-- where the name table begins
 abbrev pub name_place : Amx → ℕ
 name_place amx = 56 + over_tables table_size amx
 
+-- and where it ends
 abbrev pub names_end : Amx → ℕ
 names_end amx = name_place amx + 2 + over_tables names_size amx
 
@@ -28,6 +30,7 @@ names_end amx = name_place amx + 2 + over_tables names_size amx
 abbrev pub code_place : Amx → ℕ
 code_place amx = (names_end amx + 3) / 4 * 4
 
+-- the cells of code and data
 abbrev pub cells_of : Amx → ℕ
 cells_of amx = length amx.code + length amx.store
 
@@ -35,9 +38,11 @@ cells_of amx = length amx.code + length amx.store
 abbrev pub memory_limit : ℕ
 memory_limit = 134217728
 
+-- a name without a zero
 pub record IsWritableName (it : Record) : Type 0 where
   pub no_zero : All (λ byte. byte ≢ 0) it.name
 
+-- all that is asked of a file
 pub record IsWritable (amx : Amx) : Type 0 where
   pub sorted : IsSorted (slice_cmp nat_cmp) (map (λ it. it.name) amx.publics)
   pub publics : All IsWritableName amx.publics

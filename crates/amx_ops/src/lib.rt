@@ -12,6 +12,6 @@ mod tests;
 
 pub use amx::{Amx, Record};
 pub use instr::{Instr, decode, encode};
-pub use laws::trace_is_one_iteration;
+pub use laws::{code_is_instructions, states_stay_states, trace_is_one_iteration};
 pub use op::Op;
 pub use table::{Operand, Row, TABLE, op_at, row_at};

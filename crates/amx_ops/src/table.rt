@@ -1,4 +1,4 @@
-ghost use Rattle.std.specs.Prelude.{◌≡◌, pos, find, option_map};
+ghost use Rattle.std.specs.Prelude.{◌≡◌, ◌<◌, ℕ, Some, length, slice_get, option_map};
 
 use super::op::Op;
 
@@ -168,7 +168,6 @@ pub const TABLE: [Row; 130] = [
     (137, Op::Break, "BREAK", Operand::Nothing),
 ];
 
-ghost use Rattle.pawn_cells.specs.Cells.{equal};
 ghost use Rattle.amx_ops.specs.Table as spec;
 
 /// The number and the operand of the row whose number a cell of code is.
@@ -185,22 +184,44 @@ pub fn op_at(cell: i32) -> Option<Op>
     op_in(&TABLE, cell)
 }
 
-fn op_in(rows: &[Row], cell: i32) -> Option<Op>
-    ensures { result ≡ spec.op_by (find (spec.has_number cell) (spec.rows_of rows.now)) }
-{
-    let row = row_in(rows, cell)?;
-    Some(row.1)
-}
-
 fn operand_in(rows: &[Row], cell: i32) -> Option<(u8, Operand)>
-    ensures { result ≡ spec.operand_by (find (spec.has_number cell) (spec.rows_of rows.now)) }
+    requires { spec.rows_of rows.now ≡ spec.table }
+    ensures { result ≡ spec.operand_at cell }
 {
     let row = row_in(rows, cell)?;
     Some((row.0, row.3))
 }
 
-fn row_in(rows: &[Row], cell: i32) -> Option<&Row>
-    ensures { option_map (λ row. row.now) result ≡ find (λ row. equal (pos row.0) cell) rows.now }
+fn op_in(rows: &[Row], cell: i32) -> Option<Op>
+    requires { spec.rows_of rows.now ≡ spec.table }
+    ensures { result ≡ spec.operation_at cell }
 {
-    rows.iter().find(|row| i32::from(row.0) == cell)
+    let row = row_in(rows, cell)?;
+    Some(row.1)
+}
+
+fn row_in(rows: &[Row], cell: i32) -> Option<&Row>
+    requires { spec.rows_of rows.now ≡ spec.table }
+    ensures { option_map (λ row. spec.row_by row.now) result ≡ spec.row_at cell }
+{
+    let row = &rows[place_of(cell.cast_unsigned())];
+    if i32::from(row.0) == cell {
+        Some(row)
+    } else {
+        None
+    }
+}
+
+/// Where the row with a number stands, if there is one. The rows stand in the order of their
+/// numbers, which have three gaps.
+fn place_of(number: u32) -> usize
+    ensures within { result < length spec.table }
+    ensures place { (k : ℕ) (row : spec.Row) → slice_get spec.table k ≡ Some row → row.number ≡ number → result ≡ k }
+{
+    match number {
+        0..=37 => number.saturating_sub(1) as usize,
+        38..=123 => number as usize - 2,
+        124..=134 => number as usize - 6,
+        _ => TABLE.len() - 1,
+    }
 }

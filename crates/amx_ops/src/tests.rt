@@ -4,7 +4,7 @@ use std::test::Fail;
 
 #[test]
 fn instructions_are_read(rt: HostRuntime) {
-    let rows: [(&[i32], u32, Option<(u8, i32, u32)>); 9] = [
+    let rows: [(&[i32], u32, Option<(u8, i32, u32)>); 13] = [
         (&[120, 0, 46], 0, Some((120, 0, 2))),
         (&[120, 0, 46], 2, Some((46, 0, 1))),
         (&[130, 1, 40, 7, 48], 0, Some((130, 1, 5))),
@@ -14,6 +14,10 @@ fn instructions_are_read(rt: HostRuntime) {
         (&[38, 0], 0, None),
         (&[-1, 0], 0, None),
         (&[46], 1, None),
+        (&[37], 0, Some((37, 0, 1))),
+        (&[128], 0, Some((128, 0, 1))),
+        (&[137], 0, Some((137, 0, 1))),
+        (&[138], 0, None),
     ];
     for (code, at, wanted) in rows {
         let wanted = wanted.map(|(op, operand, cells)| Instr { op, operand, cells });

@@ -1,0 +1,4 @@
+pub mod ByteLaws
+pub mod CaseLaws
+pub mod LoadLaws
+pub mod PartLaws

@@ -1,0 +1,20 @@
+-- What contracts see of the machine's memory and registers, and what is always so of them.
+use Rattle.std.specs.Prelude.{◌≡◌, ◌+◌, ◌*◌, ◌%◌, ◌≤◌, ℕ, length}
+use Rattle.amx_block.specs.Contents.{Contents}
+use Rattle.amx_ops.specs.declared.amx.Amx.{Amx}
+use Rattle.amx_ops.specs.State.{State, first_hea}
+
+-- a file, and a state of its machine
+pub record Machine : Type 0 where
+  pub amx : Amx
+  pub state : State
+
+-- first HEA, HEA, STK and the top rise in whole cells, within the limit of memory, and the code is the file's
+pub record IsSound (amx : Amx) (top stk hea : ℕ) (block : Contents) : Type 0 where
+  pub code : block.code ≡ amx.code
+  pub size : length amx.code + length block.memory ≤ 33554432
+  pub top_is : top ≡ 4 * length block.memory
+  pub first : first_hea amx ≤ hea
+  pub apart : hea ≤ stk
+  pub within : stk ≤ 4 * length block.memory
+  pub whole : (hea % 4 ≡ 0) × (stk % 4 ≡ 0)
