@@ -1,4 +1,4 @@
 mod SpelledLemmas
 mod RangeLemmas
-mod ReadLemmas
+pub mod ReadLemmas
 mod ShortestLemmas

@@ -1,10 +1,11 @@
 -- Reading as a function of the bytes, so that there is one answer, and the cells read so far.
-use Rattle.std.proofs.Common.{◌≡◌, ◌≢◌, ◌+◌, ◌-◌, ◌<◌, ◌≤◌, ℕ, zero, suc, List, [], ◌∷◌, ◌++◌, length, length-append, append_assoc, append-nil, ℤ, Result, Ok, Err, nat_lt, if◌then◌else◌, refl, sym, ap, subst, ◌∙◌, arith}
+use Rattle.std.proofs.Common.{◌≡◌, ◌≢◌, ◌⊎◌, inl, inr, ◌+◌, ◌-◌, ◌*◌, ◌<◌, ◌≤◌, ℕ, zero, suc, List, [], ◌∷◌, ◌++◌, length, length-append, append_assoc, append-nil, ℤ, Result, Ok, Err, nat_lt, if◌then◌else◌, refl, sym, ap, subst, ◌∙◌, arith}
 use borrow.Author.Tests.{lt-ltb, le-ltb}
 use Rattle.pawn_cells.specs.Cells.{wrap}
 use Rattle.amx_compact.specs.declared.fault.CompactFault.{CompactFault}
 use Rattle.amx_compact.specs.declared.fault.CompactFault.TheVariants.{Short, OpenGroup, GroupTooLong, TooMany, Memory}
 use Rattle.amx_compact.specs.Causes.{Answers, HasNoCell, IsOpen, IsTooLong, Leaves, Stops}
+use Rattle.amx_compact.specs.Fits.{Fits}
 use Rattle.amx_compact.specs.Spelled.{signed_sum, Ends, GoesOn, Spelled, SpelledAll, ShortestAll}
 
 -- ---- the one answer
@@ -122,7 +123,7 @@ is_reading bytes count (Err Memory) a n = absurd (n refl)
 pub one_answer : (bytes : List ℕ) (count : ℕ) (x y : Result (List ℤ) CompactFault) → Answers bytes count x → Answers bytes count y → x ≢ Err Memory → y ≢ Err Memory → x ≡ y
 one_answer bytes count x y a b m n = sym (is_reading bytes count x a m) ∙ is_reading bytes count y b n
 
-SpelledAll-from_shortest : (cells : List ℤ) (bytes : List ℕ) → ShortestAll cells bytes → SpelledAll cells bytes
+pub SpelledAll-from_shortest : (cells : List ℤ) (bytes : List ℕ) → ShortestAll cells bytes → SpelledAll cells bytes
 SpelledAll-from_shortest [] bytes s = s
 SpelledAll-from_shortest (cell ∷ cells) bytes (front, rest, shortest, whole, more) = (front, rest, shortest.spelled, whole, SpelledAll-from_shortest cells rest more)
 
@@ -178,3 +179,111 @@ pub answers_ok : (bytes : List ℕ) (cells : List ℤ) (rest : List ℕ) (before
 answers_ok bytes cells [] before count s e h =
     (subst (SpelledAll cells) (sym (s.whole ∙ append-nil s.front)) s.spelled, s.counted ∙ e)
 answers_ok bytes cells (byte ∷ rest) before count s e h = absurd (omega arith)
+
+-- ---- the bytes behind so many cells
+
+abbrev rest_in : (List ℕ → List ℕ) → Result (List ℕ × List ℕ) CompactFault → List ℕ
+rest_in next (Ok parts) = next parts.1
+rest_in next (Err fault) = []
+
+abbrev rest_after : ℕ → List ℕ → List ℕ
+rest_after zero bytes = bytes
+rest_after (suc count) bytes = rest_in (rest_after count) (split 5 bytes)
+
+rest_after-cells : (cells : List ℤ) (front rest : List ℕ) (count : ℕ) → SpelledAll cells front → length cells ≡ count → rest_after count (front ++ rest) ≡ rest
+rest_after-cells [] front rest zero s e = ap (λ (f : List ℕ). f ++ rest) s
+rest_after-cells [] front rest (suc count) s e = absurd (omega (arith, e))
+rest_after-cells (cell ∷ cells) front rest zero s e = absurd (omega (arith, e))
+rest_after-cells (cell ∷ cells) front rest (suc count) (a, b, spelled, whole, more) e =
+    ap (λ (f : List ℕ). rest_in (rest_after count) (split 5 (f ++ rest))) whole
+    ∙ ap (λ (f : List ℕ). rest_in (rest_after count) (split 5 f)) (append_assoc a b rest)
+    ∙ ap (rest_in (rest_after count)) (split-ends 5 a (b ++ rest) spelled.ends spelled.short)
+    ∙ rest_after-cells cells b rest count more (omega (arith, e))
+
+-- there is one rest behind so many cells
+pub one_rest : (bytes : List ℕ) (count : ℕ) (x y : List ℕ) → Leaves bytes count x → Leaves bytes count y → x ≡ y
+one_rest bytes count x y l m =
+    sym (ap (rest_after count) l.whole ∙ rest_after-cells l.cells l.front x count l.spelled l.counted)
+    ∙ (ap (rest_after count) m.whole ∙ rest_after-cells m.cells m.front y count m.spelled m.counted)
+
+fault_of : Result (List ℤ) CompactFault → CompactFault
+fault_of (Ok cells) = Memory
+fault_of (Err fault) = fault
+
+-- ---- whether they fit
+
+-- of so many cells, the first ones take at most four bytes each
+abbrev pub FitsUpTo : List ℕ → ℕ → Type 0
+FitsUpTo bytes index = (count : ℕ) (rest : List ℕ) → count ≤ index → Leaves bytes count rest → length bytes ≤ 4 * count + length rest
+
+pub record Scanned (bytes rest : List ℕ) (index : ℕ) : Type 0 where
+  pub cells : List ℤ
+  pub so_far : SoFar bytes cells rest index
+  pub fits : FitsUpTo bytes index
+
+le_or_next : (a b : ℕ) → a ≤ b + 1 → (a ≤ b) ⊎ (a ≡ b + 1)
+le_or_next zero b h = inl (omega arith)
+le_or_next (suc a) zero h = inr (omega (arith, h))
+le_or_next (suc a) (suc b) h = elim (le_or_next a b (omega (arith, h))) [ inl e ↦ inl (omega (arith, e)) | inr e ↦ inr (omega (arith, e)) ]
+
+none_fits : (bytes : List ℕ) → FitsUpTo bytes 0
+none_fits bytes count rest h l =
+    let none : count ≡ 0 = omega (arith, h) in
+    omega (arith, ap length (one_rest bytes count rest bytes l (subst (λ n. Leaves bytes n bytes) (sym none) (leaves_of bytes [] bytes 0 (so_far-none bytes)))))
+
+pub scanned_none : (bytes : List ℕ) → Scanned bytes bytes 0
+scanned_none bytes = record { cells = []; so_far = so_far-none bytes; fits = none_fits bytes }
+
+at_or_before : (bytes after : List ℕ) (index : ℕ) → FitsUpTo bytes index → Leaves bytes (index + 1) after → length bytes - length after ≤ 4 * (index + 1)
+    → FitsUpTo bytes (index + 1)
+at_or_before bytes after index fits here few count rest h l =
+    elim (le_or_next count index h) [
+      | inl before ↦ fits count rest before l
+      | inr last ↦ omega (arith, few, last, ap length (one_rest bytes (index + 1) rest after (subst (λ n. Leaves bytes n rest) last l) here))
+    ]
+
+-- one cell more, behind which at most four bytes each have been taken
+pub scanned_next : (bytes rest after : List ℕ) (index : ℕ) (cell : ℤ) → Scanned bytes rest index
+    → (front : List ℕ) × Spelled cell front × (rest ≡ front ++ after) → length bytes - length after ≤ 4 * (index + 1) → Scanned bytes after (index + 1)
+scanned_next bytes rest after index cell s found few =
+    let next : SoFar bytes (s.cells ++ cell ∷ []) after (index + 1) = so_far-next bytes s.cells rest after index cell s.so_far found in
+    record {
+      cells = s.cells ++ cell ∷ [];
+      so_far = next;
+      fits = λ count other h l. at_or_before bytes after index s.fits (leaves_of bytes (s.cells ++ cell ∷ []) after (index + 1) next) few count other h l;
+    }
+
+other_than_memory : (rest : List ℕ) (fault : CompactFault) → HasNoCell rest fault → (let answer : Result (List ℤ) CompactFault = Err fault in answer) ≢ Err Memory
+unfolding fault_of
+other_than_memory rest Short gap e = absurd (cc (ap fault_of e))
+other_than_memory rest OpenGroup gap e = absurd (cc (ap fault_of e))
+other_than_memory rest GroupTooLong gap e = absurd (cc (ap fault_of e))
+other_than_memory rest TooMany gap e = gap
+other_than_memory rest Memory gap e = gap
+
+le_or_above : (a b : ℕ) → (a ≤ b) ⊎ (b < a)
+le_or_above zero b = inl (omega arith)
+le_or_above (suc a) zero = inr (omega arith)
+le_or_above (suc a) (suc b) = elim (le_or_above a b) [ inl e ↦ inl (omega (arith, e)) | inr e ↦ inr (omega (arith, e)) ]
+
+-- all cells were scanned
+pub scanned_all : (bytes rest : List ℕ) (index count : ℕ) (cells : List ℤ) → Scanned bytes rest index → SpelledAll cells bytes → length cells ≡ count → count ≤ index
+    → Fits bytes
+scanned_all bytes rest index count cells s spelled e h k other l =
+    let whole : Leaves bytes count [] = record { front = bytes; cells = cells; spelled = spelled; counted = e; whole = sym (append-nil bytes) } in
+    let all : length bytes ≤ 4 * count + length (let none : List ℕ = [] in none) = s.fits count [] h whole in
+    elim (le_or_above k index) [ inl before ↦ s.fits k other before l | inr behind ↦ omega (arith, all, behind, h) ]
+
+-- a cell that leaves too much behind
+pub too_long : (bytes rest after : List ℕ) (index : ℕ) (cell : ℤ) → Scanned bytes rest index
+    → (front : List ℕ) × Spelled cell front × (rest ≡ front ++ after) → 4 * (index + 1) < length bytes - length after → ¬ Fits bytes
+too_long bytes rest after index cell s found many fits =
+    let next : SoFar bytes (s.cells ++ cell ∷ []) after (index + 1) = so_far-next bytes s.cells rest after index cell s.so_far found in
+    omega (arith, many, fits (index + 1) after (leaves_of bytes (s.cells ++ cell ∷ []) after (index + 1) next))
+
+-- a cell stands at the front, where cells are missing
+pub never_stops : (bytes rest : List ℕ) (index count : ℕ) (cells : List ℤ) (fault : CompactFault) → Scanned bytes rest index → SpelledAll cells bytes
+    → length cells ≡ count → index < count → HasNoCell rest fault → ⊥
+never_stops bytes rest index count cells fault s spelled e h gap =
+    absurd (cc (one_answer bytes count (Ok cells) (Err fault) (spelled, e) (answers_fault bytes s.cells rest index count fault s.so_far h gap)
+    (λ k. absurd (cc k)) (other_than_memory rest fault gap)))

@@ -1,3 +1,4 @@
 pub mod Causes
+pub mod Fits
 pub mod Range
 pub mod Spelled

@@ -9,5 +9,5 @@ mod tests;
 mod write;
 
 pub use fault::CompactFault;
-pub use read::read_cells;
+pub use read::{fits, read_cells};
 pub use write::write_cell;

@@ -1,6 +1,7 @@
-ghost use Rattle.std.specs.Prelude.{◌≡◌, ◌≢◌, ◌<◌, ◌≤◌, ◌++◌, ℕ, ℤ, List, [], Result, length, IfOk, IfErr};
+ghost use Rattle.std.specs.Prelude.{◌≡◌, ◌≢◌, ◌<◌, ◌≤◌, ◌++◌, ◌↔◌, ℕ, ℤ, List, [], Result, length, IfOk, IfErr, IsTrue};
 ghost use Rattle.amx_compact.specs.Causes.{Answers, HasNoCell};
-ghost use Rattle.amx_compact.specs.Spelled.{Spelled, ShortestAll};
+ghost use Rattle.amx_compact.specs.Fits.{Fits};
+ghost use Rattle.amx_compact.specs.Spelled.{Spelled, SpelledAll, ShortestAll};
 ghost use Rattle.amx_compact.specs.declared.fault.CompactFault.{CompactFault};
 
 use super::fault::CompactFault;
@@ -30,6 +31,25 @@ pub fn read_cells(alloc: Global, bytes: &[u8], count: u32) -> Result<Cells, Comp
         return Err(CompactFault::TooMany);
     }
     Ok(cells)
+}
+
+/// Whether the spellings of the first cells take at most four bytes each, however many cells they
+/// are. Such cells can be expanded from the end in the room that they take in the end.
+pub fn fits(bytes: &[u8], count: u32) -> bool
+    requires { (cells : List ℤ) × SpelledAll cells bytes.now × (length cells ≡ count) }
+    ensures { IsTrue result ↔ Fits bytes.now }
+{
+    let mut rest = bytes;
+    for index in 0..count {
+        match read_cell(rest) {
+            Ok((_, after)) => rest = after,
+            Err(_) => unreachable!(),
+        }
+        if bytes.len() - rest.len() > 4 * (index as usize + 1) {
+            return false;
+        }
+    }
+    true
 }
 
 /// Reads the cell at the front, and gives the bytes behind it.

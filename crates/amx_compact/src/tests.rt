@@ -1,5 +1,6 @@
-use super::{CompactFault, read_cells, write_cell};
+use super::{CompactFault, fits, read_cells, write_cell};
 use pawn_base::Bytes;
+use std::alloc::Global;
 use std::test::Fail;
 
 #[test]
@@ -85,4 +86,29 @@ fn refusals(rt: HostRuntime) {
         assert_eq!(rt; fault.number(), Some(number));
     }
     assert_eq!(rt; CompactFault::Memory.number(), None);
+}
+
+/// Whether bytes fit, which are this many cells.
+fn cells_fit(alloc: Global, bytes: &[u8], count: u32) -> Result<bool, CompactFault> {
+    read_cells(alloc, bytes, count)?;
+    Ok(fits(bytes, count))
+}
+
+#[test]
+fn rows_in_the_room_of_their_cells(rt: HostRuntime) -> Result<(), Fail> {
+    let rows: [(&[u8], u32, bool); 5] = [
+        (&[], 0, true),
+        (&[0x80, 0x78, 0x00, 0x2E, 0x80, 0x59, 0x30], 5, true),
+        (&[0x80, 0x80, 0x80, 0x78], 1, true),
+        (
+            &[0x80, 0x80, 0x80, 0x80, 0x78, 0x00, 0x2E, 0x80, 0x59, 0x30],
+            5,
+            false,
+        ),
+        (&[0x00, 0x80, 0x80, 0x80, 0x80, 0x00], 2, true),
+    ];
+    for (bytes, count, fit) in rows {
+        assert_eq!(rt; cells_fit(rt.alloc(), bytes, count)?, fit, "{count}");
+    }
+    Ok(())
 }

@@ -1,8 +1,14 @@
--- The smallest file, computed.
-use Rattle.std.proofs.Common.{◌≡◌, ℕ, pos, List, [], ◌∷◌, refl, arith}
+-- The smallest file, and files with one byte changed, computed.
+use Rattle.std.proofs.Common.{◌≡◌, ◌⊎◌, inl, inr, ℕ, pos, List, [], ◌∷◌, refl, arith}
+use Rattle.std.specs.Prelude.{slice_set}
 use Rattle.amx_ops.specs.declared.amx.Amx.{Amx}
-use Rattle.amx_format.specs.File.{half_at, word_at, IsFile}
-use Rattle.amx_format.specs.Layout.{half, word, layout}
+use Rattle.amx_format.specs.declared.encoding.Encoding.TheVariants.{Plain}
+use Rattle.amx_format.specs.declared.fault.FormatFault.TheVariants.{TooShort, Magic, Version, RecordSize, SizeDiffers, Order}
+use Rattle.amx_format.specs.Numbers.{half_at, word_at}
+use Rattle.amx_format.specs.Header.{header_of, HasVersions, HasSize, HasOrder}
+use Rattle.amx_format.specs.Faults.{IsFirst, IsFreeOfAll, order}
+use Rattle.amx_format.specs.File.{IsFile}
+use Rattle.amx_format.specs.Layout.{half, word, layout, cells}
 
 -- HALT 0; PROC, ZERO.pri, RETN
 abbrev empty_main : Amx
@@ -28,36 +34,44 @@ smallest =
     ∷ 56 ∷ 0 ∷ 0 ∷ 0 ∷ 56 ∷ 0 ∷ 0 ∷ 0 ∷ 31 ∷ 0 ∷ 0 ∷ 0 ∷ 120 ∷ 0 ∷ 0 ∷ 0
     ∷ 0 ∷ 0 ∷ 0 ∷ 0 ∷ 46 ∷ 0 ∷ 0 ∷ 0 ∷ 89 ∷ 0 ∷ 0 ∷ 0 ∷ 48 ∷ 0 ∷ 0 ∷ 0 ∷ []
 
-smallest_is_written : layout empty_main ≡ smallest
+smallest_is_written : layout Plain empty_main (cells empty_main.code) ≡ smallest
 unfolding half word
 smallest_is_written = refl
 
+sound : IsFreeOfAll order smallest
+unfolding half_at word_at header_of
+sound =
+    let versions : HasVersions (header_of smallest) = record { format = refl; first = omega arith; last = omega arith } in
+    let size : HasSize (header_of smallest) 80 =
+    record { least = omega arith; signed = omega arith; within = omega arith; whole = λ e. refl; plain = λ e. refl } in
+    let places : HasOrder (header_of smallest) = record {
+      tables = record {
+        first = omega arith;
+        publics = record { rises = omega arith; whole = refl };
+        natives = record { rises = omega arith; whole = refl };
+        libraries = record { rises = omega arith; whole = refl };
+        variables = record { rises = omega arith; whole = refl };
+        tags = record { rises = omega arith; whole = refl };
+        names = omega arith;
+      };
+      parts = record {
+        code = record { rises = omega arith; whole = refl };
+        store = record { rises = omega arith; whole = refl };
+        room = record { rises = omega arith; whole = refl };
+        memory = omega arith;
+        top = omega arith;
+        row = λ e. omega arith;
+      };
+    } in
+    (omega arith, (refl, (versions, (refl, (size, (places, (λ index below. absurd (omega (arith, below)), (λ index below. absurd (omega (arith, below)), tt))))))))
+
 smallest_is_its_file : IsFile smallest empty_main
-unfolding half_at word_at
+unfolding half_at word_at header_of
 smallest_is_its_file = record {
-  header = record { long = omega arith; magic = refl; file_version = refl; version = (omega arith, omega arith); plain = refl; record_size = refl };
-  tables = record {
-    first = omega arith;
-    publics = record { rises = omega arith; whole = refl };
-    natives = record { rises = omega arith; whole = refl };
-    libraries = record { rises = omega arith; whole = refl };
-    variables = record { rises = omega arith; whole = refl };
-    tags = record { rises = omega arith; whole = refl };
-    names = omega arith;
-  };
-  parts = record {
-    code = record { rises = omega arith; whole = refl };
-    store = record { rises = omega arith; whole = refl };
-    room = record { rises = omega arith; whole = refl };
-    size = refl;
-    end = refl;
-    memory = omega arith;
-    top = omega arith;
-  };
+  sound = sound;
   flags = refl;
   version = refl;
-  code = refl;
-  store = refl;
+  cells = record { code_length = refl; store_length = refl; row = refl };
   room = refl;
   entry = refl;
   publics = refl;
@@ -66,3 +80,36 @@ smallest_is_its_file = record {
   variables = refl;
   tags = refl;
 }
+
+empty_is_too_short : IsFirst [] TooShort
+empty_is_too_short = inl (λ h. omega (arith, h), refl)
+
+another_magic : IsFirst (slice_set smallest 4 0) Magic
+unfolding half_at word_at header_of
+another_magic = inr (omega arith, inl (λ e. omega (arith, e), refl))
+
+version_nine : IsFirst (slice_set smallest 7 9) Version
+unfolding half_at word_at header_of
+version_nine = inr (omega arith, inr (refl, inl (λ h. omega (arith, h.last), refl)))
+
+records_of_twelve : IsFirst (slice_set smallest 10 12) RecordSize
+unfolding half_at word_at header_of
+records_of_twelve =
+    let versions : HasVersions (header_of (slice_set smallest 10 12)) = record { format = refl; first = omega arith; last = omega arith } in
+    inr (omega arith, inr (refl, inr (versions, inl (λ e. omega (arith, e), refl))))
+
+size_above : IsFirst (slice_set smallest 0 81) SizeDiffers
+unfolding half_at word_at header_of
+size_above =
+    let versions : HasVersions (header_of (slice_set smallest 0 81)) = record { format = refl; first = omega arith; last = omega arith } in
+    inr (omega arith, inr (refl, inr (versions, inr (refl, inl (λ h. omega (arith, h.within), refl)))))
+
+-- with a name table at 59
+name_table_moved : IsFirst (slice_set smallest 52 59) Order
+unfolding half_at word_at header_of
+name_table_moved =
+    let there : List ℕ = slice_set smallest 52 59 in
+    let versions : HasVersions (header_of there) = record { format = refl; first = omega arith; last = omega arith } in
+    let size : HasSize (header_of there) 80 =
+    record { least = omega arith; signed = omega arith; within = omega arith; whole = λ e. refl; plain = λ e. refl } in
+    inr (omega arith, inr (refl, inr (versions, inr (refl, inr (size, inl (λ h. omega (arith, h.tables.tags.whole), refl))))))

@@ -1,350 +1,301 @@
--- The layout of a file that can be written is a file of its Amx.
-use Rattle.std.proofs.Common.{◌≡◌, ◌+◌, ◌-◌, ◌*◌, ◌/◌, ℕ, zero, suc, ℤ, List, [], ◌∷◌, ◌++◌, Some, length, take, refl, sym, ap, ◌∙◌, arith}
-use Rattle.std.specs.Int.{w32, cast_unsigned, cast_signed}
-use Rattle.std.proofs.lemmas.Int.{to_z-of_z}
-use Rattle.std.proofs.lemmas.List.{append_assoc, append-nil, take_at, length-append}
+-- The writer's layout is the file of what it was made from.
+use Rattle.std.proofs.Common.{◌≡◌, ◌+◌, ◌-◌, ◌*◌, ◌/◌, ◌%◌, ◌^◌, ◌<◌, ◌≤◌, ℕ, zero, suc, ℤ, List, [], ◌++◌, true, false, length, drop, take, refl, sym, ap, ap₂, subst, ◌∙◌, arith, eq-eqb, true≢false}
+use Rattle.std.specs.Prelude.{All, Result, Ok, Err, IfOk, OnOk}
+use Rattle.std.proofs.lemmas.Bool.{ne_eqb}
+use Rattle.std.proofs.lemmas.List.{append_assoc, append-nil, drop_at, take_all, length-append, length-take-le, get_or-take}
+use Rattle.pawn_base.specs.Cells.{AreCells}
+use Rattle.std.proofs.lemmas.List.Elements.{All-append}
+use Rattle.amx_compact.specs.Spelled.{SpelledAll}
+use Rattle.amx_compact.proofs.ReadLemmas.{SpelledAll-from_shortest}
 use Rattle.amx_ops.specs.declared.amx.Amx.{Amx}
 use Rattle.amx_ops.specs.declared.amx.Record.{Record}
-use Rattle.amx_ops.specs.Writable.{IsWritable, names_size, name_place, names_end, code_place}
-use Rattle.amx_format.specs.File.{word_at, cells_at, records_at, table_at, HasHeader, HasTables, HasParts, IsFile}
-use Rattle.amx_format.specs.Layout.{cells, table, names, zeros, header, layout, natives_place, libraries_place, variables_place, tags_place, data_place, file_size, HasRanges}
-use Rattle.amx_format.proofs.Numbers.{length-word, bits_below, cells_at-cells}
-use Rattle.amx_format.proofs.TableLaws.{length-table, length-names, records_at-table}
-use Rattle.amx_format.proofs.HeaderLaws.{Fields, FieldsFit, Shows, length-heading, heading_shows}
-
-length-cells : (row : List ℤ) → length (cells row) ≡ 4 * length row
-length-cells [] = refl
-length-cells (z ∷ row) = let ih = length-cells row in simp (length-append, length-word) (omega (arith, ih))
+use Rattle.amx_ops.specs.Writable.{IsWritable, IsWritableName, name_place, names_end, names_size, code_place, cells_of}
+use Rattle.amx_format.specs.declared.encoding.Encoding.{Encoding}
+use Rattle.amx_format.specs.declared.encoding.Encoding.TheVariants.{Plain, Compact}
+use Rattle.amx_format.specs.declared.header.Header.{Header}
+use Rattle.amx_format.specs.Numbers.{word_at, cells_at}
+use Rattle.amx_format.specs.Header.{header_of, is_compact, kept, HasVersions, HasSize, HasTables, HasParts, HasOrder, code_cells, store_cells}
+use Rattle.amx_format.specs.Names.{records_at, table_at, AllNames, IsInside, IsClosed}
+use Rattle.amx_format.specs.Faults.{IsFreeOfAll, order, row_of}
+use Rattle.amx_format.specs.File.{AreCellsOf, HasCells, IsFile}
+use Rattle.amx_format.specs.Layout.{half, cells, table, names, zeros, all_records, header_bytes, layout_header, layout, flag_of, natives_place, libraries_place, variables_place, tags_place, IsRow, IsLayout}
+use Rattle.amx_format.specs.Ranges.{HasRanges}
+use Rattle.amx_format.specs.Sorts.{Sorts, IsWritableSorted, with_publics}
+use Rattle.amx_format.specs.Written.{IsWritten}
+use Rattle.amx_format.proofs.HeaderLaws.{HeaderFits, header_reads, length-header}
+use Rattle.amx_format.proofs.Numbers.{cells_at-cells}
+use Rattle.amx_format.proofs.RowLaws.{names_size-append, length-cells, row_short}
+use Rattle.amx_format.proofs.TableLaws.{length-table, length-names, parted, Parted, Stand, records_at-table, IsNamed, named-table}
 
 length-zeros : (n : ℕ) → length (zeros n) ≡ n
 length-zeros zero = refl
 length-zeros (suc n) = let ih = length-zeros n in omega (arith, ih)
 
--- the parts of a file: header, tables, names, zeros, code and data
-module _ (heading_part publics_table natives_table libraries_table variables_table tags_table publics_names natives_names libraries_names variables_names tags_names padding code_part store_part : List ℕ) where
-  abbrev text : List ℕ
-  text = heading_part ++ ((publics_table ++ (natives_table ++ (libraries_table ++ (variables_table ++ tags_table)))) ++ ((31 ∷ 0 ∷ (publics_names ++ (natives_names ++ (libraries_names ++ (variables_names ++ tags_names))))) ++ padding))
+length-half : (x : ℕ) → length (half x) ≡ 2
+unfolding half
+length-half x = refl
+
+-- the flags with that of the encoding, in which only that one is set
+flags_kept : (encoding : Encoding) (flags : ℕ) → flags / 2 % 4 ≡ 0 → kept (flags + flag_of encoding) ≡ flags
+flags_kept Plain flags h = omega (arith, h)
+flags_kept Compact flags h = omega (arith, h)
+
+plain_flag : (flags : ℕ) → flags / 2 % 4 ≡ 0 → is_compact (flags + flag_of Plain) ≡ false
+plain_flag flags k = ne_eqb ((flags + 0) / 4 % 2) 1 (λ e. omega (arith, k, e))
+
+compact_flag : (flags : ℕ) → flags / 2 % 4 ≡ 0 → is_compact (flags + flag_of Compact) ≡ true
+compact_flag flags k = eq-eqb ((flags + 4) / 4 % 2) 1 (omega (arith, k))
+
+flags_fit : (encoding : Encoding) (flags : ℕ) → flags / 2 % 4 ≡ 0 → flags < 2 ^ 16 → flags + flag_of encoding < 2 ^ 16
+flags_fit Plain flags k f = omega (arith, f)
+flags_fit Compact flags k f = omega (arith, k, f)
+
+-- of plain cells the row has four bytes each
+plain_size : (encoding : Encoding) (flags : ℕ) (list : List ℤ) (row : List ℕ) → flags / 2 % 4 ≡ 0 → IsRow encoding list row
+    → is_compact (flags + flag_of encoding) ≡ false → length row ≡ 4 * length list
+plain_size Plain flags list row k is_row e = ap length is_row ∙ length-cells list
+plain_size Compact flags list row k is_row e = absurd (true≢false (sym (compact_flag flags k) ∙ e))
+
+-- six parts, one behind the other
+long_of : (a b c d e f : List ℕ) → length (a ++ (b ++ (c ++ (d ++ (e ++ f))))) ≡ length a + (length b + (length c + (length d + (length e + length f))))
+long_of a b c d e f = simp length-append refl
+
+joined : (a b c d e f : List ℕ) → a ++ (b ++ (c ++ (d ++ (e ++ f)))) ≡ (a ++ (b ++ (c ++ (d ++ e)))) ++ f
+joined a b c d e f = simp append_assoc
+
+-- the row of the cells stands behind a front
+cells_stand : (encoding : Encoding) (flags : ℕ) (bytes front row : List ℕ) (h : Header) (list : List ℤ) → flags / 2 % 4 ≡ 0 → h.flags ≡ flags + flag_of encoding
+    → bytes ≡ front ++ row → length front ≡ h.cod → h.size ≡ h.cod + length row → code_cells h + store_cells h ≡ length list
+    → IsRow encoding list row → AreCells list → AreCellsOf (is_compact h.flags) bytes h list
+cells_stand Plain flags bytes front row h list k e whole front_long size count is_row fits =
+    let plain : is_compact h.flags ≡ false = ap is_compact e ∙ plain_flag flags k in
+    let there : bytes ≡ front ++ (cells list ++ []) =
+    whole ∙ ap (λ (r : List ℕ). front ++ r) (is_row ∙ sym (append-nil (cells list))) in
+    let read : cells_at bytes h.cod (code_cells h + store_cells h) ≡ list =
+    ap₂ (λ (b : List ℕ) (n : ℕ). cells_at b h.cod n) there count ∙ cells_at-cells front [] h.cod list front_long fits in
+    subst (λ b. AreCellsOf b bytes h list) (sym plain) (sym read)
+cells_stand Compact flags bytes front row h list k e whole front_long size count is_row fits =
+    let compact : is_compact h.flags ≡ true = ap is_compact e ∙ compact_flag flags k in
+    let there : row_of bytes h ≡ row =
+    ap (take (h.size - h.cod)) (ap (drop h.cod) whole ∙ drop_at front row h.cod front_long) ∙ take_all (h.size - h.cod) row (omega (arith, size)) in
+    subst (λ b. AreCellsOf b bytes h list) (sym compact) (subst (SpelledAll list) (sym there) (SpelledAll-from_shortest list row is_row))
+
+module _ (encoding : Encoding) (amx : Amx) (row : List ℕ) (w : IsWritable amx) (r : HasRanges amx) (is_row : IsRow encoding (amx.code ++ amx.store) row) where
+  abbrev h : Header
+  h = layout_header encoding amx (length row)
 
   abbrev bytes : List ℕ
-  bytes = heading_part ++ ((publics_table ++ (natives_table ++ (libraries_table ++ (variables_table ++ tags_table)))) ++ ((31 ∷ 0 ∷ (publics_names ++ (natives_names ++ (libraries_names ++ (variables_names ++ tags_names))))) ++ (padding ++ (code_part ++ store_part))))
+  bytes = layout encoding amx row
 
-  to_code : bytes ≡ text ++ (code_part ++ store_part)
-  to_code = simp append_assoc
+  abbrev records : List Record
+  records = all_records amx
 
-  to_store : bytes ≡ (text ++ code_part) ++ (store_part ++ [])
-  to_store = simp (append_assoc, append-nil)
+  abbrev back : List ℕ
+  back = zeros (code_place amx - names_end amx) ++ row
 
-  to_publics : text ≡ heading_part ++ (publics_table ++ ((natives_table ++ (libraries_table ++ (variables_table ++ (tags_table ++ 31 ∷ 0 ∷ [])))) ++ (publics_names ++ (natives_names ++ (libraries_names ++ (variables_names ++ (tags_names ++ padding)))))))
-  to_publics = simp append_assoc
+  short : length row ≤ 5 * cells_of amx
+  short = omega (arith, row_short encoding (amx.code ++ amx.store) row is_row, length-append amx.code amx.store)
 
-  to_natives : text ≡ (heading_part ++ publics_table) ++ (natives_table ++ ((libraries_table ++ (variables_table ++ (tags_table ++ 31 ∷ 0 ∷ publics_names))) ++ (natives_names ++ (libraries_names ++ (variables_names ++ (tags_names ++ padding))))))
-  to_natives = simp append_assoc
+  count : length records ≡ length amx.publics + (length amx.natives + (length amx.libraries + (length amx.variables + length amx.tags)))
+  count = simp length-append refl
 
-  to_libraries : text ≡ (heading_part ++ (publics_table ++ natives_table)) ++ (libraries_table ++ ((variables_table ++ (tags_table ++ 31 ∷ 0 ∷ (publics_names ++ natives_names))) ++ (libraries_names ++ (variables_names ++ (tags_names ++ padding)))))
-  to_libraries = simp append_assoc
+  size_of_names : names_size records ≡ names_size amx.publics + (names_size amx.natives + (names_size amx.libraries + (names_size amx.variables + names_size amx.tags)))
+  size_of_names = simp names_size-append refl
 
-  to_variables : text ≡ (heading_part ++ (publics_table ++ (natives_table ++ libraries_table))) ++ (variables_table ++ ((tags_table ++ 31 ∷ 0 ∷ (publics_names ++ (natives_names ++ libraries_names))) ++ (variables_names ++ (tags_names ++ padding))))
-  to_variables = simp append_assoc
-
-  to_tags : text ≡ (heading_part ++ (publics_table ++ (natives_table ++ (libraries_table ++ variables_table)))) ++ (tags_table ++ ((31 ∷ 0 ∷ (publics_names ++ (natives_names ++ (libraries_names ++ variables_names)))) ++ (tags_names ++ padding)))
-  to_tags = simp append_assoc
-
-  length-text : length text ≡ length heading_part + (length publics_table + (length natives_table + (length libraries_table + (length variables_table + length tags_table)))) + (2 + (length publics_names + (length natives_names + (length libraries_names + (length variables_names + length tags_names))))) + length padding
-  length-text = simp length-append (omega arith)
-
-  front_of_natives : length (heading_part ++ publics_table) ≡ length heading_part + length publics_table
-  front_of_natives = length-append heading_part publics_table
-
-  front_of_libraries : length (heading_part ++ (publics_table ++ natives_table)) ≡ length heading_part + (length publics_table + length natives_table)
-  front_of_libraries = simp length-append
-
-  front_of_variables : length (heading_part ++ (publics_table ++ (natives_table ++ libraries_table))) ≡ length heading_part + (length publics_table + (length natives_table + length libraries_table))
-  front_of_variables = simp length-append
-
-  front_of_tags : length (heading_part ++ (publics_table ++ (natives_table ++ (libraries_table ++ variables_table)))) ≡ length heading_part + (length publics_table + (length natives_table + (length libraries_table + length variables_table)))
-  front_of_tags = simp length-append
-
-  behind_publics : length (natives_table ++ (libraries_table ++ (variables_table ++ (tags_table ++ 31 ∷ 0 ∷ [])))) ≡ length natives_table + (length libraries_table + (length variables_table + (length tags_table + 2)))
-  behind_publics = simp length-append
-
-  behind_natives : length (libraries_table ++ (variables_table ++ (tags_table ++ 31 ∷ 0 ∷ publics_names))) ≡ length libraries_table + (length variables_table + (length tags_table + (2 + length publics_names)))
-  behind_natives = simp length-append (omega arith)
-
-  behind_libraries : length (variables_table ++ (tags_table ++ 31 ∷ 0 ∷ (publics_names ++ natives_names))) ≡ length variables_table + (length tags_table + (2 + (length publics_names + length natives_names)))
-  behind_libraries = simp length-append (omega arith)
-
-  behind_variables : length (tags_table ++ 31 ∷ 0 ∷ (publics_names ++ (natives_names ++ libraries_names))) ≡ length tags_table + (2 + (length publics_names + (length natives_names + length libraries_names)))
-  behind_variables = simp length-append (omega arith)
-
-  behind_tags : length (31 ∷ 0 ∷ (publics_names ++ (natives_names ++ (libraries_names ++ variables_names)))) ≡ 2 + (length publics_names + (length natives_names + (length libraries_names + length variables_names)))
-  behind_tags = simp length-append (omega arith)
-
--- a table of the header, where its places and the front of the file are known
-table_is : (bytes text : List ℕ) (records : List Record) (field code names place : ℕ) → word_at bytes 12 ≡ code → take code bytes ≡ text
-    → word_at bytes 52 ≡ names → word_at bytes field ≡ place → word_at bytes (field + 4) ≡ place + 8 * length records
-    → records_at text (names + 2) place (length records) ≡ Some records → Some records ≡ table_at bytes field
-table_is bytes text records field code names place c t n p q known =
-    let count : (word_at bytes (field + 4) - word_at bytes field) / 8 ≡ length records = omega (arith, p, q) in
-    rw (count, c, t, n, p) (sym known)
-
-cells_are : (bytes : List ℕ) (row : List ℤ) (field place : ℕ) → word_at bytes field ≡ place → word_at bytes (field + 4) ≡ place + 4 * length row
-    → cells_at bytes place (length row) ≡ row → row ≡ cells_at bytes (word_at bytes field) ((word_at bytes (field + 4) - word_at bytes field) / 4)
-cells_are bytes row field place p q known =
-    let count : (word_at bytes (field + 4) - word_at bytes field) / 4 ≡ length row = omega (arith, p, q) in
-    rw (count, p) (sym known)
-
--- the header of an Amx
-abbrev fields_of : Amx → Fields
-fields_of amx = record {
-  size = file_size amx;
-  version = amx.version;
-  flags = amx.flags;
-  code = code_place amx;
-  store = data_place amx;
-  heap = file_size amx;
-  stack = file_size amx + 4 * amx.room;
-  entry = cast_unsigned w32 amx.entry;
-  publics = 56;
-  natives = natives_place amx;
-  libraries = libraries_place amx;
-  variables = variables_place amx;
-  tags = tags_place amx;
-  names = name_place amx;
-}
-
-fields_fit : (amx : Amx) → IsWritable amx → HasRanges amx → FieldsFit (fields_of amx)
-fields_fit amx w r = record {
-  size = omega (arith, w.size);
-  flags = r.header.flags;
-  code = omega (arith, w.size);
-  store = omega (arith, w.size);
-  heap = omega (arith, w.size);
-  stack = omega (arith, w.top);
-  entry = bits_below amx.entry r.header.entry;
-  publics = omega arith;
-  natives = omega (arith, w.size);
-  libraries = omega (arith, w.size);
-  variables = omega (arith, w.size);
-  tags = omega (arith, w.size);
-  names = omega (arith, w.size);
-}
-
-layout_shows : (amx : Amx) → IsWritable amx → HasRanges amx → Shows (layout amx) (fields_of amx)
-layout_shows amx w r = heading_shows (fields_of amx) _ (fields_fit amx w r)
-
-module _ (amx : Amx) (w : IsWritable amx) (r : HasRanges amx) where
-  abbrev publics_first : ℕ
-  publics_first = name_place amx + 2
-
-  abbrev natives_first : ℕ
-  natives_first = publics_first + names_size amx.publics
-
-  abbrev libraries_first : ℕ
-  libraries_first = natives_first + names_size amx.natives
-
-  abbrev variables_first : ℕ
-  variables_first = libraries_first + names_size amx.libraries
-
-  abbrev tags_first : ℕ
-  tags_first = variables_first + names_size amx.variables
-
-  abbrev heading_part : List ℕ
-  heading_part = header amx
-
-  abbrev publics_table : List ℕ
-  publics_table = table publics_first amx.publics
-
-  abbrev natives_table : List ℕ
-  natives_table = table natives_first amx.natives
-
-  abbrev libraries_table : List ℕ
-  libraries_table = table libraries_first amx.libraries
-
-  abbrev variables_table : List ℕ
-  variables_table = table variables_first amx.variables
-
-  abbrev tags_table : List ℕ
-  tags_table = table tags_first amx.tags
-
-  abbrev publics_names : List ℕ
-  publics_names = names amx.publics
-
-  abbrev natives_names : List ℕ
-  natives_names = names amx.natives
-
-  abbrev libraries_names : List ℕ
-  libraries_names = names amx.libraries
-
-  abbrev variables_names : List ℕ
-  variables_names = names amx.variables
-
-  abbrev tags_names : List ℕ
-  tags_names = names amx.tags
-
-  abbrev padding : List ℕ
-  padding = zeros (code_place amx - names_end amx)
-
-  abbrev code_part : List ℕ
-  code_part = cells amx.code
-
-  abbrev store_part : List ℕ
-  store_part = cells amx.store
-
-  abbrev front : List ℕ
-  front = text heading_part publics_table natives_table libraries_table variables_table tags_table publics_names natives_names libraries_names variables_names tags_names padding code_part store_part
-
-  -- the lengths of all parts
-  record Lengths : Type 0 where
-    heading_long : length heading_part ≡ 56
-    publics_long : length publics_table ≡ 8 * length amx.publics
-    natives_long : length natives_table ≡ 8 * length amx.natives
-    libraries_long : length libraries_table ≡ 8 * length amx.libraries
-    variables_long : length variables_table ≡ 8 * length amx.variables
-    tags_long : length tags_table ≡ 8 * length amx.tags
-    publics_names_long : length publics_names ≡ names_size amx.publics
-    natives_names_long : length natives_names ≡ names_size amx.natives
-    libraries_names_long : length libraries_names ≡ names_size amx.libraries
-    variables_names_long : length variables_names ≡ names_size amx.variables
-    tags_names_long : length tags_names ≡ names_size amx.tags
-    padding_long : length padding ≡ code_place amx - names_end amx
-    code_long : length code_part ≡ 4 * length amx.code
-    store_long : length store_part ≡ 4 * length amx.store
-
-  lengths : Lengths
-  lengths = record {
-    heading_long = length-heading (fields_of amx);
-    publics_long = length-table publics_first amx.publics;
-    natives_long = length-table natives_first amx.natives;
-    libraries_long = length-table libraries_first amx.libraries;
-    variables_long = length-table variables_first amx.variables;
-    tags_long = length-table tags_first amx.tags;
-    publics_names_long = length-names amx.publics;
-    natives_names_long = length-names amx.natives;
-    libraries_names_long = length-names amx.libraries;
-    variables_names_long = length-names amx.variables;
-    tags_names_long = length-names amx.tags;
-    padding_long = length-zeros (code_place amx - names_end amx);
-    code_long = length-cells amx.code;
-    store_long = length-cells amx.store;
+  fits : HeaderFits h
+  fits = record {
+    size = omega (arith, short, w.size);
+    magic = omega arith;
+    flags = flags_fit encoding amx.flags w.flags r.flags;
+    record_size = omega arith;
+    cod = omega (arith, w.size);
+    dat = omega (arith, w.top);
+    hea = omega (arith, w.top);
+    stp = omega (arith, w.top);
+    cip = r.entry;
+    publics = omega arith;
+    natives = omega (arith, w.size);
+    libraries = omega (arith, w.size);
+    variables = omega (arith, w.size);
+    tags = omega (arith, w.size);
+    names = omega (arith, w.size);
   }
 
-  front_long : length front ≡ code_place amx
-  front_long =
-      let long : Lengths = lengths in
-      length-text heading_part publics_table natives_table libraries_table variables_table tags_table publics_names natives_names libraries_names variables_names tags_names padding code_part store_part ∙ omega (arith, long)
+  reads : header_of bytes ≡ h
+  reads = header_reads h _ fits
 
-  file_long : length (layout amx) ≡ file_size amx
-  file_long =
-      let long : Lengths = lengths in
-      let front_is : length front ≡ code_place amx = front_long in
-      ap length (to_code heading_part publics_table natives_table libraries_table variables_table tags_table publics_names natives_names libraries_names variables_names tags_names padding code_part store_part) ∙ length-append front (code_part ++ store_part)
-      ∙ ap (λ n. length front + n) (length-append code_part store_part) ∙ omega (arith, long, front_is)
+  long : length bytes ≡ code_place amx + length row
+  long =
+      long_of (header_bytes h) (table (name_place amx + 2) records) (half 31) (names records) (zeros (code_place amx - names_end amx)) row
+      ∙ omega (
+        arith,
+        length-header h,
+        length-table (name_place amx + 2) records,
+        length-half 31,
+        length-names records,
+        length-zeros (code_place amx - names_end amx),
+        count,
+        size_of_names,
+      )
 
-  cut : take (code_place amx) (layout amx) ≡ front
-  cut = ap (take (code_place amx)) (to_code heading_part publics_table natives_table libraries_table variables_table tags_table publics_names natives_names libraries_names variables_names tags_names padding code_part store_part) ∙ take_at front (code_part ++ store_part) (code_place amx) front_long
-
-  publics_known : records_at front publics_first 56 (length amx.publics) ≡ Some amx.publics
-  publics_known =
-      let long : Lengths = lengths in
-      ap (λ (t : List ℕ). records_at t publics_first 56 (length amx.publics)) (to_publics heading_part publics_table natives_table libraries_table variables_table tags_table publics_names natives_names libraries_names variables_names tags_names padding code_part store_part)
-      ∙ records_at-table heading_part (natives_table ++ (libraries_table ++ (variables_table ++ (tags_table ++ 31 ∷ 0 ∷ [])))) (natives_names ++ (libraries_names ++ (variables_names ++ (tags_names ++ padding)))) publics_first 56 publics_first amx.publics
-      r.tables.publics w.publics (omega arith) (omega (arith, w.size)) long.heading_long (omega (arith, long, behind_publics heading_part publics_table natives_table libraries_table variables_table tags_table publics_names natives_names libraries_names variables_names tags_names padding code_part store_part))
-
-  natives_known : records_at front publics_first (natives_place amx) (length amx.natives) ≡ Some amx.natives
-  natives_known =
-      let long : Lengths = lengths in
-      ap (λ (t : List ℕ). records_at t publics_first (natives_place amx) (length amx.natives)) (to_natives heading_part publics_table natives_table libraries_table variables_table tags_table publics_names natives_names libraries_names variables_names tags_names padding code_part store_part)
-      ∙ records_at-table (heading_part ++ publics_table) (libraries_table ++ (variables_table ++ (tags_table ++ 31 ∷ 0 ∷ publics_names))) (libraries_names ++ (variables_names ++ (tags_names ++ padding))) publics_first (natives_place amx) natives_first amx.natives
-      r.tables.natives w.natives (omega arith) (omega (arith, w.size)) (omega (arith, long, front_of_natives heading_part publics_table natives_table libraries_table variables_table tags_table publics_names natives_names libraries_names variables_names tags_names padding code_part store_part))
-      (omega (arith, long, front_of_natives heading_part publics_table natives_table libraries_table variables_table tags_table publics_names natives_names libraries_names variables_names tags_names padding code_part store_part, behind_natives heading_part publics_table natives_table libraries_table variables_table tags_table publics_names natives_names libraries_names variables_names tags_names padding code_part store_part))
-
-  libraries_known : records_at front publics_first (libraries_place amx) (length amx.libraries) ≡ Some amx.libraries
-  libraries_known =
-      let long : Lengths = lengths in
-      ap (λ (t : List ℕ). records_at t publics_first (libraries_place amx) (length amx.libraries)) (to_libraries heading_part publics_table natives_table libraries_table variables_table tags_table publics_names natives_names libraries_names variables_names tags_names padding code_part store_part)
-      ∙ records_at-table (heading_part ++ (publics_table ++ natives_table)) (variables_table ++ (tags_table ++ 31 ∷ 0 ∷ (publics_names ++ natives_names))) (variables_names ++ (tags_names ++ padding)) publics_first (libraries_place amx) libraries_first amx.libraries
-      r.tables.libraries w.libraries (omega arith) (omega (arith, w.size)) (omega (arith, long, front_of_libraries heading_part publics_table natives_table libraries_table variables_table tags_table publics_names natives_names libraries_names variables_names tags_names padding code_part store_part))
-      (omega (arith, long, front_of_libraries heading_part publics_table natives_table libraries_table variables_table tags_table publics_names natives_names libraries_names variables_names tags_names padding code_part store_part, behind_libraries heading_part publics_table natives_table libraries_table variables_table tags_table publics_names natives_names libraries_names variables_names tags_names padding code_part store_part))
-
-  variables_known : records_at front publics_first (variables_place amx) (length amx.variables) ≡ Some amx.variables
-  variables_known =
-      let long : Lengths = lengths in
-      ap (λ (t : List ℕ). records_at t publics_first (variables_place amx) (length amx.variables)) (to_variables heading_part publics_table natives_table libraries_table variables_table tags_table publics_names natives_names libraries_names variables_names tags_names padding code_part store_part)
-      ∙ records_at-table (heading_part ++ (publics_table ++ (natives_table ++ libraries_table))) (tags_table ++ 31 ∷ 0 ∷ (publics_names ++ (natives_names ++ libraries_names))) (tags_names ++ padding) publics_first (variables_place amx) variables_first amx.variables
-      r.tables.variables w.variables (omega arith) (omega (arith, w.size)) (omega (arith, long, front_of_variables heading_part publics_table natives_table libraries_table variables_table tags_table publics_names natives_names libraries_names variables_names tags_names padding code_part store_part))
-      (omega (arith, long, front_of_variables heading_part publics_table natives_table libraries_table variables_table tags_table publics_names natives_names libraries_names variables_names tags_names padding code_part store_part, behind_variables heading_part publics_table natives_table libraries_table variables_table tags_table publics_names natives_names libraries_names variables_names tags_names padding code_part store_part))
-
-  tags_known : records_at front publics_first (tags_place amx) (length amx.tags) ≡ Some amx.tags
-  tags_known =
-      let long : Lengths = lengths in
-      ap (λ (t : List ℕ). records_at t publics_first (tags_place amx) (length amx.tags)) (to_tags heading_part publics_table natives_table libraries_table variables_table tags_table publics_names natives_names libraries_names variables_names tags_names padding code_part store_part)
-      ∙ records_at-table (heading_part ++ (publics_table ++ (natives_table ++ (libraries_table ++ variables_table)))) (31 ∷ 0 ∷ (publics_names ++ (natives_names ++ (libraries_names ++ variables_names)))) padding publics_first (tags_place amx) tags_first amx.tags
-      r.tables.tags w.tags (omega arith) (omega (arith, w.size)) (omega (arith, long, front_of_tags heading_part publics_table natives_table libraries_table variables_table tags_table publics_names natives_names libraries_names variables_names tags_names padding code_part store_part))
-      (omega (arith, long, front_of_tags heading_part publics_table natives_table libraries_table variables_table tags_table publics_names natives_names libraries_names variables_names tags_names padding code_part store_part, behind_tags heading_part publics_table natives_table libraries_table variables_table tags_table publics_names natives_names libraries_names variables_names tags_names padding code_part store_part))
-
-  code_known : cells_at (layout amx) (code_place amx) (length amx.code) ≡ amx.code
-  code_known =
-      ap (λ (t : List ℕ). cells_at t (code_place amx) (length amx.code)) (to_code heading_part publics_table natives_table libraries_table variables_table tags_table publics_names natives_names libraries_names variables_names tags_names padding code_part store_part)
-      ∙ cells_at-cells front store_part (code_place amx) amx.code front_long r.code
-
-  store_known : cells_at (layout amx) (data_place amx) (length amx.store) ≡ amx.store
-  store_known =
-      let long : Lengths = lengths in
-      let front_is : length front ≡ code_place amx = front_long in
-      ap (λ (t : List ℕ). cells_at t (data_place amx) (length amx.store)) (to_store heading_part publics_table natives_table libraries_table variables_table tags_table publics_names natives_names libraries_names variables_names tags_names padding code_part store_part)
-      ∙ cells_at-cells (front ++ code_part) [] (data_place amx) amx.store (length-append front code_part ∙ omega (arith, long, front_is)) r.store
-
-  header_is : Shows (layout amx) (fields_of amx) → HasHeader (layout amx)
-  header_is shows = record {
-    long = shows.long;
-    magic = shows.magic;
-    file_version = shows.file_version;
-    version = (omega (arith, shows.version, w.version.0), omega (arith, shows.version, w.version.1));
-    plain = rw shows.flags w.flags;
-    record_size = shows.record_size;
+  stands : Stand (header_bytes h) (half 31) 56 (name_place amx + 2) records
+  stands = record {
+    front_long = length-header h;
+    mid_long = omega (arith, length-half 31, count);
+    below = omega (arith, w.size, size_of_names);
   }
 
-  tables_are : Shows (layout amx) (fields_of amx) → HasTables (layout amx)
-  tables_are shows = record {
-    first = omega (arith, shows.publics);
-    publics = record { rises = omega (arith, shows.publics, shows.natives); whole = omega (arith, shows.publics, shows.natives) };
-    natives = record { rises = omega (arith, shows.natives, shows.libraries); whole = omega (arith, shows.natives, shows.libraries) };
-    libraries = record { rises = omega (arith, shows.libraries, shows.variables); whole = omega (arith, shows.libraries, shows.variables) };
-    variables = record { rises = omega (arith, shows.variables, shows.tags); whole = omega (arith, shows.variables, shows.tags) };
-    tags = record { rises = omega (arith, shows.tags, shows.names); whole = omega (arith, shows.tags, shows.names) };
-    names = omega (arith, shows.names, shows.code);
-  }
+  good : All IsWritableName records
+  good =
+      All-append IsWritableName amx.publics _ w.publics (All-append IsWritableName amx.natives _ w.natives
+      (All-append IsWritableName amx.libraries _ w.libraries (All-append IsWritableName amx.variables amx.tags w.variables w.tags)))
 
-  parts_are : Shows (layout amx) (fields_of amx) → HasParts (layout amx)
-  parts_are shows =
-      let long : length (layout amx) ≡ file_size amx = file_long in record {
-        code = record { rises = omega (arith, shows.code, shows.store); whole = omega (arith, shows.code, shows.store) };
-        store = record { rises = omega (arith, shows.store, shows.heap); whole = omega (arith, shows.store, shows.heap) };
-        room = record { rises = omega (arith, shows.heap, shows.stack); whole = omega (arith, shows.heap, shows.stack) };
-        size = shows.size ∙ sym long;
-        end = shows.heap ∙ sym long;
-        memory = omega (arith, shows.code, shows.stack, w.memory);
-        top = omega (arith, shows.stack, w.top);
+  all_read : records_at bytes 56 (length records) ≡ records
+  all_read = records_at-table (header_bytes h) (half 31) back 56 (name_place amx + 2) records r.addresses good stands
+
+  named : (index : ℕ) → index < length records
+      → IsNamed bytes (name_place amx + 2) (name_place amx + 2 + names_size records) (word_at bytes (56 + 8 * index + 4))
+  named = named-table (header_bytes h) (half 31) back 56 (name_place amx + 2) records stands
+
+  inside : AllNames (IsInside h) bytes h
+  inside index below =
+      let it = named index (omega (arith, below, count)) in
+      record { behind = it.behind; before = omega (arith, it.from, it.before, size_of_names) }
+
+  ended : (index place : ℕ) → IsNamed bytes (name_place amx + 2) (name_place amx + 2 + names_size records) place → IsClosed (take (code_place amx) bytes) place
+  ended index place it =
+      let before : it.end < code_place amx = omega (arith, it.before, size_of_names) in
+      record {
+        end = it.end;
+        behind = it.from;
+        within = omega (arith, before, length-take-le (code_place amx) bytes (omega (arith, long)));
+        zero = get_or-take (code_place amx) bytes it.end 0 before ∙ it.zero_;
       }
 
-pub layout_is_file : (amx : Amx) → IsWritable amx → HasRanges amx → IsFile (layout amx) amx
-layout_is_file amx w r =
-    let shows : Shows (layout amx) (fields_of amx) = layout_shows amx w r in
-    let bytes : List ℕ = layout amx in
-    let cut_there : take (code_place amx) (layout amx) ≡ front amx w r = cut amx w r in
-    record {
-      header = header_is amx w r shows;
-      tables = tables_are amx w r shows;
-      parts = parts_are amx w r shows;
-      flags = sym shows.flags;
-      version = sym shows.version;
-      code = cells_are bytes amx.code 12 (code_place amx) shows.code shows.store (code_known amx w r);
-      store = cells_are bytes amx.store 16 (data_place amx) shows.store shows.heap (store_known amx w r);
-      room = omega (arith, shows.heap, shows.stack);
-      entry = sym (ap (cast_signed w32) shows.entry ∙ to_z-of_z w32 amx.entry r.header.entry);
-      publics = table_is bytes (front amx w r) amx.publics 32 (code_place amx) (name_place amx) 56 shows.code cut_there shows.names shows.publics shows.natives (publics_known amx w r);
-      natives = table_is bytes (front amx w r) amx.natives 36 (code_place amx) (name_place amx) (natives_place amx) shows.code cut_there shows.names shows.natives shows.libraries (natives_known amx w r);
-      libraries = table_is bytes (front amx w r) amx.libraries 40 (code_place amx) (name_place amx) (libraries_place amx) shows.code cut_there shows.names shows.libraries shows.variables (libraries_known amx w r);
-      variables = table_is bytes (front amx w r) amx.variables 44 (code_place amx) (name_place amx) (variables_place amx) shows.code cut_there shows.names shows.variables shows.tags (variables_known amx w r);
-      tags = table_is bytes (front amx w r) amx.tags 48 (code_place amx) (name_place amx) (tags_place amx) shows.code cut_there shows.names shows.tags (shows.names ∙ omega arith) (tags_known amx w r);
-    }
+  closed : AllNames (IsClosed (take h.cod bytes)) bytes h
+  closed index below = ended index _ (named index (omega (arith, below, count)))
+
+  versions : HasVersions h
+  versions = record { format = refl; first = w.version.0; last = w.version.1 }
+
+  size_ : HasSize h (length bytes)
+  size_ = record {
+    least = omega arith;
+    signed = omega (arith, short, w.size);
+    within = omega (arith, long);
+    whole = λ e. sym long;
+    plain = λ e. omega (arith, plain_size encoding amx.flags (amx.code ++ amx.store) row w.flags is_row e, length-append amx.code amx.store);
+  }
+
+  tables : HasTables h
+  tables = record {
+    first = omega arith;
+    publics = record { rises = omega arith; whole = omega arith };
+    natives = record { rises = omega arith; whole = omega arith };
+    libraries = record { rises = omega arith; whole = omega arith };
+    variables = record { rises = omega arith; whole = omega arith };
+    tags = record { rises = omega arith; whole = omega arith };
+    names = omega arith;
+  }
+
+  parts : HasParts h
+  parts = record {
+    code = record { rises = omega arith; whole = omega arith };
+    store = record { rises = omega arith; whole = omega arith };
+    room = record { rises = omega arith; whole = omega arith };
+    memory = omega (arith, w.memory);
+    top = omega (arith, w.top);
+    row = λ e. omega arith;
+  }
+
+  sound : IsFreeOfAll order bytes
+  sound = (
+    omega (arith, long),
+    (
+      ap (λ (k : Header). k.magic) reads,
+      (
+        subst HasVersions (sym reads) versions,
+        (
+          ap (λ (k : Header). k.record_size) reads,
+          (
+            subst (λ (k : Header). HasSize k (length bytes)) (sym reads) size_,
+            (
+              subst HasOrder (sym reads) (record { tables = tables; parts = parts }),
+              (
+                subst (λ (k : Header). AllNames (IsInside k) bytes k) (sym reads) inside,
+                (subst (λ (k : Header). AllNames (IsClosed (take k.cod bytes)) bytes k) (sym reads) closed, tt),
+              ),
+            ),
+          ),
+        ),
+      ),
+    ),
+  )
+
+  front : List ℕ
+  front = header_bytes h ++ (table (name_place amx + 2) records ++ (half 31 ++ (names records ++ zeros (code_place amx - names_end amx))))
+
+  whole : bytes ≡ front ++ row
+  unfolding front
+  whole = joined (header_bytes h) (table (name_place amx + 2) records) (half 31) (names records) (zeros (code_place amx - names_end amx)) row
+
+  front_long : length front ≡ code_place amx
+  front_long = omega (arith, ap length whole, length-append front row, long)
+
+  stored : HasCells bytes amx.code amx.store
+  stored =
+      let row_here : AreCellsOf (is_compact h.flags) bytes h (amx.code ++ amx.store) =
+      cells_stand encoding amx.flags bytes front row h (amx.code ++ amx.store) w.flags refl whole front_long refl
+      (omega (arith, length-append amx.code amx.store)) is_row r.cells in
+      record {
+        code_length = sym (ap code_cells reads ∙ omega arith);
+        store_length = sym (ap store_cells reads ∙ omega arith);
+        row = subst (λ (k : Header). AreCellsOf (is_compact k.flags) bytes k (amx.code ++ amx.store)) (sym reads) row_here;
+      }
+
+  first_part : Parted bytes 56 amx.publics (amx.natives ++ (amx.libraries ++ (amx.variables ++ amx.tags)))
+  first_part = parted bytes 56 amx.publics _ all_read
+
+  second_part : Parted bytes (natives_place amx) amx.natives (amx.libraries ++ (amx.variables ++ amx.tags))
+  second_part = parted bytes (natives_place amx) amx.natives _ first_part.rest
+
+  third_part : Parted bytes (libraries_place amx) amx.libraries (amx.variables ++ amx.tags)
+  third_part = parted bytes (libraries_place amx) amx.libraries _ second_part.rest
+
+  fourth_part : Parted bytes (variables_place amx) amx.variables amx.tags
+  fourth_part = parted bytes (variables_place amx) amx.variables amx.tags third_part.rest
+
+  pub file : IsFile bytes amx
+  file = record {
+    sound = sound;
+    flags = sym (ap (λ (k : Header). kept k.flags) reads ∙ flags_kept encoding amx.flags w.flags);
+    version = sym (ap (λ (k : Header). k.version) reads);
+    cells = stored;
+    room = sym (ap (λ (k : Header). (k.stp - k.hea) / 4) reads ∙ omega arith);
+    entry = sym (ap (λ (k : Header). k.cip) reads);
+    publics = sym (ap (λ (k : Header). table_at bytes k.publics k.natives) reads ∙ ap (records_at bytes 56) (omega arith) ∙ first_part.first);
+    natives = sym (ap (λ (k : Header). table_at bytes k.natives k.libraries) reads ∙ ap (records_at bytes (natives_place amx)) (omega arith) ∙ second_part.first);
+    libraries = sym (ap (λ (k : Header). table_at bytes k.libraries k.variables) reads ∙ ap (records_at bytes (libraries_place amx)) (omega arith) ∙ third_part.first);
+    variables = sym (ap (λ (k : Header). table_at bytes k.variables k.tags) reads ∙ ap (records_at bytes (variables_place amx)) (omega arith) ∙ fourth_part.first);
+    tags = sym (ap (λ (k : Header). table_at bytes k.tags k.names) reads ∙ ap (records_at bytes (tags_place amx)) (omega arith) ∙ fourth_part.rest);
+  }
+
+pub layout_is_file : (encoding : Encoding) (amx : Amx) (bytes : List ℕ) → IsLayout encoding amx bytes → IsWritable amx → HasRanges amx → IsFile bytes amx
+layout_is_file encoding amx there it w r = subst (λ (b : List ℕ). IsFile b amx) (sym it.is) (file encoding amx it.row w r it.is_row)
+
+-- what the writer answers
+pub written : (encoding : Encoding) (amx : Amx) (publics : List Record) (bytes : List ℕ) → Sorts amx.publics publics → IsWritableSorted amx
+    → IsLayout encoding (with_publics amx publics) bytes → HasRanges (with_publics amx publics) → IsWritten encoding amx bytes
+written encoding amx publics bytes sorts w layout r = record {
+  publics = publics;
+  sorts = sorts;
+  layout = layout;
+  file = layout_is_file encoding (with_publics amx publics) bytes layout (w publics sorts) r;
+}
+
+pub written_by : {E : Type 0} (encoding : Encoding) (amx : Amx) (lent publics given : List Record) (result : Result (List ℕ) E) → lent ≡ amx.publics
+    → Sorts lent publics → given ≡ publics → IsWritableSorted amx → IfOk result (IsLayout encoding (with_publics amx given))
+    → OnOk result (HasRanges (with_publics amx given)) → IfOk result (IsWritten encoding amx)
+written_by encoding amx lent publics given (Ok out) e sorts f w layout r =
+    written encoding amx given out (subst (Sorts amx.publics) (sym f) (subst (λ (list : List Record). Sorts list publics) e sorts)) w layout r
+written_by encoding amx lent publics given (Err fault) e sorts f w layout r = tt

@@ -1,8 +1,11 @@
+pub mod CheckLaws
 pub mod Determines
 pub mod Examples
 pub mod FileLaws
 pub mod HeaderLaws
 pub mod Numbers
 pub mod ReadLaws
+pub mod RowLaws
+pub mod SortLaws
 pub mod TableLaws
 pub mod WriteLaws

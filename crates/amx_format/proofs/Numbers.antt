@@ -1,13 +1,14 @@
 -- Numbers in bytes, cells and names, each read back behind what stands in front of it.
-use Rattle.std.proofs.Common.{◌≡◌, ◌+◌, ◌^◌, ◌<◌, ◌≢◌, ℕ, zero, suc, ℤ, List, [], ◌∷◌, ◌++◌, Some, length, drop, refl, ap, ◌∙◌, arith}
-use Rattle.std.specs.Prelude.{FitsSigned, All, option_map}
+use Rattle.std.proofs.Common.{◌≡◌, ◌+◌, ◌^◌, ◌<◌, ◌≢◌, ℕ, zero, suc, ℤ, List, [], ◌∷◌, ◌++◌, length, drop, refl, ap, ◌∙◌, arith}
+use Rattle.std.specs.Prelude.{FitsSigned, All}
 use Rattle.std.specs.Int.{w32, cast_unsigned, cast_signed}
 use Rattle.std.proofs.lemmas.Int.{to_z-of_z}
 use Rattle.std.proofs.lemmas.List.{append_assoc, drop_at, length-append}
 use Rattle.std.proofs.lemmas.List.Elements.{All-head, All-tail}
 use Rattle.byteorder.specs.Numbers.{little_number-reads_back}
 use mir.Facts.{Fits-of_z}
-use Rattle.amx_format.specs.File.{word_at, cell_at, cells_at, name_of}
+use Rattle.amx_format.specs.Numbers.{word_at, cell_at, cells_at}
+use Rattle.amx_format.specs.Names.{name_from}
 use Rattle.amx_format.specs.Layout.{word, cells}
 
 pub length-word : (x : ℕ) → length (word x) ≡ 4
@@ -51,8 +52,8 @@ cells_at-cells front back place (z ∷ row) e fits =
     cc
 
 -- a name and its zero
-pub name_of-name : (name rest : List ℕ) → All (λ byte. byte ≢ 0) name → name_of (name ++ 0 ∷ rest) ≡ Some name
-name_of-name [] rest h = refl
-name_of-name (zero ∷ name) rest h = absurd (All-head (λ byte. byte ≢ 0) zero name h refl)
-name_of-name (suc byte ∷ name) rest h =
-    ap (option_map (λ (bytes : List ℕ). suc byte ∷ bytes)) (name_of-name name rest (All-tail (λ byte. byte ≢ 0) (suc byte) name h))
+pub name_from-name : (name rest : List ℕ) → All (λ byte. byte ≢ 0) name → name_from (name ++ 0 ∷ rest) ≡ name
+name_from-name [] rest h = refl
+name_from-name (zero ∷ name) rest h = absurd (All-head (λ byte. byte ≢ 0) zero name h refl)
+name_from-name (suc byte ∷ name) rest h =
+    ap (λ (bytes : List ℕ). suc byte ∷ bytes) (name_from-name name rest (All-tail (λ byte. byte ≢ 0) (suc byte) name h))

@@ -1,30 +1,24 @@
 -- What a loop of the reader has read so far.
-use Rattle.std.proofs.Common.{◌≡◌, ◌≢◌, ◌+◌, ◌-◌, ◌*◌, ◌<◌, ◌≤◌, ℕ, zero, suc, ℤ, List, [], ◌∷◌, ◌++◌, Option, Some, None, get_or, length, take, refl, sym, ap, ◌∙◌, arith}
-use Rattle.std.specs.Prelude.{All, option_map}
-use Rattle.std.proofs.lemmas.List.{append_assoc, append-nil, take_all}
-use Rattle.std.proofs.lemmas.List.Elements.{All-head, All-tail, All-same}
+use Rattle.std.proofs.Common.{◌≡◌, ◌≢◌, ◌+◌, ◌-◌, ◌*◌, ◌<◌, ◌≤◌, ℕ, zero, suc, ℤ, List, [], ◌∷◌, ◌++◌, ◌/◌, false, get_or, length, take, refl, sym, ap, ap₂, subst, ◌∙◌, arith}
+use Rattle.std.specs.Prelude.{All}
+use Rattle.std.proofs.lemmas.List.{append_assoc, append-nil}
+use Rattle.std.proofs.lemmas.List.Elements.{All-head, All-tail}
 use Rattle.amx_ops.specs.declared.amx.Record.{Record}
-use Rattle.amx_format.specs.File.{cell_at, cells_at, name_of, record_at, with_first, records_at}
+use Rattle.amx_format.specs.Numbers.{cell_at, cells_at}
+use Rattle.amx_format.specs.declared.header.Header.{Header}
+use Rattle.amx_format.specs.Header.{header_of, is_compact, code_cells, store_cells, HasParts}
+use Rattle.amx_format.specs.File.{AreCellsOf, HasCells}
+use Rattle.amx_format.specs.Names.{name_from, record_at, records_at}
 
 -- bytes without a zero up to a zero are a name
-pub name_of-take : (text : List ℕ) (i : ℕ) → i < length text → All (λ byte. byte ≢ 0) (take i text) → get_or text i 0 ≡ 0 → name_of text ≡ Some (take i text)
-name_of-take [] i h none zero_ = absurd (omega arith)
-name_of-take (zero ∷ text) zero h none zero_ = refl
-name_of-take (suc byte ∷ text) zero h none zero_ = absurd (omega (arith, zero_))
-name_of-take (zero ∷ text) (suc i) h none zero_ = absurd (All-head (λ byte. byte ≢ 0) zero (take i text) none refl)
-name_of-take (suc byte ∷ text) (suc i) h none zero_ =
-    ap (option_map (λ (bytes : List ℕ). suc byte ∷ bytes))
-    (name_of-take text i (omega arith) (All-tail (λ byte. byte ≢ 0) (suc byte) (take i text) none) zero_)
-
--- bytes without a zero are none
-pub name_of-none : (text : List ℕ) → All (λ byte. byte ≢ 0) text → name_of text ≡ None
-name_of-none [] none = refl
-name_of-none (zero ∷ text) none = absurd (All-head (λ byte. byte ≢ 0) zero text none refl)
-name_of-none (suc byte ∷ text) none =
-    ap (option_map (λ (bytes : List ℕ). suc byte ∷ bytes)) (name_of-none text (All-tail (λ byte. byte ≢ 0) (suc byte) text none))
-
-pub name_of-end : (text : List ℕ) (i : ℕ) → length text ≤ i → All (λ byte. byte ≢ 0) (take i text) → name_of text ≡ None
-name_of-end text i h none = name_of-none text (All-same (λ byte. byte ≢ 0) text (take i text) (sym (take_all i text h)) none)
+pub name_from-take : (text : List ℕ) (i : ℕ) → i < length text → All (λ byte. byte ≢ 0) (take i text) → get_or text i 0 ≡ 0 → take i text ≡ name_from text
+name_from-take [] i h none zero_ = absurd (omega arith)
+name_from-take (zero ∷ text) zero h none zero_ = refl
+name_from-take (suc byte ∷ text) zero h none zero_ = absurd (omega (arith, zero_))
+name_from-take (zero ∷ text) (suc i) h none zero_ = absurd (All-head (λ byte. byte ≢ 0) zero (take i text) none refl)
+name_from-take (suc byte ∷ text) (suc i) h none zero_ =
+    ap (λ (bytes : List ℕ). suc byte ∷ bytes)
+    (name_from-take text i (omega arith) (All-tail (λ byte. byte ≢ 0) (suc byte) (take i text) none) zero_)
 
 cells_at-suc : (bytes : List ℕ) (place n m : ℕ) → n ≡ suc m → cells_at bytes place n ≡ cell_at bytes place ∷ cells_at bytes (place + 4) m
 cells_at-suc bytes place n m e = rw e refl
@@ -40,45 +34,59 @@ cells_step bytes place count i row next all h e known =
     cells_at-suc bytes (place + 4 * i) (count - i) (count - (i + 1)) (omega arith) ∙ ap (λ (cs : List ℤ). cell ∷ cs) moved in
     ap (λ (cs : List ℤ). cs ++ rest) e ∙ append_assoc row (cell ∷ []) rest ∙ sym (ap (λ (cs : List ℤ). row ++ cs) first) ∙ known
 
-records_at-suc : (text : List ℕ) (first place n m : ℕ) → n ≡ suc m → records_at text first place n ≡ with_first (record_at text first place) (records_at text first (place + 8) m)
-records_at-suc text first place n m e = rw e refl
+-- all cells have been read
+pub cells_done : (bytes : List ℕ) (place n i : ℕ) (row all : List ℤ) → n ≤ i → row ++ cells_at bytes place (n - i) ≡ all → row ≡ all
+cells_done bytes place n i row all h known =
+    let none : n - i ≡ 0 = omega arith in
+    sym (ap (λ k. row ++ cells_at bytes place k) none ∙ append-nil row) ∙ known
 
-with_first-map : (found : List Record) (it : Record) (rest : Option (List Record))
-    → option_map (λ (more : List Record). (found ++ it ∷ []) ++ more) rest ≡ option_map (λ (more : List Record). found ++ more) (with_first (Some it) rest)
-with_first-map found it None = refl
-with_first-map found it (Some more) = ap Some (append_assoc found (it ∷ []) more)
-
-records_first : (text : List ℕ) (first place count i : ℕ) → i < count
-    → records_at text first (place + 8 * i) (count - i) ≡ with_first (record_at text first (place + 8 * i)) (records_at text first (place + 8 * (i + 1)) (count - (i + 1)))
-records_first text first place count i h =
-    records_at-suc text first (place + 8 * i) (count - i) (count - (i + 1)) (omega arith)
-    ∙ ap (λ k. with_first (record_at text first (place + 8 * i)) (records_at text first k (count - (i + 1)))) (omega arith)
+records_at-suc : (bytes : List ℕ) (place n m : ℕ) → n ≡ suc m → records_at bytes place n ≡ record_at bytes place ∷ records_at bytes (place + 8) m
+records_at-suc bytes place n m e = rw e refl
 
 -- one record more has been read
-pub records_step : (text : List ℕ) (first place count i : ℕ) (found next : List Record) (it : Record) → i < count
-    → record_at text first (place + 8 * i) ≡ Some it → next ≡ found ++ it ∷ []
-    → option_map (λ rest. found ++ rest) (records_at text first (place + 8 * i) (count - i)) ≡ records_at text first place count
-    → option_map (λ rest. next ++ rest) (records_at text first (place + 8 * (i + 1)) (count - (i + 1))) ≡ records_at text first place count
-records_step text first place count i found next it h one e known =
-    let rest : Option (List Record) = records_at text first (place + 8 * (i + 1)) (count - (i + 1)) in
-    let head : records_at text first (place + 8 * i) (count - i) ≡ with_first (Some it) rest =
-    records_first text first place count i h ∙ ap (λ (o : Option Record). with_first o rest) one in
-    ap (λ (xs : List Record). option_map (λ (more : List Record). xs ++ more) rest) e ∙ with_first-map found it rest
-    ∙ sym (ap (option_map (λ (more : List Record). found ++ more)) head) ∙ known
+pub records_step : (bytes : List ℕ) (place count i : ℕ) (found next all : List Record) (it : Record) → i < count
+    → it ≡ record_at bytes (place + 8 * i) → next ≡ found ++ it ∷ []
+    → found ++ records_at bytes (place + 8 * i) (count - i) ≡ all → next ++ records_at bytes (place + 8 * (i + 1)) (count - (i + 1)) ≡ all
+records_step bytes place count i found next all it h is e known =
+    let rest : List Record = records_at bytes (place + 8 * (i + 1)) (count - (i + 1)) in
+    let moved : records_at bytes (place + 8 * i + 8) (count - (i + 1)) ≡ rest = ap (λ k. records_at bytes k (count - (i + 1))) (omega arith) in
+    let first : records_at bytes (place + 8 * i) (count - i) ≡ it ∷ rest =
+    records_at-suc bytes (place + 8 * i) (count - i) (count - (i + 1)) (omega arith)
+    ∙ ap (λ (r : Record). r ∷ records_at bytes (place + 8 * i + 8) (count - (i + 1))) (sym is) ∙ ap (λ (rs : List Record). it ∷ rs) moved in
+    ap (λ (rs : List Record). rs ++ rest) e ∙ append_assoc found (it ∷ []) rest ∙ sym (ap (λ (rs : List Record). found ++ rs) first) ∙ known
 
--- one that isn't there leaves none
-pub records_stop : (text : List ℕ) (first place count i : ℕ) (found : List Record) → i < count → record_at text first (place + 8 * i) ≡ None
-    → option_map (λ rest. found ++ rest) (records_at text first (place + 8 * i) (count - i)) ≡ records_at text first place count
-    → records_at text first place count ≡ None
-records_stop text first place count i found h none known =
-    let rest : Option (List Record) = records_at text first (place + 8 * (i + 1)) (count - (i + 1)) in
-    sym known ∙ ap (option_map (λ (more : List Record). found ++ more))
-    (records_first text first place count i h ∙ ap (λ (o : Option Record). with_first o rest) none)
+pub records_done : (bytes : List ℕ) (place n i : ℕ) (found all : List Record) → n ≤ i → found ++ records_at bytes place (n - i) ≡ all → found ≡ all
+records_done bytes place n i found all h known =
+    let none : n - i ≡ 0 = omega arith in
+    sym (ap (λ k. found ++ records_at bytes place k) none ∙ append-nil found) ∙ known
 
-pub records_done : (text : List ℕ) (first place count i : ℕ) (found : List Record) → count ≤ i
-    → option_map (λ rest. found ++ rest) (records_at text first (place + 8 * i) (count - i)) ≡ records_at text first place count
-    → records_at text first place count ≡ Some found
-records_done text first place count i found h known =
-    let none : count - i ≡ 0 = omega arith in
-    sym known ∙ ap (λ n. option_map (λ (more : List Record). found ++ more) (records_at text first (place + 8 * i) n)) none
-    ∙ ap Some (append-nil found)
+length-cells_at : (bytes : List ℕ) (place n : ℕ) → length (cells_at bytes place n) ≡ n
+length-cells_at bytes place zero = refl
+length-cells_at bytes place (suc n) = let ih = length-cells_at bytes (place + 4) n in omega (arith, ih)
+
+-- cells of which the first so many are looked at apart
+cells_at-split : (bytes : List ℕ) (place n m : ℕ) → cells_at bytes place n ++ cells_at bytes (place + 4 * n) m ≡ cells_at bytes place (n + m)
+cells_at-split bytes place zero m = ap (λ k. cells_at bytes k m) (omega arith) ∙ ap (cells_at bytes place) (omega arith)
+cells_at-split bytes place (suc n) m =
+    let moved : cells_at bytes (place + 4 * suc n) m ≡ cells_at bytes (place + 4 + 4 * n) m = ap (λ k. cells_at bytes k m) (omega arith) in
+    ap (λ (cs : List ℤ). cell_at bytes place ∷ (cells_at bytes (place + 4) n ++ cs)) moved
+    ∙ ap (λ (cs : List ℤ). cell_at bytes place ∷ cs) (cells_at-split bytes (place + 4) n m)
+    ∙ sym (cells_at-suc bytes place (suc n + m) (n + m) (omega arith))
+
+-- the plain cells of code and data
+pub plain_cells : (bytes : List ℕ) (h : Header) (code store : List ℤ) → h ≡ header_of bytes → HasParts h → is_compact h.flags ≡ false
+    → code ≡ cells_at bytes h.cod ((h.dat - h.cod) / 4) → store ≡ cells_at bytes h.dat ((h.hea - h.dat) / 4) → HasCells bytes code store
+plain_cells bytes h code store e parts plain code_is store_is =
+    let n : ℕ = code_cells h in
+    let m : ℕ = store_cells h in
+    let moved : cells_at bytes h.dat m ≡ cells_at bytes (h.cod + 4 * n) m =
+    ap (λ k. cells_at bytes k m) (omega (arith, parts.code.rises, parts.code.whole)) in
+    let row : code ++ store ≡ cells_at bytes h.cod (n + m) =
+    ap₂ (λ (a b : List ℤ). a ++ b) code_is (store_is ∙ moved) ∙ cells_at-split bytes h.cod n m in
+    let is_row : AreCellsOf (is_compact h.flags) bytes h (code ++ store) =
+    subst (λ b. AreCellsOf b bytes h (code ++ store)) (sym plain) row in
+    record {
+      code_length = ap length code_is ∙ length-cells_at bytes h.cod n ∙ ap code_cells e;
+      store_length = ap length store_is ∙ length-cells_at bytes h.dat m ∙ ap store_cells e;
+      row = subst (λ (k : Header). AreCellsOf (is_compact k.flags) bytes k (code ++ store)) e is_row;
+    }

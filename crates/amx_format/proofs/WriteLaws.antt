@@ -5,7 +5,8 @@ use Rattle.std.specs.Int.{w32}
 use Rattle.std.proofs.lemmas.List.{append_assoc, take_all}
 use Rattle.std.proofs.lemmas.List.Elements.{All-more, All-same}
 use Rattle.amx_ops.specs.declared.amx.Record.{Record}
-use Rattle.amx_format.specs.Layout.{zeros, AddressesFit}
+use Rattle.amx_format.specs.Layout.{zeros}
+use Rattle.amx_format.specs.Ranges.{AddressesFit}
 
 zeros-suc : (n m : ℕ) → n ≡ suc m → zeros n ≡ 0 ∷ zeros m
 zeros-suc n m e = rw e refl

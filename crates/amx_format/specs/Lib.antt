@@ -1,2 +1,9 @@
+pub mod Faults
 pub mod File
+pub mod Header
 pub mod Layout
+pub mod Names
+pub mod Numbers
+pub mod Ranges
+pub mod Sorts
+pub mod Written

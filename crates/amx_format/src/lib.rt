@@ -1,13 +1,19 @@
-//! The bytes of an AMX file with plain cells: the relation between bytes and an `Amx`, the writer
-//! and the reader.
+//! The bytes of an AMX file: the relation between bytes and an `Amx`, the writer and the reader.
 #![tactic(auto)]
 
+mod check;
+mod encoding;
+mod fault;
 mod file;
+mod header;
+mod number;
+mod place;
 mod reader;
-#[cfg(test)]
-mod tests;
+mod sort;
 mod writer;
 
-pub use file::a_file_is_of_one_amx;
-pub use reader::{ReadFault, read};
+pub use encoding::Encoding;
+pub use fault::FormatFault;
+pub use file::{a_file_is_of_one_amx, code_place, file_size, is_compact, what_is_written_is_read};
+pub use reader::read;
 pub use writer::write;

@@ -1,164 +1,147 @@
-ghost use Rattle.std.specs.Prelude.{◌≡◌, ◌+◌, ◌-◌, ◌*◌, ◌/◌, ◌≤◌, length, Some, None};
-ghost use Rattle.std.specs.Prelude.{MatchOption, IfOk, IsErrOf};
-ghost use Rattle.amx_format.specs.File.{word_at, cells_at, name_of, name_at, record_at, records_at};
-ghost use Rattle.amx_format.specs.File.{table_at, IsFile, IsReadBack};
+ghost use Rattle.std.specs.Prelude.{◌≡◌, ◌⊎◌, ◌≢◌, ◌+◌, ◌-◌, ◌*◌, ◌/◌, ◌≤◌, ◌<◌, ◌^◌, ℕ, Result, length, drop, IfOk, IfErr, MatchOption};
 ghost use Rattle.amx_ops.specs.declared.amx.Amx.{Amx};
+ghost use Rattle.amx_format.specs.declared.fault.FormatFault.{FormatFault};
+ghost use Rattle.amx_format.specs.Header.{header_of, code_cells, store_cells, HasOrder, HasSize};
+ghost use Rattle.amx_format.specs.Numbers.{word_at, cell_at, cells_at};
+ghost use Rattle.amx_format.specs.Names.{name_from, record_at, records_at, table_at};
+ghost use Rattle.amx_format.specs.Faults.{HasCellFault, row_of};
+ghost use Rattle.amx_format.specs.File.{HasCells, IsFile, Answers};
 
-use super::file::{is_sound, read_cell, read_half, read_place};
+use super::check::check;
+use super::fault::FormatFault;
+use super::header::Header;
+use super::number::{read_cell, read_word};
+use amx_compact::read_cells;
 use amx_ops::{Amx, Record};
 use pawn_base::{Bytes, Cells, List, Memory};
 use std::alloc::Global;
-use thiserror::Error;
 
-/// Why a file isn't read.
-#[derive(Clone, Copy, Debug, PartialEq, Eq, Error)]
-pub enum ReadFault {
-    #[error("no memory")]
-    Memory,
-    /// The bytes are no file of any Amx.
-    #[error("damaged file")]
-    Damaged,
-}
+/// The bytes that the names of one table may take together: as many as the greatest file has. Where
+/// records share long names, they could take the product of both.
+const NAMES_LIMIT: usize = 67_108_864;
 
-impl From<Memory> for ReadFault {
-    ghost use Rattle.amx_format.specs.declared.reader.ReadFault.TheVariants as fault;
-
-    ghost from_gives = { λ _ result. result ≡ fault.Memory };
-
-    fn from(_: Memory) -> ReadFault {
-        ReadFault::Memory
-    }
-}
-
-fn read_cells(alloc: Global, bytes: &[u8], place: usize, count: usize) -> Result<Cells, Memory>
+/// So many plain cells from a place on.
+fn read_plain(alloc: Global, bytes: &[u8], place: usize, count: usize) -> Result<Cells, Memory>
     requires { place + 4 * count ≤ length bytes.now }
     ensures { IfOk result (λ row. row ≡ cells_at bytes.now place count) }
 {
     let mut row = Cells::new(alloc);
-    for i in 0..count {
-        row.push(read_cell(bytes, place + 4 * i))?;
+    for index in 0..count {
+        row.push(read_cell(bytes, place + 4 * index))?;
     }
     Ok(row)
 }
 
-/// The cells from the place that stands in a field to the place in the next.
-fn read_part(alloc: Global, bytes: &[u8], field: usize) -> Result<Cells, Memory>
-    requires fields { field + 8 ≤ length bytes.now }
-    requires rises { word_at bytes.now field ≤ word_at bytes.now (field + 4) }
-    requires within { word_at bytes.now (field + 4) ≤ length bytes.now }
-    ensures { IfOk result (λ row. row ≡ cells_at bytes.now (word_at bytes.now field)
-        ((word_at bytes.now (field + 4) - word_at bytes.now field) / 4)) }
-{
-    let place = read_place(bytes, field);
-    read_cells(
-        alloc,
-        bytes,
-        place,
-        (read_place(bytes, field + 4) - place) / 4,
-    )
+/// Code and data.
+#[derive(Drop)]
+struct Parts {
+    code: Cells,
+    store: Cells,
 }
 
-/// The bytes before the first zero.
-fn read_name(text: &[u8]) -> Option<&[u8]>
-    ensures { MatchOption result (name_of text.now ≡ None)
-        (λ name. name_of text.now ≡ Some name.now) }
+fn read_parts(alloc: Global, bytes: &[u8], header: &Header) -> Result<Parts, FormatFault>
+    requires header { header.now ≡ header_of bytes.now }
+    requires order { HasOrder header.now }
+    requires size { HasSize header.now (length bytes.now) }
+    ensures cells { IfOk result (λ parts. HasCells bytes.now parts.code parts.store) }
+    ensures fault { IfErr result (λ fault. HasCellFault bytes.now fault
+        ⊎ (fault ≡ FormatFault.Memory)) }
 {
-    for (i, byte) in text.iter().enumerate() {
+    let code = (header.dat - header.cod) as usize / 4;
+    let store = (header.hea - header.dat) as usize / 4;
+    if !header.is_compact() {
+        return Ok(Parts {
+            code: read_plain(alloc, bytes, header.cod as usize, code)?,
+            store: read_plain(alloc, bytes, header.dat as usize, store)?,
+        });
+    }
+    let row = &bytes[header.cod as usize..header.size as usize];
+    let cells = read_cells(alloc, row, (code + store) as u32)?;
+    Ok(Parts {
+        code: Cells::from_slice(alloc, &cells.as_slice()[..code])?,
+        store: Cells::from_slice(alloc, &cells.as_slice()[code..])?,
+    })
+}
+
+/// The bytes before the first zero, or none where they are more than so many.
+fn name_within(text: &[u8], most: usize) -> Option<&[u8]>
+    ensures name { MatchOption result (Unit {0}) (λ name. name.now ≡ name_from text.now) }
+    ensures few { MatchOption result (Unit {0}) (λ name. length name.now ≤ most) }
+{
+    for (index, byte) in text.iter().enumerate() {
         if *byte == 0 {
-            return Some(&text[..i]);
+            return Some(&text[..index]);
+        }
+        if index == most {
+            return None;
         }
     }
     None
 }
 
-/// The name at a place that isn't before the first.
-fn read_name_at(text: &[u8], first: usize, place: usize) -> Option<&[u8]>
-    ensures { MatchOption result (name_at text.now first place ≡ None)
-        (λ name. name_at text.now first place ≡ Some name.now) }
+/// The record at a place. `Memory` says that its name has more bytes than are left.
+fn read_record(alloc: Global, bytes: &[u8], place: usize, left: usize) -> Result<Record, Memory>
+    requires { place + 8 ≤ length bytes.now }
+    ensures record_ { IfOk result (λ it. it ≡ record_at bytes.now place) }
+    ensures few { IfOk result (λ it. length it.name ≤ left) }
 {
-    if place < first || place > text.len() {
-        return None;
+    let start = read_word(bytes, place + 4) as usize;
+    if bytes.len() < start {
+        return Err(Memory);
     }
-    read_name(&text[place..])
-}
-
-fn read_record(alloc: Global, text: &[u8], first: usize, place: usize) -> Result<Record, ReadFault>
-    requires { place + 8 ≤ length text.now }
-    ensures ok { IfOk result (λ it. record_at text.now first place ≡ Some it) }
-    ensures damaged { IsErrOf result ReadFault.Damaged → record_at text.now first place ≡ None }
-{
-    let Some(name) = read_name_at(text, first, read_place(text, place + 4)) else {
-        return Err(ReadFault::Damaged);
+    let Some(name) = name_within(&bytes[start..], left) else {
+        return Err(Memory);
     };
     Ok(Record {
-        address: read_cell(text, place),
+        address: read_cell(bytes, place),
         name: Bytes::from_slice(alloc, name)?,
     })
 }
 
-fn read_records(
-    alloc: Global,
-    text: &[u8],
-    first: usize,
-    place: usize,
-    count: usize,
-) -> Result<List<Record>, ReadFault>
-    requires { place + 8 * count ≤ length text.now }
-    ensures ok { IfOk result (λ records. records_at text.now first place count ≡ Some records) }
-    ensures damaged { IsErrOf result ReadFault.Damaged
-        → records_at text.now first place count ≡ None }
+/// The table from a place to another.
+fn read_table(alloc: Global, bytes: &[u8], first: u32, past: u32) -> Result<List<Record>, Memory>
+    requires { past ≤ length bytes.now }
+    ensures { IfOk result (λ records. records ≡ table_at bytes.now first past) }
 {
     let mut records = List::new(alloc);
-    for i in 0..count {
-        records.push(read_record(alloc, text, first, place + 8 * i)?)?;
+    let mut left = NAMES_LIMIT;
+    for index in 0..(past.saturating_sub(first) / 8) as usize {
+        let record = read_record(alloc, bytes, first as usize + 8 * index, left)?;
+        left -= record.name.len();
+        records.push(record)?;
     }
     Ok(records)
 }
 
-/// The table whose place stands in a field.
-fn read_table(alloc: Global, bytes: &[u8], field: usize) -> Result<List<Record>, ReadFault>
-    requires fields { (56 ≤ length bytes.now) × (field + 8 ≤ 56) }
-    requires rises { word_at bytes.now field ≤ word_at bytes.now (field + 4) }
-    requires within { word_at bytes.now (field + 4) ≤ word_at bytes.now 12 }
-    requires text { word_at bytes.now 12 ≤ length bytes.now }
-    ensures ok { IfOk result (λ records. Some records ≡ table_at bytes.now field) }
-    ensures damaged { IsErrOf result ReadFault.Damaged → table_at bytes.now field ≡ None }
+fn read_file(alloc: Global, bytes: &[u8]) -> Result<Amx, FormatFault>
+    ensures { Answers bytes.now result }
 {
-    let text = &bytes[..read_place(bytes, 12)];
-    let place = read_place(bytes, field);
-    let count = (read_place(bytes, field + 4) - place) / 8;
-    read_records(alloc, text, read_place(bytes, 52) + 2, place, count)
-}
-
-fn read_file(alloc: Global, bytes: &[u8]) -> Result<Amx, ReadFault>
-    ensures file { IfOk result (λ amx. IsFile bytes.now amx) }
-    ensures damaged { IsErrOf result ReadFault.Damaged → (amx : Amx) → IsFile bytes.now amx → ⊥ }
-{
-    if !is_sound(bytes) {
-        return Err(ReadFault::Damaged);
-    }
+    let header = check(bytes)?;
+    let parts = read_parts(alloc, bytes, &header)?;
     Ok(Amx {
-        flags: read_half(bytes, 8),
-        version: bytes[7],
-        code: read_part(alloc, bytes, 12)?,
-        store: read_part(alloc, bytes, 16)?,
-        room: ((read_place(bytes, 24) - read_place(bytes, 20)) / 4) as u32,
-        entry: read_cell(bytes, 28),
-        publics: read_table(alloc, bytes, 32)?,
-        natives: read_table(alloc, bytes, 36)?,
-        libraries: read_table(alloc, bytes, 40)?,
-        variables: read_table(alloc, bytes, 44)?,
-        tags: read_table(alloc, bytes, 48)?,
+        flags: header.kept_flags(),
+        version: header.version,
+        code: parts.code,
+        store: parts.store,
+        room: (header.stp - header.hea) / 4,
+        entry: header.cip,
+        publics: read_table(alloc, bytes, header.publics, header.natives)?,
+        natives: read_table(alloc, bytes, header.natives, header.libraries)?,
+        libraries: read_table(alloc, bytes, header.libraries, header.variables)?,
+        variables: read_table(alloc, bytes, header.variables, header.tags)?,
+        tags: read_table(alloc, bytes, header.tags, header.names)?,
     })
 }
 
-/// The Amx of a file with plain cells (Implementer's Guide, "File format"). `Damaged` says that the
-/// bytes are a file of none.
-#[tactic(auto, using(crate::proofs::Determines::read_back))]
-pub fn read(alloc: Global, bytes: &[u8]) -> Result<Amx, ReadFault>
-    ensures file { IfOk result (λ amx. IsFile bytes.now amx) }
-    ensures damaged { IsErrOf result ReadFault.Damaged → (amx : Amx) → IsFile bytes.now amx → ⊥ }
-    ensures back { (amx : Amx) → IsFile bytes.now amx → IsReadBack amx result }
+/// The Amx of a file (Implementer's Guide, "File format"). A refusal is the first fault of the bytes.
+/// `Memory` also comes where the names of one table take more than 64 MiB together.
+#[tactic(auto, using(crate::proofs::Determines::one_answer))]
+pub fn read(alloc: Global, bytes: &[u8]) -> Result<Amx, FormatFault>
+    ensures answer { Answers bytes.now result }
+
+    // There is no other answer, but want of memory.
+    ensures only { (answer : Result Amx FormatFault) → Answers bytes.now answer →
+        answer ≢ Err FormatFault.Memory → result ≢ Err FormatFault.Memory → result ≡ answer }
 {
     read_file(alloc, bytes)
 }

@@ -1,17 +1,25 @@
-ghost use Rattle.std.specs.Prelude.{◌≡◌, ◌+◌, ◌^◌, ◌<◌, ◌++◌, IfOk, OnOk};
-ghost use Rattle.amx_ops.specs.Writable.{IsWritable, table_size, names_size, over_tables};
-ghost use Rattle.amx_format.specs.File.{IsFile};
-ghost use Rattle.amx_format.specs.Layout.{half, word, words, cells, table, names, zeros, header};
-ghost use Rattle.amx_format.specs.Layout.{tables, name_table, layout, places_of};
-ghost use Rattle.amx_format.specs.Layout.{AddressesFit, HeaderFits, TablesFit, HasRanges};
+ghost use Rattle.std.specs.Prelude.{◌≡◌, ◌+◌, ◌*◌, ◌/◌, ◌%◌, ◌^◌, ◌<◌, ◌≤◌, ◌++◌, ℕ, List as ListOf, length, IfOk, OnOk, FitsSigned};
+ghost use Rattle.std.specs.Int.{w32};
+ghost use Rattle.pawn_base.specs.Cells.{AreCells};
+ghost use Rattle.amx_compact.specs.Spelled.{ShortestAll};
+ghost use Rattle.amx_ops.specs.Writable.{IsWritable, cells_of, table_size, names_size, over_tables};
+ghost use Rattle.amx_format.specs.Layout.{half, word, words, cells, table, names, zeros, flag_of};
+ghost use Rattle.amx_format.specs.Layout.{all_records, header_bytes, layout_header, layout};
+ghost use Rattle.amx_format.specs.Layout.{IsRow, IsLayout};
+ghost use Rattle.amx_format.specs.Ranges.{AddressesFit, HasRanges};
+ghost use Rattle.amx_format.specs.Sorts.{Sorts, IsWritableSorted, with_publics};
+ghost use Rattle.amx_format.specs.Written.{IsWritten};
 
-use super::file::{FILE_VERSION, HEADER, MAGIC, RECORD};
+use super::encoding::Encoding;
+use super::header::{COMPACT, FILE_VERSION, HEADER, Header, MAGIC, RECORD};
+use super::sort::sorted;
+use amx_compact::write_cell;
 use amx_ops::{Amx, Record};
 use pawn_base::{Bytes, Memory};
 use std::alloc::Global;
 
 /// The greatest length of a name that the name table states.
-const NAME_LENGTH: u8 = 31;
+pub const NAME_LENGTH: u16 = 31;
 
 #[tactic(auto, unfolding(crate::specs::Layout::half))]
 fn put_half(out: &mut Bytes, number: u16) -> Result<(), Memory>
@@ -36,13 +44,54 @@ fn put_words(out: &mut Bytes, numbers: &[u32]) -> Result<(), Memory>
     Ok(())
 }
 
-fn put_cells(out: &mut Bytes, row: &[i32]) -> Result<(), Memory>
+fn put_plain(out: &mut Bytes, row: &[i32]) -> Result<(), Memory>
     ensures { OnOk result (out.new ≡ out.old ++ cells row.now) }
 {
     for cell in row {
         put_word(out, cell.cast_unsigned())?;
     }
     Ok(())
+}
+
+fn put_compact(out: &mut Bytes, row: &[i32]) -> Result<(), Memory>
+    ensures { OnOk result ((bytes : ListOf ℕ) × ShortestAll row.now bytes
+        × (out.new ≡ out.old ++ bytes)) }
+{
+    for cell in row {
+        write_cell(*cell, out)?;
+    }
+    Ok(())
+}
+
+/// The bytes of code and data.
+fn row_of(alloc: Global, amx: &Amx, encoding: Encoding) -> Result<Bytes, Memory>
+    ensures row { IfOk result (λ row. IsRow encoding (amx.now.code ++ amx.now.store) row) }
+    ensures fits { OnOk result (AreCells (amx.now.code ++ amx.now.store)) }
+{
+    match encoding {
+        Encoding::Plain => plain_row(alloc, amx),
+        Encoding::Compact => compact_row(alloc, amx),
+    }
+}
+
+fn plain_row(alloc: Global, amx: &Amx) -> Result<Bytes, Memory>
+    ensures row { IfOk result (λ row. row ≡ cells (amx.now.code ++ amx.now.store)) }
+    ensures fits { OnOk result (AreCells (amx.now.code ++ amx.now.store)) }
+{
+    let mut row = Bytes::new(alloc);
+    put_plain(&mut row, amx.code.as_slice())?;
+    put_plain(&mut row, amx.store.as_slice())?;
+    Ok(row)
+}
+
+fn compact_row(alloc: Global, amx: &Amx) -> Result<Bytes, Memory>
+    ensures row { IfOk result (λ row. ShortestAll (amx.now.code ++ amx.now.store) row) }
+    ensures fits { OnOk result (AreCells (amx.now.code ++ amx.now.store)) }
+{
+    let mut row = Bytes::new(alloc);
+    put_compact(&mut row, amx.code.as_slice())?;
+    put_compact(&mut row, amx.store.as_slice())?;
+    Ok(row)
 }
 
 /// A table whose names begin at a place, and the place behind them.
@@ -80,19 +129,32 @@ fn put_zeros(out: &mut Bytes, count: u32) -> Result<(), Memory>
     Ok(())
 }
 
-/// Where the parts of a file stand, in bytes from its start.
-#[derive(Drop)]
-struct Places {
-    natives: u32,
-    libraries: u32,
-    variables: u32,
-    tags: u32,
-    names: u32,
-    code: u32,
-    store: u32,
-    /// Where the data end, and with them the file.
-    heap: u32,
-    stack: u32,
+fn put_header(out: &mut Bytes, header: Header) -> Result<(), Memory>
+    ensures out { OnOk result (out.new ≡ out.old ++ header_bytes header) }
+    ensures flags { header.flags < 2 ^ 16 }
+    ensures entry { FitsSigned w32 header.cip }
+{
+    put_word(out, header.size)?;
+    put_half(out, header.magic)?;
+    out.append(&[header.file_version, header.version])?;
+    put_half(out, header.flags)?;
+    put_half(out, header.record_size)?;
+    put_words(
+        out,
+        &[
+            header.cod,
+            header.dat,
+            header.hea,
+            header.stp,
+            header.cip.cast_unsigned(),
+            header.publics,
+            header.natives,
+            header.libraries,
+            header.variables,
+            header.tags,
+            header.names,
+        ],
+    )
 }
 
 /// The bytes of a table.
@@ -115,79 +177,74 @@ fn names_size_of(records: &[Record]) -> u32
     size
 }
 
-impl Places {
-    fn of(amx: &Amx) -> Places
-        requires { IsWritable amx.now }
-        ensures { result ≡ places_of amx.now }
-    {
-        let natives = HEADER + table_size_of(amx.publics.as_slice());
-        let libraries = natives + table_size_of(amx.natives.as_slice());
-        let variables = libraries + table_size_of(amx.libraries.as_slice());
-        let tags = variables + table_size_of(amx.variables.as_slice());
-        let names = tags + table_size_of(amx.tags.as_slice());
-        let code = (names_end_of(amx, names) + 3) / 4 * 4;
-        let store = code + 4 * amx.code.len() as u32;
-        let heap = store + 4 * amx.store.len() as u32;
-        Places {
-            natives,
-            libraries,
-            variables,
-            tags,
-            names,
-            code,
-            store,
-            heap,
-            stack: heap + 4 * amx.room,
-        }
+/// Flags that say nothing of the file's form, with that of an encoding.
+fn flags_for(flags: u16, encoding: Encoding) -> u16
+    requires { flags / 2 % 4 ≡ 0 }
+    ensures { result ≡ flags + flag_of encoding }
+{
+    match encoding {
+        Encoding::Plain => flags,
+        Encoding::Compact => flags + COMPACT,
+    }
+}
+
+/// The header of a file whose code and data take so many bytes.
+fn header_for(publics: &[Record], amx: &Amx, encoding: Encoding, row: u32) -> Header
+    requires writable { IsWritable (with_publics amx.now publics.now) }
+    requires row { row ≤ 5 * cells_of amx.now }
+    ensures { result ≡ layout_header encoding (with_publics amx.now publics.now) row }
+{
+    let natives = HEADER + table_size_of(publics);
+    let libraries = natives + table_size_of(amx.natives.as_slice());
+    let variables = libraries + table_size_of(amx.libraries.as_slice());
+    let tags = variables + table_size_of(amx.variables.as_slice());
+    let names = tags + table_size_of(amx.tags.as_slice());
+    let cod = (names_end_of(publics, amx, names) + 3) / 4 * 4;
+    let dat = cod + 4 * amx.code.len() as u32;
+    let hea = dat + 4 * amx.store.len() as u32;
+    Header {
+        size: cod + row,
+        magic: MAGIC,
+        file_version: FILE_VERSION,
+        version: amx.version,
+        flags: flags_for(amx.flags, encoding),
+        record_size: RECORD,
+        cod,
+        dat,
+        hea,
+        stp: hea + 4 * amx.room,
+        cip: amx.entry,
+        publics: HEADER,
+        natives,
+        libraries,
+        variables,
+        tags,
+        names,
     }
 }
 
 /// Where the names end.
-fn names_end_of(amx: &Amx, first: u32) -> u32
-    requires { first + 2 + over_tables names_size amx.now < 2 ^ 31 }
-    ensures { result ≡ first + 2 + over_tables names_size amx.now }
+fn names_end_of(publics: &[Record], amx: &Amx, first: u32) -> u32
+    requires { first + 2 + over_tables names_size (with_publics amx.now publics.now) < 2 ^ 31 }
+    ensures { result ≡ first + 2 + over_tables names_size (with_publics amx.now publics.now) }
 {
     first
         + 2
-        + names_size_of(amx.publics.as_slice())
+        + names_size_of(publics)
         + names_size_of(amx.natives.as_slice())
         + names_size_of(amx.libraries.as_slice())
         + names_size_of(amx.variables.as_slice())
         + names_size_of(amx.tags.as_slice())
 }
 
-fn put_header(out: &mut Bytes, amx: &Amx, places: &Places) -> Result<(), Memory>
-    requires { places.now ≡ places_of amx.now }
-    ensures out { OnOk result (out.new ≡ out.old ++ header amx.now) }
-    ensures fits { OnOk result (HeaderFits amx.now) }
-{
-    put_word(out, places.heap)?;
-    put_half(out, MAGIC)?;
-    out.append(&[FILE_VERSION, amx.version])?;
-    put_half(out, amx.flags)?;
-    put_half(out, RECORD)?;
-    put_words(out, &[places.code, places.store, places.heap, places.stack])?;
-    put_word(out, amx.entry.cast_unsigned())?;
-    put_words(
-        out,
-        &[
-            HEADER,
-            places.natives,
-            places.libraries,
-            places.variables,
-            places.tags,
-            places.names,
-        ],
-    )
-}
-
 /// The five tables, whose names begin at a place.
-fn put_tables(out: &mut Bytes, amx: &Amx, first: u32) -> Result<(), Memory>
-    requires { first + over_tables names_size amx.now < 2 ^ 31 }
-    ensures out { OnOk result (out.new ≡ out.old ++ tables first amx.now) }
-    ensures fits { OnOk result (TablesFit amx.now) }
+fn put_tables(out: &mut Bytes, publics: &[Record], amx: &Amx, first: u32) -> Result<(), Memory>
+    requires { first + over_tables names_size (with_publics amx.now publics.now) < 2 ^ 31 }
+    ensures out { OnOk result (out.new ≡ out.old
+        ++ table first (all_records (with_publics amx.now publics.now))) }
+    ensures fits { OnOk result (AddressesFit (all_records (with_publics amx.now publics.now))) }
 {
-    let natives = put_table(out, amx.publics.as_slice(), first)?;
+    let natives = put_table(out, publics, first)?;
     let libraries = put_table(out, amx.natives.as_slice(), natives)?;
     let variables = put_table(out, amx.libraries.as_slice(), libraries)?;
     let tags = put_table(out, amx.variables.as_slice(), variables)?;
@@ -195,40 +252,47 @@ fn put_tables(out: &mut Bytes, amx: &Amx, first: u32) -> Result<(), Memory>
     Ok(())
 }
 
-/// The greatest length of a name, then the names of all tables.
-fn put_name_table(out: &mut Bytes, amx: &Amx) -> Result<(), Memory>
-    ensures { OnOk result (out.new ≡ out.old ++ name_table amx.now) }
+/// The names of all tables.
+fn put_all_names(out: &mut Bytes, publics: &[Record], amx: &Amx) -> Result<(), Memory>
+    ensures { OnOk result (out.new ≡ out.old
+        ++ names (all_records (with_publics amx.now publics.now))) }
 {
-    out.append(&[NAME_LENGTH, 0])?;
-    put_names(out, amx.publics.as_slice())?;
+    put_names(out, publics)?;
     put_names(out, amx.natives.as_slice())?;
     put_names(out, amx.libraries.as_slice())?;
     put_names(out, amx.variables.as_slice())?;
-    put_names(out, amx.tags.as_slice())
+    put_names(out, amx.tags.as_slice())?;
+    Ok(())
 }
 
-fn write_layout(alloc: Global, amx: &Amx) -> Result<Bytes, Memory>
-    requires { IsWritable amx.now }
-    ensures bytes { IfOk result (λ bytes. bytes ≡ layout amx.now) }
-    ensures ranges { OnOk result (HasRanges amx.now) }
+fn write_layout(
+    alloc: Global,
+    publics: &[Record],
+    amx: &Amx,
+    encoding: Encoding,
+) -> Result<Bytes, Memory>
+    requires { IsWritable (with_publics amx.now publics.now) }
+    ensures layout { IfOk result (IsLayout encoding (with_publics amx.now publics.now)) }
+    ensures ranges { OnOk result (HasRanges (with_publics amx.now publics.now)) }
 {
-    let places = Places::of(amx);
-    let names_end = names_end_of(amx, places.names);
+    let row = row_of(alloc, amx, encoding)?;
+    let header = header_for(publics, amx, encoding, row.len() as u32);
+    let names_end = names_end_of(publics, amx, header.names);
     let mut out = Bytes::new(alloc);
-    put_header(&mut out, amx, &places)?;
-    put_tables(&mut out, amx, places.names + 2)?;
-    put_name_table(&mut out, amx)?;
-    put_zeros(&mut out, places.code - names_end)?;
-    put_cells(&mut out, amx.code.as_slice())?;
-    put_cells(&mut out, amx.store.as_slice())?;
+    put_header(&mut out, header)?;
+    put_tables(&mut out, publics, amx, header.names + 2)?;
+    put_half(&mut out, NAME_LENGTH)?;
+    put_all_names(&mut out, publics, amx)?;
+    put_zeros(&mut out, header.cod - names_end)?;
+    out.append(row.as_slice())?;
     Ok(out)
 }
 
-/// The bytes of a file with plain cells (Implementer's Guide, "File format").
-#[tactic(auto, using(crate::proofs::FileLaws::layout_is_file))]
-pub fn write(alloc: Global, amx: &Amx) -> Result<Bytes, Memory>
-    requires { IsWritable amx.now }
-    ensures { IfOk result (λ bytes. IsFile bytes amx.now) }
+/// The bytes of a file (Implementer's Guide, "File format"), whose publics are sorted by name.
+pub fn write(alloc: Global, amx: &Amx, encoding: Encoding) -> Result<Bytes, Memory>
+    requires { IsWritableSorted amx.now }
+    ensures { IfOk result (IsWritten encoding amx.now) }
 {
-    write_layout(alloc, amx)
+    let publics = sorted(alloc, amx.publics.as_slice())?;
+    write_layout(alloc, publics.as_slice(), amx, encoding)
 }

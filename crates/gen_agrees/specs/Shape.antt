@@ -2,6 +2,7 @@
 use Rattle.std.specs.Prelude.{◌≡◌, ◌≢◌, ◌+◌, ◌≤◌, ℕ, ℤ, pos, negsuc, List, [], ◌∷◌, Option, None, Some, IfSome, length, map}
 use Rattle.pawn_cells.specs.Cells.{cell_of}
 use Rattle.pawn_program.specs.Program.{Program, Public, Tag}
+use Rattle.pawn_meaning.specs.declared.limits.TheConstants.{DATA_LIMIT}
 use Rattle.pawn_meaning.specs.Weight.{weight}
 use Rattle.amx_ops.specs.declared.op.Op.TheVariants.{Halt}
 use Rattle.amx_ops.specs.declared.amx.Amx.{Amx}
@@ -46,5 +47,5 @@ pub record HasShape (program : Program) (amx : Amx) : Type 0 where
   pub entry : HasEntry program.entry amx.entry
   pub room : pos amx.room ≡ program.dynamic
   pub code : length amx.code ≤ weight program + 2
-  pub store : length amx.store ≤ 4194304
+  pub store : length amx.store ≤ DATA_LIMIT
   pub last_is_no_sleep : IfSome (last_of (placed amx.code)) (λ it. ¬ IsSleep it.instr)

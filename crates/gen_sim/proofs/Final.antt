@@ -1,6 +1,6 @@
 -- From the simulation to the four parts of agreement. Nothing here knows of trees or instructions:
 -- it takes a simulation for each bound on turns, and how the meanings for two bounds are related.
-use Rattle.std.proofs.Common.{◌≡◌, ◌≢◌, ◌⊎◌, inl, inr, ◌+◌, ◌*◌, ◌<◌, ◌≤◌, ℕ, pos, true, false, List, ◌++◌, Some, length, slice_get, refl, sym, ap, subst, ◌∙◌, arith, mul-le-mul_left, length-append}
+use Rattle.std.proofs.Common.{◌≡◌, ◌≢◌, ◌⊎◌, inl, inr, ◌+◌, ◌*◌, ◌<◌, ◌≤◌, ℕ, pos, false, List, ◌++◌, Some, length, slice_get, refl, sym, ap, subst, ◌∙◌, arith, mul-le-mul_left, length-append}
 use Rattle.std.proofs.lemmas.List.{map-append, length-map}
 use Rattle.host_script.specs.declared.event.Event.{Event}
 use Rattle.host_script.specs.declared.event.End.{End}
@@ -9,15 +9,14 @@ use Rattle.pawn_program.specs.Program.{Program}
 use Rattle.pawn_meaning.specs.World.{Entry, World, first_world}
 use Rattle.pawn_meaning.specs.Run.{Outcome, Gives, Stops, More}
 use Rattle.pawn_meaning.specs.Told.{Ended, Told, told_of, events_of}
-use Rattle.pawn_meaning.specs.Extends.{Rises}
-use Rattle.pawn_meaning.proofs.Grows.{Later, world_of, world_later, same_later}
-use Rattle.pawn_meaning.proofs.Monotone.{Below, bump}
+use Rattle.pawn_meaning.specs.Later.{Later, world_of, Below}
+use Rattle.pawn_meaning.proofs.RunLaws.{runs_grow_lem}
 use Rattle.amx_ops.specs.Runs.{Moved, iterate, Stop, Steps, Asleep, Over_by, Traced}
 use Rattle.amx_ops.specs.Moves.{Config}
 use Rattle.amx_ops.specs.Cuts.{Leads, Enough, IsCut}
-use Rattle.gen_agrees.specs.AgreesOn.{IsPrefix, Mark, marks, is_cut, Is, IsLost, IsShort, Shows, ShowsUpToStray, AgreesOn}
+use Rattle.gen_agrees.specs.AgreesOn.{IsPrefix, Mark, marks, Is, IsLost, IsShort, Shows, ShowsUpToStray, AgreesOn}
 use Rattle.gen_sim.proofs.Fronts.{same_prefix, prefix_on, finished}
-use Rattle.gen_sim.proofs.Marks.{marked, mark_last, mark_above, next_mark}
+use Rattle.gen_sim.proofs.Outcomes.{entries_are, next_on_way, cut_is_last, more_is_above}
 use Rattle.gen_sim.proofs.Iterations.{over_end, over_config, over_past, both_over, over_front, on_front, running_over}
 use Rattle.gen_sim.specs.Does.{nothing, Running, Closed, how_of, Short, Reach, Does, Then}
 use Rattle.gen_sim.proofs.Orders.{either}
@@ -150,7 +149,7 @@ module _ (mv : Config → Moved Config End) (cells room : ℕ) (start : Config)
         | inr after ↦
             ahead_of m Steps x r.config w not_over
             (over_front mv start front r.steps T e r.config x r.by leads after) r.said
-            (rw is (same_later w))
+            (rw is (runs_grow_lem.same w))
       ]
   closed_verdict m T Asleep x e w is leads r =
       elim (either r.steps T) [
@@ -158,7 +157,7 @@ module _ (mv : Config → Moved Config End) (cells room : ℕ) (start : Config)
         | inr after ↦
             ahead_of m Asleep x r.config w not_over'
             (over_front mv start front r.steps T e r.config x r.by leads after) r.said
-            (rw is (same_later w))
+            (rw is (runs_grow_lem.same w))
       ]
 
   stray_verdict : (m T : ℕ) (stop : Stop End) (x : Config) (w : World) → outs m ≡ Stops Stray w
@@ -183,7 +182,7 @@ module _ (mv : Config → Moved Config End) (cells room : ℕ) (start : Config)
         | inr after ↦
             ahead_of m Steps x r.config w not_over
             (on_front mv start front T r.steps x r.config leads r.by
-            (omega (arith, after))) r.said (rw is (same_later w))
+            (omega (arith, after))) r.said (rw is (runs_grow_lem.same w))
       ]
   stray_verdict m T Asleep x w is leads r =
       elim (either r.steps T) [
@@ -197,7 +196,7 @@ module _ (mv : Config → Moved Config End) (cells room : ℕ) (start : Config)
         | inr after ↦
             ahead_of m Asleep x r.config w not_over'
             (on_front mv start front T r.steps x r.config leads r.by
-            (omega (arith, after))) r.said (rw is (same_later w))
+            (omega (arith, after))) r.said (rw is (runs_grow_lem.same w))
       ]
 
   -- the bound on turns, which took more steps than the trace did
@@ -214,11 +213,11 @@ module _ (mv : Config → Moved Config End) (cells room : ℕ) (start : Config)
   more_verdict m T Steps x w is h leads r =
       ahead_of m Steps x r.config w not_over
       (on_front mv start front T r.steps x r.config leads r.by
-      (omega (arith, h, r.least))) r.said (rw is (same_later w))
+      (omega (arith, h, r.least))) r.said (rw is (runs_grow_lem.same w))
   more_verdict m T Asleep x w is h leads r =
       ahead_of m Asleep x r.config w not_over'
       (on_front mv start front T r.steps x r.config leads r.by
-      (omega (arith, h, r.least))) r.said (rw is (same_later w))
+      (omega (arith, h, r.least))) r.said (rw is (runs_grow_lem.same w))
 
   stops_verdict : (m T : ℕ) (stop : Stop End) (x : Config) (e : End) (w : World)
       → outs m ≡ Stops e w → Leads mv T start stop x
@@ -252,18 +251,6 @@ module _ (mv : Config → Moved Config End) (cells room : ℕ) (start : Config)
 
   told_is : (m : ℕ) (e : End) (w : World) → outs m ≡ Stops e w → (means m).last ≡ Ended e
   told_is m e w is = ap (λ o. (told_of o).last) is
-
-  entries_are : (o : Outcome ⊥) → (told_of o).entries ≡ (world_of o).entries
-  entries_are (Gives a w) = elim a [ ]
-  entries_are (Stops e w) = refl
-  entries_are (More w) = refl
-
-  -- the rest of a world that lies on the way to an outcome
-  rises_to : (w : World) (o : Outcome ⊥) (l : Later w (world_of o))
-      → Rises w.turns w.peak l.new (told_of o).turns (told_of o).peak
-  rises_to w (Gives a x) l = elim a [ ]
-  rises_to w (Stops e x) l = l.rises
-  rises_to w (More x) l = l.rises
 
   events_by : (m : ℕ) → events_of (means m).entries ≡ events_of (world_of (outs m)).entries
   events_by m = ap events_of (entries_are (outs m))
@@ -331,13 +318,7 @@ module _ (mv : Config → Moved Config End) (cells room : ℕ) (start : Config)
       → x.events ≡ events_of w.entries
       → IsShort means (length x.events) room
   deep_mark m x w l deep shown =
-      let last : Mark =
-      record {
-        turns = (means m).turns;
-        peak = (means m).peak;
-        is_cut = is_cut (means m).last;
-      } in
-      let n = next_mark w.entries l.new w.turns w.peak last (rises_to w (outs m) l) in
+      let n = next_on_way (outs m) w l in
       let count : length x.events ≡ length w.entries = ap length shown ∙ count_of_events w in
       record {
         limit = m;
@@ -378,7 +359,7 @@ module _ (mv : Config → Moved Config End) (cells room : ℕ) (start : Config)
             absurd (over_past mv start r.steps T (Error (pos 3)) r.config x r.by leads before)
         | inr after ↦
             inr (few_steps r.steps short.at.turns t bound T r.most
-            (omega (arith, world_later short.at w short.later, bel.0, h)) b after)
+            (omega (arith, runs_grow_lem.turns short.at w short.later, bel.0, h)) b after)
       ]
   steps_with q t bound T x (Stops (Done v) w) is h b leads (inr r) bel never =
       elim (either r.steps T) [
@@ -419,7 +400,7 @@ module _ (mv : Config → Moved Config End) (cells room : ℕ) (start : Config)
             absurd (over_past mv start r.steps T (Error (pos 3)) r.config x r.by leads before)
         | inr after ↦
             inr (few_steps r.steps short.at.turns t bound T r.most
-            (omega (arith, world_later short.at w short.later, bel.0, h)) b after)
+            (omega (arith, runs_grow_lem.turns short.at w short.later, bel.0, h)) b after)
       ]
   steps_with q t bound T x (More w) is h b leads (inr r) bel never =
       elim (either r.steps T) [
@@ -434,43 +415,6 @@ module _ (mv : Config → Moved Config End) (cells room : ℕ) (start : Config)
         | inr after ↦
             inr (few_steps r.steps w.turns t bound T r.most (omega (arith, bel.0, h)) b after)
       ]
-
-  last_mark : Outcome ⊥ → Mark
-  last_mark o =
-      record {
-        turns = (told_of o).turns;
-        peak = (told_of o).peak;
-        is_cut = is_cut (told_of o).last;
-      }
-
-  -- behind the entries of a meaning that was cut stands the cut
-  cut_is_last : (o : Outcome ⊥) (n : ℕ) (mark : Mark) (w : World) → o ≡ More w
-      → slice_get (marks (told_of o)) n ≡ Some mark → mark.is_cut ≡ false → length w.entries ≤ n → ⊥
-  cut_is_last o n mark w is e never h =
-      let f : slice_get (marks (told_of (More w))) n ≡ Some mark =
-      subst (λ x. slice_get (marks (told_of x)) n ≡ Some mark) is e in
-      let same =
-      ap (λ (k : Mark). k.is_cut) (mark_last w.entries
-      (record { turns = w.turns; peak = w.peak; is_cut = true }) n mark f h) in
-      clash (sym same ∙ never)
-    where
-      clash : true ≡ false → ⊥
-      clash e = cc
-
-  -- and behind what was cut before, more turns
-  more_is_above : (o : Outcome ⊥) (n : ℕ) (mark : Mark) (w : World) → Later (bump w) (world_of o)
-      → slice_get (marks (told_of o)) n ≡ Some mark → length w.entries ≤ n
-      → w.turns + 1 ≤ mark.turns
-  more_is_above o n mark w l e h =
-      let last : Mark =
-      record {
-        turns = (told_of o).turns;
-        peak = (told_of o).peak;
-        is_cut = is_cut (told_of o).last;
-      } in
-      let f : slice_get (marked (w.entries ++ l.new) last) n ≡ Some mark =
-      subst (λ es. slice_get (marked es last) n ≡ Some mark) (entries_are o ∙ l.entries) e in
-      mark_above w.entries l.new (w.turns + 1) w.peak last n mark (rises_to (bump w) o l) f h
 
   no_more : (q m n : ℕ) (mark : Mark) (w : World) (h : q ≤ m) → Below q m h (More w) (outs m)
       → mark.turns ≤ q → slice_get (marks (means m)) n ≡ Some mark

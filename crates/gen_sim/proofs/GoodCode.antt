@@ -1,11 +1,10 @@
 -- Code without jumps and case tables, each of whose operands is proper, has no fault.
-use Rattle.std.proofs.Common.{◌≡◌, ◌+◌, ◌*◌, ℕ, ℤ, List, [], ◌∷◌, ◌++◌, Bool, Option, None, Some, drop, length, sum_by, refl, sym, ap, ◌∙◌, arith, length-append}
+use Rattle.std.proofs.Common.{◌≡◌, ◌+◌, ◌*◌, ℕ, ℤ, List, [], ◌∷◌, ◌++◌, Bool, None, drop, length, refl, ap, ◌∙◌, arith, length-append}
 use Rattle.std.proofs.lemmas.List.Sums.{sum_by-cons}
 use Rattle.std.proofs.lemmas.List.{drop_all}
-use Rattle.amx_ops.specs.declared.table.Operand.{Operand}
-use Rattle.amx_ops.specs.Table.{row_of, number_of, operand_of}
-use Rattle.amx_ops.specs.Instructions.{Instruction, instr, instr_by, cells, Placed, placed_from, cells_in}
-use Rattle.amx_ops.specs.Valid.{Fault, operand_fault, row_fault, proper, broken, link_fault, linked_by, linked, first_of, or_else, piece_fault}
+use Rattle.amx_ops.specs.Table.{row_of, operand_of}
+use Rattle.amx_ops.specs.Instructions.{Instruction, instr, cells, Placed, cells_in}
+use Rattle.amx_ops.specs.Valid.{operand_fault, row_fault, proper, broken, link_fault, linked_by, linked, first_of, or_else, piece_fault}
 use Rattle.amx_ops.proofs.Rows.{has_row, size_is, number_is}
 use Rattle.gen_sim.specs.Cells.{cells_of}
 use Rattle.gen_sim.proofs.Lie.{next, placed_at, placed_all, placed_is, ArePlain}

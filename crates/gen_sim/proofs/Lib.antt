@@ -7,6 +7,7 @@ pub mod Lie
 pub mod Marks
 pub mod Natives
 pub mod Orders
+pub mod Outcomes
 pub mod Sim
 pub mod Stands
 pub mod Start

@@ -1,11 +1,12 @@
 -- How what a machine does for one run goes on to the next.
-use Rattle.std.proofs.Common.{◌≡◌, ◌+◌, ◌*◌, ◌<◌, ◌≤◌, ◌⊎◌, inl, inr, ℕ, pos, refl, ap, subst, ◌∙◌, arith}
+use Rattle.std.proofs.Common.{◌≡◌, ◌+◌, ◌<◌, ◌≤◌, inl, inr, ℕ, pos, refl, ap, subst, ◌∙◌, arith}
 use Rattle.host_script.specs.declared.event.End.{End}
 use Rattle.host_script.specs.declared.event.End.TheVariants.{Error}
 use Rattle.pawn_meaning.specs.World.{World}
 use Rattle.pawn_meaning.specs.Run.{Outcome, Gives, Stops, More, Run, then_do}
 use Rattle.pawn_meaning.specs.Told.{events_of}
-use Rattle.pawn_meaning.proofs.Grows.{Later, world_of, later_on, same_later}
+use Rattle.pawn_meaning.specs.Later.{Later, world_of}
+use Rattle.pawn_meaning.proofs.RunLaws.{runs_grow_lem}
 use Rattle.amx_ops.specs.Runs.{Moved, Goes, Ends, iterate}
 use Rattle.amx_ops.specs.Moves.{Config}
 use Rattle.amx_ops.proofs.RunLaws.{iterate-goes, iterate-ends}
@@ -81,7 +82,7 @@ module _ (mv : Config → Moved Config End) (cells room : ℕ) where
   grown_short h l short =
       record {
         at = short.at;
-        later = later_on short.later l;
+        later = runs_grow_lem.on _ _ _ short.later l;
         deep = short.deep;
         reach = grown h short.reach;
       }
@@ -140,10 +141,10 @@ module _ (mv : Config → Moved Config End) (cells room : ℕ) where
       short_then (go a w) (grown_short (omega arith) (grow a w) short)
   in_turn_by c d u s (Gives a w) go P Q grow (inr r) next = reach_then r (next a w r.config r.holds)
   in_turn_by c d u s (Stops e w) go P Q grow (inl short) next =
-      short_then (Stops e w) (grown_short (omega arith) (same_later w) short)
+      short_then (Stops e w) (grown_short (omega arith) (runs_grow_lem.same w) short)
   in_turn_by c d u s (Stops e w) go P Q grow (inr r) next = stops (grown (omega arith) r)
   in_turn_by c d u s (More w) go P Q grow (inl short) next =
-      short_then (More w) (grown_short (omega arith) (same_later w) short)
+      short_then (More w) (grown_short (omega arith) (runs_grow_lem.same w) short)
   in_turn_by c d u s (More w) go P Q grow (inr r) next =
       record { does = inr (grown (omega arith) r) }
 
@@ -193,18 +194,18 @@ module _ (mv : Config → Moved Config End) (cells room : ℕ) where
       → Does mv cells room (c + d) u s o Q
   after_it {c = c} {d = d} {u = u} {s = s} o P {Q = Q} first next =
       subst (λ x. Does mv cells room (c + d) u s x Q) (then_give o)
-      (in_turn o (λ a w. Gives a w) P (λ a w. same_later w) first next)
+      (in_turn o (λ a w. Gives a w) P (λ a w. runs_grow_lem.same w) first next)
 
   wider_by : {A : Type 0} (c d u : ℕ) (s : Config) (o : Outcome A)
       (Q : A → World → Config → Type 0) → c ≤ d → Then mv cells room c u s o Q → Does mv cells room d u s o Q
   wider_by c d u s (Gives a x) Q h (inl short) =
-      short_then (Gives a x) (grown_short h (same_later x) short)
+      short_then (Gives a x) (grown_short h (runs_grow_lem.same x) short)
   wider_by c d u s (Gives a x) Q h (inr r) = gives (grown h r)
   wider_by c d u s (Stops e x) Q h (inl short) =
-      short_then (Stops e x) (grown_short h (same_later x) short)
+      short_then (Stops e x) (grown_short h (runs_grow_lem.same x) short)
   wider_by c d u s (Stops e x) Q h (inr r) = stops (grown h r)
   wider_by c d u s (More x) Q h (inl short) =
-      short_then (More x) (grown_short h (same_later x) short)
+      short_then (More x) (grown_short h (runs_grow_lem.same x) short)
   wider_by c d u s (More x) Q h (inr r) = record { does = inr (grown h r) }
 
   pub wider : {A : Type 0} {c d u : ℕ} {s : Config} {o : Outcome A} {Q : A → World → Config

@@ -1,11 +1,11 @@
 -- A file without data at its start: with room for the two cells, or without.
-use Rattle.std.proofs.Common.{◌≡◌, ◌+◌, ◌-◌, ◌*◌, ◌/◌, ◌<◌, ◌≤◌, inl, inr, ℕ, zero, suc, ℤ, pos, List, [], ◌∷◌, Option, None, Some, Bool, true, false, drop, length, replicate, nat_le, slice_set, refl, sym, ap, ◌∙◌, arith, le-leb, length-set}
+use Rattle.std.proofs.Common.{◌≡◌, ◌+◌, ◌-◌, ◌/◌, ◌<◌, ◌≤◌, ℕ, ℤ, pos, [], ◌∷◌, None, Some, Bool, true, false, drop, length, replicate, nat_le, refl, ap, ◌∙◌, arith, le-leb, length-set}
 use Rattle.std.proofs.lemmas.Bool.{lt-leb}
 use Rattle.std.proofs.lemmas.List.{drop-replicate, length-replicate}
 use Rattle.pawn_cells.specs.Cells.{bits_of}
 use Rattle.amx_ops.specs.declared.amx.Amx.{Amx}
 use Rattle.amx_ops.specs.State.{State}
-use Rattle.amx_ops.specs.Trace.{loaded, fresh, pushed_by, start_at}
+use Rattle.amx_ops.specs.Trace.{loaded, fresh, start_at}
 use Rattle.gen_sim.proofs.Stands.{Mem, pushed_on, pushed_mem}
 
 module _ (amx : Amx) (room : ℕ) (address : ℤ) (empty : amx.store ≡ []) where

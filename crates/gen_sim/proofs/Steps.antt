@@ -6,7 +6,7 @@ use Rattle.host_script.specs.declared.event.End.TheVariants.{Done, Exit}
 use Rattle.pawn_cells.specs.Cells.{bits_of, cell_of}
 use Rattle.pawn_meaning.specs.World.{World}
 use Rattle.pawn_meaning.specs.Run.{Outcome}
-use Rattle.pawn_meaning.proofs.Grows.{Later, world_of}
+use Rattle.pawn_meaning.specs.Later.{Later, world_of}
 use Rattle.amx_ops.specs.declared.amx.Amx.{Amx}
 use Rattle.amx_ops.specs.Instructions.{instr, fetched, is_start}
 use Rattle.amx_ops.specs.State.{State, Turned, Goes, stp, pop, with_margin}

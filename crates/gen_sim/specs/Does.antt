@@ -6,7 +6,7 @@ use Rattle.host_script.specs.declared.event.End.TheVariants.{Done, Exit, Error, 
 use Rattle.pawn_meaning.specs.World.{World}
 use Rattle.pawn_meaning.specs.Run.{Outcome, Gives, Stops, More}
 use Rattle.pawn_meaning.specs.Told.{events_of}
-use Rattle.pawn_meaning.proofs.Grows.{Later}
+use Rattle.pawn_meaning.specs.Later.{Later}
 use Rattle.amx_ops.specs.Runs.{Moved, Finish, Over, iterate}
 use Rattle.amx_ops.specs.Moves.{Config}
 

@@ -9,7 +9,7 @@ use Rattle.amx_ops.specs.declared.amx.Amx.{Amx}
 use Rattle.gen_agrees.specs.Agrees.{Agrees}
 use Rattle.gen_straight.specs.Code.{file_of}
 use Rattle.gen_straight.specs.Straight.{IsConstant, IsStraightCall, IsStraightStmt, AreStraight, main_of, IsStraight}
-use Rattle.gen_straight.proofs.Main.{straight_programs_agree_lem}
+use Rattle.gen_straight.proofs.Main.{straight_programs_agree}
 use Rattle.gen_straight.specs.Fits.{FitsExpr, FitsStmt, FitStmts, FitsFunction, FitsProgram}
 
 counted : (args : Args) → 40 * count_of args ≤ args_weight never args
@@ -72,4 +72,4 @@ program_fits program straight =
 pub agrees_as : (program : Program) (amx : Amx) → IsStraight program → amx ≡ file_of program
     → Agrees program amx
 agrees_as program amx straight is = subst (Agrees program) (sym is)
-    (straight_programs_agree_lem program straight)
+    (straight_programs_agree program straight)

@@ -1,10 +1,10 @@
+pub mod EmitLaws
 pub mod Examples
+pub mod FitsLaws
 pub mod Main
-pub mod Plain
 pub mod PlainCode
 pub mod Shape
 pub mod Statements
+pub mod StraightCodeLaws
 pub mod ValidLaws
 pub mod Whole
-pub mod EmitLaws
-pub mod FitsLaws

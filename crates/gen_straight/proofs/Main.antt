@@ -1,6 +1,5 @@
 -- The theorem on the file of a straight program.
-use Rattle.std.proofs.Common.{◌≡◌, inl, inr, ◌<◌, ◌≤◌, ℕ, ℤ, pos, true, false, List, [], ◌∷◌, Option, Some, None, negsuc, if◌then◌else◌, length, slice_get, option_map, nat_le, refl, sym, ap, subst, ◌∙◌, arith, le-leb}
-use Rattle.std.proofs.lemmas.Bool.{lt-leb}
+use Rattle.std.proofs.Common.{◌≡◌, inl, inr, ◌<◌, ◌≤◌, ℕ, ℤ, pos, List, [], ◌∷◌, Option, Some, None, negsuc, if◌then◌else◌, length, slice_get, option_map, refl, sym, ap, subst, ◌∙◌, arith}
 use Rattle.host_script.specs.declared.script.Script.{Script}
 use Rattle.host_script.specs.declared.event.End.{End}
 use Rattle.host_script.specs.declared.event.End.TheVariants.{Error}
@@ -8,7 +7,7 @@ use Rattle.pawn_program.specs.Program.{Program, Public}
 use Rattle.pawn_meaning.specs.Run.{Outcome}
 use Rattle.pawn_meaning.specs.World.{Entry}
 use Rattle.pawn_meaning.specs.Told.{meaning, events_of, scene_of, whole}
-use Rattle.pawn_meaning.proofs.Monotone.{whole_below, whole_grows}
+use Rattle.pawn_meaning.proofs.RunLaws.{runs_extend_lem, runs_grow_lem}
 use Rattle.amx_ops.specs.Runs.{Traced, Steps, Over_by, joined}
 use Rattle.amx_ops.specs.Moves.{Config, move}
 use Rattle.pawn_cells.specs.Cells.{equal}
@@ -17,11 +16,10 @@ use Rattle.amx_ops.specs.Trace.{Main, address_of, loaded, begun, trace_by, trace
 use Rattle.gen_sim.proofs.Start.{Started, starts, fails}
 use Rattle.amx_ops.specs.Trace as trace
 use Rattle.amx_ops.proofs.CutLaws.{joined_cut}
-use Rattle.gen_agrees.specs.Agrees.{function_of}
+use Rattle.gen_agrees.specs.Agrees.{Agrees, function_of}
 use Rattle.gen_agrees.specs.AgreesOn.{Meanings, Mark, is_cut, AgreesOn}
 use Rattle.gen_straight.specs.Straight.{IsStraight}
 use Rattle.gen_straight.specs.Code.{main_code, entry_of, program_code, file_of}
-use Rattle.gen_straight.specs.Theorems.{StraightProgramsAgree}
 use Rattle.gen_sim.proofs.Sim.{wider}
 use Rattle.gen_sim.proofs.Orders.{either}
 use Rattle.gen_sim.proofs.Fronts.{said_more}
@@ -101,8 +99,8 @@ module _ (program : Program) (straight : IsStraight program) (script : Script) (
       program outs
       (λ m. wider (move (file_of program) script) size room instructions
       (whole_does program straight script m size room st))
-      (λ t m least. whole_below t m least program script 0)
-      (λ m. whole_grows m m (omega arith) program script 0)
+      (λ t m least. runs_extend_lem t m least program script 0)
+      (λ m. runs_grow_lem.programs program script m 0)
       (bound ∷ bounds)
       (joined (move (file_of program) script) bound bounds (begun st.state))
       (joined_cut (move (file_of program) script) bound bounds (begun st.state))
@@ -151,8 +149,9 @@ runs_by program straight script room (trace.Public n) f address bound bounds e a
     elim (none_is f (subst (λ ps. option_map (λ (it : Public). it.function) (slice_get ps n) ≡ Some f)
     straight.publics e)) [ ]
 
-pub straight_programs_agree_lem : StraightProgramsAgree
-straight_programs_agree_lem program straight = record {
+-- the file of a straight program agrees with it
+pub straight_programs_agree : (program : Program) → IsStraight program → Agrees program (file_of program)
+straight_programs_agree program straight = record {
   shape = has_shape program straight;
   runs = λ script room entry f address bound bounds keeps serves within e a.
       runs_by program straight script room entry f address bound bounds e a;

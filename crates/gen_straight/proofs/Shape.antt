@@ -1,8 +1,8 @@
 -- The file of a straight program has the program's shape.
-use Rattle.std.proofs.Common.{◌≡◌, ◌+◌, ◌*◌, ◌%◌, ◌≤◌, ℕ, ℤ, pos, negsuc, List, [], ◌∷◌, ◌++◌, Some, None, Bool, true, All, map, length, sum_by, is_some, refl, sym, ap, subst, ◌∙◌, arith, length-append, append_assoc, nat_lt, lt-ltb, ◌==◌, eq-eqb, ◌<◌}
+use Rattle.std.proofs.Common.{◌≡◌, ◌+◌, ◌*◌, ◌%◌, ◌≤◌, ℕ, ℤ, pos, negsuc, List, [], ◌∷◌, ◌++◌, Some, None, Bool, true, map, length, sum_by, is_some, refl, sym, ap, subst, ◌∙◌, arith, length-append, append_assoc, nat_lt, lt-ltb, ◌==◌, eq-eqb, ◌<◌}
 use Rattle.std.proofs.lemmas.Grind.{flat_map-append}
 use Rattle.std.proofs.lemmas.List.Sums.{sum_by-cons}
-use Rattle.std.proofs.lemmas.List.Elements.{All-cons, All-nil, All-map}
+use Rattle.std.proofs.lemmas.List.Elements.{All-nil, All-map}
 use Rattle.std.proofs.lemmas.List.{length-map}
 use Rattle.pawn_program.specs.Program.{Expr, Const, Native, Args, no_args, then_arg, Stmt, Block, Do, Exit, Stmts, no_stmts, then_stmt, Program}
 use Rattle.pawn_program.specs.Program as node
@@ -10,7 +10,7 @@ use Rattle.pawn_meaning.specs.Need.{count_of}
 use Rattle.pawn_meaning.specs.Weight.{expr_weight, args_weight, stmt_weight, stmts_weight, function_weight, never, weight}
 use Rattle.amx_ops.specs.declared.op.Op.TheVariants as op
 use Rattle.amx_ops.specs.declared.amx.Record.{Record}
-use Rattle.amx_ops.specs.Instructions.{instr, Placed, placed, is_start}
+use Rattle.amx_ops.specs.Instructions.{placed, is_start}
 use Rattle.amx_ops.specs.Valid.{Entry, unless, or_else, main_fault, piece_fault, IsValid}
 use Rattle.amx_ops.proofs.Rows.{size_is, takes, acts_as}
 use Rattle.gen_sim.proofs.GoodCode.{IsGood, AreGood, good_on, piece_is_good}

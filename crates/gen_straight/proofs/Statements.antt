@@ -12,8 +12,9 @@ use Rattle.pawn_meaning.specs.Need.{count_of, load, stmt_load, stmts_load}
 use Rattle.pawn_meaning.specs.Calls.{Way, Through, Broke, Continued, Returned, pass}
 use Rattle.pawn_meaning.specs.Meaning as meaning
 use Rattle.pawn_meaning.specs.Meaning.{Scene, Fewer, value, arguments, run, run_all}
-use Rattle.pawn_meaning.proofs.Grows.{Later, world_of, same_later, Grows, after_grows, change_grows, native_grows, give_grows}
-use Rattle.pawn_meaning.proofs.Monotone.{run_all_up}
+use Rattle.pawn_meaning.specs.Later.{Later, world_of, Grows}
+use Rattle.pawn_meaning.proofs.RunLaws.{runs_grow_lem}
+use Rattle.pawn_meaning.proofs.Grows.{after_grows, change_grows, native_grows, give_grows}
 use Rattle.amx_ops.specs.declared.amx.Amx.{Amx}
 use Rattle.amx_ops.specs.Moves.{Config, move}
 use Rattle.amx_ops.specs.Moves as moves
@@ -85,9 +86,7 @@ module _ (program : Program) (script : Script) (limit : ℕ) (fewer : Fewer) whe
 
   module _ (grow : (s : Stmt) → Grows (fewer s)) where
     pub stmts_grow : (stmts : Stmts) → Grows (run_all scene fewer stmts)
-    stmts_grow stmts =
-        (run_all_up limit limit (omega arith) program script zero fewer fewer
-        (λ s. record { at = λ j e. absurd (omega (arith, e)); low = grow s; high = grow s }) stmts).low
+    stmts_grow stmts = (runs_grow_lem.nodes scene fewer grow).lists stmts
 
     pass_grows : (way : Way) (stmts : Stmts) → Grows (pass way (run_all scene fewer stmts))
     pass_grows Through stmts = stmts_grow stmts
@@ -180,7 +179,7 @@ module _ (program : Program) (script : Script) (limit : ℕ) (fewer : Fewer) whe
           (omega arith)
           (in_turn (move amx script) cells room (value scene fewer (Native n args) w)
           (λ v. give Through) (With room frm ns stack (past p (expr_code (Native n args))))
-          (λ v x. same_later x) (call_does n args p w c h.1 a lies deep)
+          (λ v x. runs_grow_lem.same x) (call_does n args p w c h.1 a lies deep)
           (λ v x t b. gives (move amx script) cells room
           (stays (move amx script) cells room t x b.stands.said
           (record { through = refl; stands = b.stands }))))

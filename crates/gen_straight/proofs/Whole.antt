@@ -1,6 +1,5 @@
 -- The file of a straight program does what the whole program means.
-use Rattle.std.proofs.Common.{◌≡◌, ◌+◌, ◌-◌, ◌≤◌, ℕ, zero, suc, ℤ, pos, List, [], ◌∷◌, ◌++◌, map, length, replicate, is_some, slice_get, unwrap_or, Some, refl, sym, ap, subst, ◌∙◌, arith, length-append, append-nil}
-use Rattle.std.proofs.lemmas.List.{drop-replicate, length-replicate}
+use Rattle.std.proofs.Common.{◌≡◌, ◌+◌, ℕ, zero, suc, ℤ, pos, List, [], ◌∷◌, map, length, is_some, slice_get, unwrap_or, Some, refl, sym, ap, subst, ◌∙◌, arith, length-append, append-nil}
 use Rattle.host_script.specs.declared.script.Script.{Script}
 use Rattle.host_script.specs.declared.event.End.{End}
 use Rattle.host_script.specs.declared.event.End.TheVariants as end
@@ -12,14 +11,14 @@ use Rattle.pawn_meaning.specs.Need.{need}
 use Rattle.pawn_meaning.specs.Calls.{Way, value_of, frame_of}
 use Rattle.pawn_meaning.specs.Meaning.{Scene, Fewer, run_all}
 use Rattle.pawn_meaning.specs.Told.{nested, scene_of, entry_or_stray, whole}
-use Rattle.pawn_meaning.proofs.Monotone.{nested_up}
-use Rattle.pawn_meaning.proofs.Grows.{Later, world_of, Grows, same_later, after_grows, give_grows, stop_grows, leave_grows}
+use Rattle.pawn_meaning.specs.Later.{Later, world_of, Grows}
+use Rattle.pawn_meaning.proofs.RunLaws.{runs_grow_lem}
+use Rattle.pawn_meaning.proofs.Grows.{after_grows, give_grows, stop_grows, leave_grows}
 use Rattle.amx_ops.specs.Runs.{Moved}
 use Rattle.amx_ops.specs.Moves.{Config, move}
 use Rattle.amx_ops.specs.Moves as moves
 use Rattle.amx_ops.specs.Trace.{begun}
 use Rattle.gen_straight.specs.Straight.{IsStraight, main_of, body_of}
-use Rattle.amx_ops.specs.Instructions.{Instruction}
 use Rattle.gen_straight.specs.Code.{main_code, stmts_code, program_code, file_of}
 use Rattle.gen_agrees.specs.Shape.{native_record}
 use Rattle.gen_sim.proofs.Start.{Started}
@@ -30,7 +29,7 @@ use Rattle.gen_sim.proofs.Sim.{stays, gives, stops, reach_after, in_turn, size_i
 use Rattle.gen_sim.proofs.Stands.{At}
 use Rattle.gen_sim.proofs.Steps.{zero_pri_does, done_does, proc_does, retn_does}
 use Rattle.gen_straight.proofs.Statements.{Passed, stmts_grow, stmts_does}
-use Rattle.gen_sim.specs.Cells.{begin_frame, clear_pri, end_frame, halt_with}
+use Rattle.gen_sim.specs.Cells.{clear_pri, end_frame}
 
 pub code_is : (program : Program) (straight : IsStraight program)
     → program_code program ≡ main_code straight.stmts
@@ -106,7 +105,7 @@ module _ (program : Program) (straight : IsStraight program) (script : Script)
   fewer = nested scene limit
 
   grow : (s : Stmt) → Grows (fewer s)
-  grow s = (nested_up limit limit (omega arith) program script limit limit (omega arith) s).low
+  grow s = runs_grow_lem.nestings scene limit s
 
   abbrev first_one : World
   first_one = entered (frame_of 0 main [] (Some (body_of stmts))) (first_world program)
@@ -164,10 +163,10 @@ module _ (program : Program) (straight : IsStraight program) (script : Script)
       (main_run program straight.tag stmts script limit) l (all_lie program straight).1.0 (omega arith)
       (λ f t a.
       in_turn mv cells room (then_do (then_do body go1) go2) go3
-      (λ v w x. Returns room f [] stack p v w x) (λ v w. same_later w)
+      (λ v w x. Returns room f [] stack p v w x) (λ v w. runs_grow_lem.same w)
       (in_turn mv cells room (then_do body go1) go2 (λ v w x. Returns room f live stack p v w x)
       (λ v w. (leave_grows).at w)
-      (in_turn mv cells room body go1 (Passed room f live stack p) (λ way w. same_later w)
+      (in_turn mv cells room body go1 (Passed room f live stack p) (λ way w. runs_grow_lem.same w)
       (stmts_does program script limit fewer grow (file_of program) cells room
       (names_are program.natives) f live stack stmts 12 first_one t straight.straight a
       (lies_first (file_of program).code 12 (stmts_code stmts) (clear_pri ∷ end_frame ∷ [])

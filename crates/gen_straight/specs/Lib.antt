@@ -1,4 +1,5 @@
 pub mod Code
 pub mod Fits
 pub mod Straight
+pub mod StraightCode
 pub mod Theorems

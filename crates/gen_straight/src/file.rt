@@ -2,9 +2,10 @@ ghost use Rattle.std.specs.Prelude.{◌≡◌, IfOk, map};
 ghost use Rattle.pawn_program.specs.Valid.{IsValid};
 ghost use Rattle.pawn_program.specs.View.{program_view};
 ghost use Rattle.gen_agrees.specs.Agrees.{Agrees};
-ghost use Rattle.gen_straight.specs.Code.{entry_of, room_of, file_of};
+ghost use Rattle.gen_straight.specs.Code.{entry_of, room_of};
 ghost use Rattle.gen_agrees.specs.Shape.{native_record};
 ghost use Rattle.gen_straight.specs.Straight.{IsStraight};
+ghost use Rattle.gen_straight.specs.StraightCode.{IsStraightCode};
 
 use super::emit::emit_program;
 use amx_ops::{Amx, Record};
@@ -12,12 +13,13 @@ use pawn_base::{Bytes, Cells, List, Memory};
 use pawn_program::Program;
 use std::alloc::Global;
 
-/// The file of a straight program: whatever it does is what the program means.
+/// The file of a straight program: whatever it does is what the program means. It has no other
+/// operations than nine (`IsStraightCode`), so a machine of these runs it.
 pub fn generate(alloc: Global, program: &Program) -> Result<Amx, Memory>
     requires valid { IsValid (program_view program.now) }
     requires straight { IsStraight (program_view program.now) }
     ensures agrees { IfOk result (λ amx. Agrees (program_view program.now) amx) }
-    ensures file { IfOk result (λ amx. amx ≡ file_of (program_view program.now)) }
+    ensures code { IfOk result (λ amx. IsStraightCode amx.code) }
 {
     Ok(Amx {
         flags: 0,

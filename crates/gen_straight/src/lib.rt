@@ -1,5 +1,5 @@
-//! The code of straight programs, and the proof that it does what they mean. The theorems are the
-//! contracts of functions without a body, and that of the generator.
+//! The file of a straight program, which does what the program means. The theorems are the contract
+//! of the generator, and those of functions without a body.
 #![tactic(auto)]
 
 mod emit;
@@ -7,4 +7,4 @@ mod file;
 mod laws;
 
 pub use file::generate;
-pub use laws::{straight_programs_agree, straight_programs_are_valid, straight_programs_end};
+pub use laws::{straight_programs_are_valid, straight_programs_have_files};

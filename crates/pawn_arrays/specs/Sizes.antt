@@ -3,6 +3,7 @@
 use Rattle.std.specs.Prelude.{ℕ, ◌+◌, ◌*◌, List, [], ◌∷◌, Option, None, Some}
 use Rattle.std.specs.Option.{option_to_list}
 use Rattle.pawn_arrays.specs.declared.shape.Shape.{Shape}
+use Rattle.pawn_arrays.specs.declared.shape.TheConstants.{CELL_LIMIT}
 
 -- the sizes behind the first: a third one counts behind a second one alone
 abbrev pub inner_sizes : Option ℕ → Option ℕ → List ℕ
@@ -34,4 +35,4 @@ elements_in (size ∷ inner) = size * elements_in inner
 
 -- the most cells that one array may take
 abbrev pub cell_limit : ℕ
-cell_limit = 1048576
+cell_limit = CELL_LIMIT

@@ -7,4 +7,4 @@ mod shape;
 mod tests;
 
 pub use pawn_base::{Cells, Memory};
-pub use shape::{Shape, cells, inner_row, layout, row};
+pub use shape::{CELL_LIMIT, Shape, cells, inner_row, layout, row};

@@ -8,7 +8,7 @@ use pawn_base::{Cells, Memory};
 use std::alloc::Global;
 
 /// The most cells that one array may take, its offsets among them.
-const CELL_LIMIT: u32 = 1_048_576;
+pub const CELL_LIMIT: u32 = 1_048_576;
 
 /// The bytes of a cell.
 const CELL_BYTES: u32 = 4;

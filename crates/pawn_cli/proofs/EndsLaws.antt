@@ -1,5 +1,5 @@
 -- A reply that was told, written or cut off, ends the call.
-use Rattle.std.proofs.Common.{◌≡◌, ◌∙◌, ◌++◌, ℕ, pos, List, [], Option, None, Some, Result, Ok, Err, ap, sym}
+use Rattle.std.proofs.Common.{◌≡◌, ◌∙◌, ◌++◌, ℕ, List, [], Option, None, Some, Result, Ok, Err, ap, ap₂, sym}
 use Rattle.pawn_outside.specs.declared.fault.SinkFault.{SinkFault}
 use Rattle.pawn_outside.specs.Said.{Said}
 use Rattle.host_script.specs.Script.{plain}
@@ -10,8 +10,7 @@ use Rattle.amx_ops.specs.State.{State}
 use Rattle.host_script.specs.declared.event.End.{End}
 use Rattle.amx_ops.specs.Moves.{Config}
 use Rattle.amx_ops.specs.Runs.{Traced, traced}
-use Rattle.amx_ops.specs.Trace.{loaded, start_at, trace_by, trace_from}
-use Rattle.gen_straight.specs.Code.{file_of}
+use Rattle.amx_ops.specs.Trace.{loaded, trace_by, trace_from}
 use Rattle.pawn_cli.specs.declared.status.Status.{Status}
 use Rattle.pawn_cli.specs.declared.status.Status.TheVariants as status
 use Rattle.pawn_cli.specs.Advance.{text_of}
@@ -21,7 +20,7 @@ use Rattle.pawn_cli.specs.Ends.{Wrote, Whole, Ends, status_told}
 use Rattle.pawn_cli.specs.Ready.{IsReady}
 use Rattle.pawn_cli.specs.Reply.{Met, Reply, step_limit}
 use Rattle.pawn_cli.specs.RunText.{RunsOver, run_of, run_text, stop_text}
-use Rattle.pawn_cli.proofs.FileLaws.{main_entry, agrees, ends, entry_is}
+use Rattle.pawn_cli.proofs.FileLaws.{main_entry, soon, ends}
 
 -- ---- a reply, and how it was written
 
@@ -74,31 +73,21 @@ module _ {command : Command} {met : Met} {amx : Amx} {state : State}
   abbrev it : HasFile ready.source amx
   it = ready.compiled
 
-  -- the trace of the program's file is the run from where the machine stands
-  at_start : start_at (file_of it.program) (pos 8) [] (loaded (file_of it.program) 4096) ≡ Some state
-  at_start = sym (ap (λ (a : Amx). start_at a a.entry [] (loaded a 4096)) it.amx_is
-      ∙ ap (λ z. start_at (file_of it.program) z [] (loaded (file_of it.program) 4096)) (entry_is it)) ∙ ready.starts
+  abbrev end : End
+  end = (soon it).end
 
-  runs_as : trace_from (file_of it.program) 4096 plain (pos 8) step_limit [] ≡ traced step_limit (run_of (file_of it.program) state)
-  runs_as = ap (λ o. trace_by (file_of it.program) plain (loaded (file_of it.program) 4096) o step_limit []) at_start
+  -- the trace of the file is the run from where the machine stands
+  runs_as : trace_from amx 4096 plain amx.entry step_limit [] ≡ traced step_limit (run_of amx state)
+  runs_as = ap (λ o. trace_by amx plain (loaded amx 4096) o step_limit []) ready.starts
 
   pub runs_over : RunsOver amx state
-  runs_over = (
-    (ends it).end,
-    ap (λ (a : Amx). (run_of a state).stop) it.amx_is
-        ∙ sym (ap (λ (t : Traced Config End). t.stop) runs_as) ∙ (ends it).stops,
-  )
+  runs_over = (end, sym (ap (λ (t : Traced Config End). t.stop) runs_as) ∙ (ends it).stops)
 
   -- the text of the run is that of the meaning
-  text_is : run_text amx state ≡ text_of (events_of (meaning it.program plain
-      0 0).entries) ++ end_text (ends it).end
+  text_is : run_text amx state ≡ text_of (events_of (meaning it.program plain 0 0).entries) ++ end_text end
   text_is =
-      ap (λ (a : Amx). run_text a state) it.amx_is
-      ∙ sym (ap (λ (t : Traced Config End). text_of t.config.events ++ stop_text t.stop) runs_as)
-      ∙ ap (λ e. text_of e ++ stop_text (trace_from (file_of it.program) 4096 plain
-      (pos 8) 10000000 []).stop) (ends it).events
-      ∙ ap (λ s. text_of (events_of (meaning it.program plain
-      0 0).entries) ++ stop_text s) (ends it).stops
+      sym (ap (λ (t : Traced Config End). text_of t.config.events ++ stop_text t.stop) runs_as)
+      ∙ ap₂ (λ events stop. text_of events ++ stop_text stop) (ends it).events (ends it).stops
 
   pub went_ok : Reply (Some command) met status.Ok (run_text amx state)
   went_ok = record {
@@ -113,16 +102,12 @@ module _ {command : Command} {met : Met} {amx : Amx} {state : State}
       entry = main_entry it;
       amx = amx;
       file = ready.file;
-      agrees = agrees it;
+      agrees = it.agrees;
       limit = 0;
-      end = (ends it).end;
-      last = (ends it).last;
-      stops = ap (λ (a : Amx). (trace_from a 4096 plain a.entry step_limit []).stop) it.amx_is
-          ∙ ap (λ z. (trace_from (file_of it.program) 4096 plain z step_limit []).stop)
-          (entry_is it) ∙ (ends it).stops;
-      events = ap (λ (a : Amx). (trace_from a 4096 plain a.entry step_limit []).config.events)
-          it.amx_is ∙ ap (λ z. (trace_from (file_of it.program) 4096 plain z step_limit
-          []).config.events) (entry_is it) ∙ (ends it).events;
+      end = end;
+      last = (soon it).ended;
+      stops = (ends it).stops;
+      events = (ends it).events;
       text_is = text_is;
     };
   }

@@ -2,16 +2,19 @@
 use Rattle.std.specs.FinMap.{get, insert, remove, same_map, get-remove, get-insert, nat_cmp-IsAntisymmetric, slice_cmp-IsAntisymmetric}
 use Rattle.std.specs.Ordering.{nat_cmp, eq_by_cmp}
 use Rattle.std.specs.Cmp.Lexicographic.{slice_cmp, nat_list_cmp_total}
-use Rattle.std.proofs.Common.{Bool, true, false, true≢false, IsTrue, ◌↔◌, cond, ◌+◌, ◌*◌, ◌^◌, ◌<◌, ◌≤◌, length, map, to_z, of_z, w32, arith, ◌≡◌, ◌∙◌, ℕ, pos, List, [], Option, None, Some, Result, Ok, Err, refl, sym, ap, ap₂, subst}
+use Rattle.std.proofs.lemmas.Int.{to_z-of_z}
+use Rattle.std.proofs.Common.{FitsSigned, Bool, true, false, cond, ◌+◌, ◌*◌, ◌^◌, ◌<◌, ◌≤◌, length, map, to_z, of_z, w32, arith, ◌≡◌, ◌∙◌, ℕ, List, [], Option, None, Some, Result, Ok, Err, refl, sym, ap, ap₂, subst}
 use Rattle.pawn_outside.specs.Held.{Held, Tells, with_put, without}
 use Rattle.pawn_cells.specs.Cells.{bits_of, cell_of}
 use Rattle.amx_ops.specs.declared.amx.Amx.{Amx}
 use Rattle.amx_ops.specs.State.{State}
 use Rattle.amx_ops.specs.Trace.{loaded, start_at}
-use Rattle.pawn_cli.specs.Served.{IsServed}
-use Rattle.pawn_cli.proofs.ServedLaws.{served}
+use Rattle.gen_straight.specs.StraightCode.{IsStraightCode}
 use Rattle.amx_format.specs.File.{IsFile}
+use Rattle.amx_format.specs.declared.encoding.Encoding.TheVariants.{Plain}
+use Rattle.amx_format.specs.Written.{IsWritten}
 use Rattle.amx_format.proofs.Determines.{file_determines}
+use Rattle.amx_format.proofs.SortLaws.{file_without}
 use Rattle.pawn_cli.specs.declared.stop.StopEarly.{StopEarly}
 use Rattle.pawn_cli.specs.declared.stop.StopEarly.TheVariants.{Refused, NoFile, TooLarge, FileFault, NoMemory}
 use Rattle.pawn_cli.specs.Command.{Command}
@@ -19,7 +22,7 @@ use Rattle.pawn_cli.specs.Compiled.{HasFile}
 use Rattle.pawn_cli.specs.Put.{IsBytesOf, IsStarted}
 use Rattle.pawn_cli.specs.Ready.{IsPrepared}
 use Rattle.pawn_cli.specs.Reply.{Met, Reads, source_limit}
-use Rattle.pawn_cli.proofs.FileLaws.{entry_is, room_is, writable}
+use Rattle.pawn_cli.proofs.FileLaws.{room_is, writable, no_publics}
 
 -- a put changes no other file
 same_by : (b : Bool) (o : Option (List ℕ)) (bytes : List ℕ)
@@ -39,6 +42,10 @@ without-with_put (Some map) name bytes = ap Some (same_map nat_list_cmp_total
     ∙ same_by (eq_by_cmp (slice_cmp nat_cmp) q name) (get map q) bytes
     ∙ sym (get-remove nat_list_cmp_total map name q)))
 
+-- what was written is the file of the source
+pub bytes_are : (source bytes : List ℕ) (amx : Amx) → HasFile source amx → IsWritten Plain amx bytes → IsBytesOf source bytes
+bytes_are source bytes amx has it = record { amx = amx; compiled = has; file = file_without amx (no_publics has) Plain bytes it }
+
 -- what was read is the file of the source
 module _ {bytes : List ℕ} (given : (source : List ℕ)
     × IsBytesOf source bytes) (read : Amx) (file : IsFile bytes read) where
@@ -49,11 +56,11 @@ module _ {bytes : List ℕ} (given : (source : List ℕ)
   pub code_small : 4 * length read.code < 2 ^ 31
   code_small = omega (arith, (writable has).memory)
 
-  pub code_served : IsServed read.code
-  code_served = subst (λ (a : Amx). IsServed a.code) (sym has.amx_is) (served has.program has.small.straight)
+  pub code_served : IsStraightCode read.code
+  code_served = has.code
 
   room_of_read : (amx : Amx) → amx ≡ read → amx.room ≡ 4096
-  room_of_read amx same = ap (λ (a : Amx). a.room) (same ∙ has.amx_is) ∙ room_is has
+  room_of_read amx same = ap (λ (a : Amx). a.room) same ∙ room_is has
 
   pub room_enough : (amx : Amx) → amx ≡ read → 2 ≤ amx.room
   room_enough amx same = omega (arith, room_of_read amx same)
@@ -62,14 +69,12 @@ module _ {bytes : List ℕ} (given : (source : List ℕ)
   cells_few amx same = omega (arith, (writable (subst (HasFile given.0) (sym same) has)).memory)
 
   pub starts : (ready amx : Amx) (entry : ℕ) (state : State) → ready ≡ read → amx ≡ ready
-      → entry ≡ bits_of (to_z w32 (of_z w32 ready.entry))
+      → FitsSigned w32 ready.entry → entry ≡ bits_of (to_z w32 (of_z w32 ready.entry))
       → start_at amx (cell_of entry) [] (loaded amx amx.room) ≡ Some state → IsFile bytes ready
       × (start_at ready ready.entry [] (loaded ready 4096) ≡ Some state)
-  starts ready amx entry state same lent at e =
-      let main : ready.entry ≡ pos 8 = ap (λ (a : Amx). a.entry) (same ∙ has.amx_is)
-      ∙ entry_is has in
+  starts ready amx entry state same lent fits at e =
       let place : cell_of entry ≡ ready.entry =
-      ap cell_of (at ∙ ap (λ z. bits_of (to_z w32 (of_z w32 z))) main) ∙ sym main in (
+      ap cell_of (at ∙ ap bits_of (to_z-of_z w32 ready.entry fits)) ∙ to_z-of_z w32 ready.entry fits in (
         subst (IsFile bytes) (sym same) file,
         sym (ap₂ (λ (a : Amx) n. start_at a (cell_of entry) [] (loaded a n)) lent (room_of_read amx
             (lent ∙ same)) ∙ ap (λ z. start_at ready z [] (loaded ready 4096)) place) ∙ e,

@@ -1,5 +1,5 @@
 -- A machine with its two first pushes is at a start.
-use Rattle.std.proofs.Common.{◌≡◌, ◌+◌, ◌-◌, ◌*◌, ◌/◌, ◌≤◌, ℕ, ℤ, pos, List, [], Option, Some, true, ◌++◌, length, replicate, nat_le, slice_set, refl, sym, ap, ◌∙◌, arith, le-leb, length-append, length-set}
+use Rattle.std.proofs.Common.{◌≡◌, ◌+◌, ◌-◌, ◌*◌, ◌/◌, ◌≤◌, ℕ, ℤ, pos, List, [], Some, true, ◌++◌, length, replicate, nat_le, slice_set, refl, arith, le-leb, length-append}
 use Rattle.std.proofs.lemmas.List.{length-replicate}
 use Rattle.pawn_cells.specs.Cells.{bits_of}
 use Rattle.amx_ops.specs.declared.amx.Amx.{Amx}

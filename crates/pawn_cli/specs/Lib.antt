@@ -9,7 +9,6 @@ pub mod Ran
 pub mod Ready
 pub mod Reply
 pub mod RunText
-pub mod Served
 pub mod Sound
 pub mod Status
 pub mod Stopped

@@ -1,7 +1,7 @@
 -- A mark for each cell of code: whether an instruction starts there.
 use Rattle.std.specs.Prelude.{◌≡◌, ◌-◌, ◌*◌, ◌<◌, ◌^◌, ℕ, zero, suc, ℤ, List, [], ◌∷◌, Bool, true, false, Option, None, Some, length}
 use Rattle.amx_ops.specs.declared.instr.Instr.{Instr}
-use Rattle.pawn_cli.specs.Served.{IsServed}
+use Rattle.gen_straight.specs.StraightCode.{IsStraightCode}
 use Rattle.amx_ops.specs.Instructions.{front}
 
 abbrev pub mark_by : Option Instr → Bool
@@ -20,8 +20,8 @@ marks (suc passed) (cell ∷ cells) = false ∷ marks passed cells
 marks zero (cell ∷ cells) = mark_by (front (cell ∷ cells)) ∷ marks (passed_by (front
     (cell ∷ cells)) (length cells)) cells
 
--- code of less than 2 GiB, with its marks
+-- code of less than 2 GiB, which this machine serves, with its marks
 pub record IsMarked (cells : List ℤ) (starts : List Bool) : Type 0 where
   pub marked : starts ≡ marks 0 cells
   pub small : 4 * length cells < 2 ^ 31
-  pub served : IsServed cells
+  pub served : IsStraightCode cells

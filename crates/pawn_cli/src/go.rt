@@ -7,7 +7,7 @@ use super::machine::Machine;
 use super::stop::StopEarly;
 use super::verified::Verified;
 use super::words::Go;
-use amx_format::{ReadFault, read, write};
+use amx_format::{Encoding, read, write};
 use pawn_base::{Bytes, Memory};
 use pawn_outside::{Files, PutAnswer, ReadAnswer};
 use std::alloc::Global;
@@ -57,6 +57,7 @@ fn read_source<F: Files>(alloc: Global, name: &str, files: &mut F) -> Result<Byt
 }
 
 /// The bytes of a source's file.
+#[tactic(auto, using(crate::proofs::PrepareLaws::bytes_are))]
 fn bytes_of(alloc: Global, source: &[u8]) -> Result<Bytes, StopEarly>
     requires { length source.now ≤ 2 ^ 30 }
     ensures { IsBytes source.now result }
@@ -64,7 +65,7 @@ fn bytes_of(alloc: Global, source: &[u8]) -> Result<Bytes, StopEarly>
     match compile(alloc, source) {
         Err(SourceFault::Refused) => Err(StopEarly::Refused),
         Err(SourceFault::Memory) => Err(StopEarly::NoMemory),
-        Ok(amx) => match write(alloc, &amx) {
+        Ok(amx) => match write(alloc, &amx, Encoding::Plain) {
             Err(Memory) => Err(StopEarly::NoMemory),
             Ok(bytes) => Ok(bytes),
         },
@@ -91,8 +92,10 @@ fn start(alloc: Global, bytes: &[u8]) -> Result<Ready, StopEarly>
 {
     let amx = match read(alloc, bytes) {
         Ok(amx) => amx,
-        Err(ReadFault::Memory) => return Err(StopEarly::NoMemory),
-        Err(ReadFault::Damaged) => unreachable!(),
+        Err(fault) => match fault.number() {
+            None => return Err(StopEarly::NoMemory),
+            Some(_) => unreachable!(),
+        },
     };
     let verified = match Verified::new(alloc, amx) {
         Ok(verified) => verified,

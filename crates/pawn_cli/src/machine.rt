@@ -7,7 +7,7 @@ ghost use Rattle.amx_ops.specs.Table.{op_of};
 ghost use Rattle.amx_ops.specs.Effects.{at_next};
 ghost use Rattle.amx_ops.specs.Trace.{loaded, start_at};
 ghost use Rattle.pawn_cli.specs.Acts as acts;
-ghost use Rattle.pawn_cli.specs.Served.{IsServedOp};
+ghost use Rattle.gen_straight.specs.StraightCode.{IsStraightOp};
 
 use super::verified::Verified;
 use amx_ops::{Amx, Instr, Op, op_at};
@@ -99,7 +99,7 @@ impl Machine {
     #[tactic(auto, using(crate::proofs::ServedLaws::must_be))]
     fn act(&mut self, verified: &Verified, instruction: Instr) -> Turn
         requires within { self.old.cip + 4 * instruction.cells < 2 ^ 31 }
-        requires served { IsServedOp (op_of instruction.op) }
+        requires served { IsStraightOp (op_of instruction.op) }
         ensures { IsTurn (step.act_on verified.now (Some instruction) self.old)
             self.old result self.new }
     {

@@ -2,7 +2,7 @@ ghost use Rattle.std.specs.Prelude.{◌≡◌, ◌+◌, ◌*◌, ◌^◌, ◌<�
 ghost use Rattle.amx_ops.specs.Instructions.{fetched, is_start};
 ghost use Rattle.amx_ops.specs.Table.{op_of};
 ghost use Rattle.pawn_cli.specs.Marks.{marks};
-ghost use Rattle.pawn_cli.specs.Served.{IsServed, IsServedOp};
+ghost use Rattle.gen_straight.specs.StraightCode.{IsStraightCode, IsStraightOp};
 
 use amx_ops::{Amx, Instr, decode};
 use pawn_base::Memory;
@@ -32,7 +32,7 @@ impl Verified {
     /// Marks where the instructions start, as far as they are whole.
     pub fn new(alloc: Global, amx: Amx) -> Result<Verified, Memory>
         requires small { 4 * length amx.code < 2 ^ 31 }
-        requires served { IsServed amx.code }
+        requires served { IsStraightCode amx.code }
         ensures { IfOk result (λ verified. verified ≡ amx) }
     {
         let starts = starts_of(alloc, amx.code.as_slice())?;
@@ -49,7 +49,7 @@ impl Verified {
     pub fn fetch(&self, address: u32) -> Option<Instr>
         ensures value { result ≡ fetched self.now.code address }
         ensures within { IfSome result (λ it. address + 4 * it.cells < 2 ^ 31) }
-        ensures served { IfSome result (λ it. IsServedOp (op_of it.op)) }
+        ensures served { IfSome result (λ it. IsStraightOp (op_of it.op)) }
     {
         let place = (address / 4) as usize;
         if address % 4 == 0 && place < self.starts.len() && self.starts[place] {

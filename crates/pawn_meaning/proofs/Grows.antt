@@ -10,17 +10,7 @@ use Rattle.pawn_meaning.specs.Memory.{Memory, Frame}
 use Rattle.pawn_meaning.specs.Natives.{Held, Spot, see, with_writes, finished, after_call, call_native}
 use Rattle.host_script.specs.declared.event.End.TheVariants as end
 use Rattle.pawn_meaning.specs.Extends.{Rises}
-
--- one world lies on the way to another
-pub record Later (w x : World) : Type 0 where
-  pub new : List Entry
-  pub entries : x.entries ≡ w.entries ++ new
-  pub rises : Rises w.turns w.peak new x.turns x.peak
-
-abbrev pub world_of : {A : Type 0} → Outcome A → World
-world_of (Gives a w) = w
-world_of (Stops end w) = w
-world_of (More w) = w
+use Rattle.pawn_meaning.specs.Later.{Later, world_of, Grows}
 
 pub rises_from : (t p : ℕ) (es : List Entry) (t' p' u q : ℕ) → u ≤ t → q ≤ p → Rises t p es t' p' → Rises u q es t' p'
 rises_from t p [] t' p' u q a b r = (omega (arith, r.0), omega (arith, r.1))
@@ -43,10 +33,6 @@ no_entries w x e t p = record { new = []; entries = e ∙ sym (append-nil w.entr
 
 pub same_later : (w : World) → Later w w
 same_later w = no_entries w w refl (omega arith) (omega arith)
-
--- a run that only grows
-pub record Grows {A : Type 0} (run : Run A) : Type 0 where
-  pub at : (w : World) → Later w (world_of (run w))
 
 pub grown_by : {A B : Type 0} (w : World) (o : Outcome A) (go : A → Run B) → Later w (world_of o) → ((a : A) → Grows (go a)) → Later w (world_of (then_do o go))
 grown_by w (Gives a x) go l g = later_on l ((g a).at x)

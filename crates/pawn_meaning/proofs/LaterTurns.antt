@@ -5,8 +5,8 @@ use Rattle.pawn_meaning.specs.Run.{Outcome, Gives, Stops, More}
 use Rattle.pawn_program.specs.Program.{Program}
 use Rattle.pawn_meaning.specs.Told.{Cut, told_of, told_by, scene_of, whole}
 use Rattle.pawn_meaning.specs.Extends.{Rises, GoesOn, Extends, LaterTurnsExtend, TurnsNeverFall}
-use Rattle.pawn_meaning.proofs.Grows.{Later, world_of}
-use Rattle.pawn_meaning.proofs.Monotone.{Below, bump, whole_below, whole_grows}
+use Rattle.pawn_meaning.specs.Later.{Later, world_of, bump, Below}
+use Rattle.pawn_meaning.proofs.Monotone.{whole_below, whole_grows}
 
 goes_on : (t : ℕ) (x : World) (r : Outcome ⊥) → x.turns ≡ t → Later (bump x) (world_of r) → GoesOn (t + 1) (told_by Cut x) (told_of r)
 goes_on t x (Gives a y) e l = elim a [ ]

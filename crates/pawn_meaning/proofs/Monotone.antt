@@ -22,23 +22,14 @@ use Rattle.pawn_meaning.specs.References.{is_known, index_in, outside, index, fi
 use Rattle.pawn_meaning.specs.Calls.{Way, Through, Broke, Continued, Returned, pass, again, value_of, body_by, frame_of, run_body, enter_function, enter_of, entry_for}
 use Rattle.pawn_meaning.specs.Meaning.{Scene, Fewer, name_of, in_ranges, ended, call, call_one, call_two, converted, linked, place, array, value, chain, chained, argument, arguments, condition, perhaps, call_entry, run, run_else, run_case, run_all}
 use Rattle.pawn_meaning.specs.Told.{nested, entry_run, without_params, entry_or_stray, whole}
-use Rattle.pawn_meaning.proofs.Grows.{Later, world_of, Grows, after_grows, grown_by, world_later, give_grows, stop_grows, or_stop_grows, look_grows, change_grows, say_grows, enter_grows, leave_grows, turn_grows, native_grows}
-
--- a world with one turn more
-abbrev pub bump : World → World
-bump w = record w { turns = w.turns + 1 }
+use Rattle.pawn_meaning.specs.Later.{Later, world_of, Grows, bump, Below}
+use Rattle.pawn_meaning.proofs.Grows.{after_grows, grown_by, world_later, give_grows, stop_grows, or_stop_grows, look_grows, change_grows, say_grows, enter_grows, leave_grows, turn_grows, native_grows}
 
 by_done : (P : Done → Type 0) → P done → (d : Done) → P d
 by_done P p done = p
 
 -- t is the lesser bound and m the greater one
 module _ (t m : ℕ) (least : t ≤ m) where
-  -- an end within the lesser bound stays; a cut has used it up, and stays or has one turn more
-  abbrev pub Below : {A : Type 0} → Outcome A → Outcome A → Type 0
-  Below (Gives a x) r = (x.turns ≤ t) × (r ≡ Gives a x)
-  Below (Stops end x) r = (x.turns ≤ t) × (r ≡ Stops end x)
-  Below (More x) r = (x.turns ≡ t) × ((r ≡ More x) ⊎ Later (bump x) (world_of r))
-
   -- k calls or passes may still begin within one another, and that is enough for the turns left
   pub record Left (k : ℕ) (w : World) : Type 0 where
     pub enough : t ≤ w.turns + k
@@ -46,7 +37,7 @@ module _ (t m : ℕ) (least : t ≤ m) where
 
   -- a run with the lesser bound and one with the greater
   pub record Up {A : Type 0} (k : ℕ) (c d : Run A) : Type 0 where
-    pub at : (w : World) → Left k w → Below (c w) (d w)
+    pub at : (w : World) → Left k w → Below t m least (c w) (d w)
     pub low : Grows c
     pub high : Grows d
 
@@ -56,7 +47,7 @@ module _ (t m : ℕ) (least : t ≤ m) where
   more_after x r go g (inr l) = inr (grown_by (bump x) r go l g)
 
   below_after : {A B : Type 0} (k : ℕ) (w : World) (o r : Outcome A) (go go' : A → Run B) → Left k w → Later w (world_of o)
-      → ((a : A) → Up k (go a) (go' a)) → Below o r → Below (then_do o go) (then_do r go')
+      → ((a : A) → Up k (go a) (go' a)) → Below t m least o r → Below t m least (then_do o go) (then_do r go')
   below_after k w (Gives a x) r go go' left l up b =
       rw b.1 ((up a).at x (record { enough = omega (arith, left.enough, world_later w x l); within = b.0 }))
   below_after k w (Stops end x) r go go' left l up b = (b.0, rw b.1 refl)
@@ -84,7 +75,7 @@ module _ (t m : ℕ) (least : t ≤ m) where
   pub look_up : {A : Type 0} {k : ℕ} (f : Memory → Option A) → Up k (look f) (look f)
   look_up {k = k} f = record { at = λ w left. (or_stop_up {k = k} (f w.memory) end.Stray).at w left; low = look_grows f; high = look_grows f }
 
-  changed_below : (o : Option Memory) (w : World) → w.turns ≤ t → Below (changed o w) (changed o w)
+  changed_below : (o : Option Memory) (w : World) → w.turns ≤ t → Below t m least (changed o w) (changed o w)
   changed_below None w h = (h, refl)
   changed_below (Some m) w h = (h, refl)
 
@@ -111,11 +102,11 @@ module _ (t m : ℕ) (least : t ≤ m) where
   choose_up false first second = second
 
   answered_below : (event : Event) (result : ℤ) (position : ℕ) (o : Option Memory) (w : World) → w.turns ≤ t
-      → Below (finished event result position o w) (finished event result position o w)
+      → Below t m least (finished event result position o w) (finished event result position o w)
   answered_below event result position None w h = (h, refl)
   answered_below event result position (Some m) w h = (h, refl)
 
-  called_below : (called : Called Spot) (w : World) → w.turns ≤ t → Below (after_call called w) (after_call called w)
+  called_below : (called : Called Spot) (w : World) → w.turns ≤ t → Below t m least (after_call called w) (after_call called w)
   called_below (Ends_there trap position) w h = (h, refl)
   called_below (Answers event result position puts) w h = answered_below event result position (with_writes puts (Some w.memory)) w h
 
@@ -129,7 +120,7 @@ module _ (t m : ℕ) (least : t ≤ m) where
   -- a turn, and what follows with one less to begin
   turned_low : {A : Type 0} (k : ℕ) (go go' : Done → Run A) (w : World) → Left k w → ((j : ℕ) → k ≡ suc j → Up j (go done) (go' done))
       → Grows (go' done) → (b : Bool) → nat_lt w.turns t ≡ b → (b' : Bool) → nat_lt w.turns m ≡ b'
-      → Below (then_do (turn t w) go) (then_do (turn m w) go')
+      → Below t m least (then_do (turn t w) go) (then_do (turn m w) go')
   turned_low zero go go' w left up g true e b' e' = absurd (omega (arith, left.enough, ltb-true _ _ e))
   turned_low (suc j) go go' w left up g true e true e' =
       rw (e, e') ((up j refl).at (bump w) (record { enough = omega (arith, left.enough); within = omega (arith, ltb-true _ _ e) }))
@@ -277,7 +268,7 @@ module _ (t m : ℕ) (least : t ≤ m) where
       argument_up (Whole a) = after_up (array_up a) (λ r. give_up (Refers r))
       argument_up (Temp e) = after_up (value_up e) (λ v. after_up (look_up (λ m. Some (length m.heap))) (λ n. after_up (change_up (λ m. Some (with_temporary v m))) (λ _. give_up (Refers (to_cell (memory.Temporary n) 0)))))
 
-      arguments_up : (args : Args) → Up k (arguments low fewer args) (arguments high fewer' args)
+      pub arguments_up : (args : Args) → Up k (arguments low fewer args) (arguments high fewer' args)
       arguments_up no_args = give_up []
       arguments_up (then_arg a args) = after_up (arguments_up args) (λ others. after_up (argument_up a) (λ first. give_up (first ∷ others)))
 
@@ -380,7 +371,7 @@ module _ (t m : ℕ) (least : t ≤ m) where
     entry_or_stray_up f None = stop_up end.Stray
     entry_or_stray_up f (Some function) = without_params_up f function function.params
 
-    pub whole_below : (f : ℕ) → Below (whole lesser f) (whole greater f)
+    pub whole_below : (f : ℕ) → Below t m least (whole lesser f) (whole greater f)
     whole_below f = (entry_or_stray_up f (slice_get program.functions f)).at (first_world program) (record { enough = omega arith; within = omega arith })
 
     pub whole_grows : (f : ℕ) → Later (first_world program) (world_of (whole lesser f))

@@ -30,6 +30,7 @@ abbrev mutual
   is_constant (Native n args) = false
   is_constant (Seq a b) = false
 
+  -- the links of a chain, none of which a user's operator stands for
   pub are_constant : Links → Bool
   are_constant no_links = true
   are_constant (then_link op e None swapped links) = is_constant e && are_constant links

@@ -2,24 +2,9 @@
 use Rattle.std.specs.Prelude.{◌+◌, ◌≤◌, ◌≤ℤ◌, ℕ, pos, List, All, length, sum_by}
 use Rattle.pawn_arrays.specs.Sizes.{cells_of, cell_limit}
 use Rattle.pawn_program.specs.Program.{Slot, ScalarSlot, ReferenceSlot, ArraySlot, OpenSlot, StaticObject, Body, Function, Program}
+use Rattle.pawn_meaning.specs.declared.limits.TheConstants.{DATA_LIMIT, LOCALS_LIMIT, WEIGHT_LIMIT, DYNAMIC_LIMIT}
 use Rattle.pawn_meaning.specs.Need.{locals}
 use Rattle.pawn_meaning.specs.Weight.{weight}
-
--- the most cells of all objects, offsets and one for each automaton among them
-abbrev pub data_limit : ℕ
-data_limit = 4194304
-
--- the most cells of locals on one path of blocks
-abbrev pub locals_limit : ℕ
-locals_limit = 1048576
-
--- the greatest weight
-abbrev pub weight_limit : ℕ
-weight_limit = 4194304
-
--- the most cells for heap and stack
-abbrev pub dynamic_limit : ℕ
-dynamic_limit = 16777216
 
 -- each size is at least 1, and there are at most so many cells
 pub record IsWithinArray (sizes : List ℕ) : Type 0 where
@@ -36,7 +21,7 @@ IsWithinSlot (OpenSlot inner) = All (λ size. 1 ≤ size) inner
 -- the slots of a body, and its locals
 pub record IsWithinBody (body : Body) : Type 0 where
   pub slots : All IsWithinSlot body.slots
-  pub locals : locals body.slots body.stmt ≤ locals_limit
+  pub locals : locals body.slots body.stmt ≤ LOCALS_LIMIT
 
 -- the parameters and bodies of a function
 pub record IsWithinFunction (function : Function) : Type 0 where
@@ -51,6 +36,6 @@ data_cells program = sum_by (λ (it : StaticObject). cells_of it.sizes) program.
 pub record IsWithinLimits (program : Program) : Type 0 where
   pub objects : All (λ (it : StaticObject). IsWithinArray it.sizes) program.objects
   pub functions : All IsWithinFunction program.functions
-  pub cells : data_cells program ≤ data_limit
-  pub weight : weight program ≤ weight_limit
-  pub dynamic : (pos 0 ≤ℤ program.dynamic) × (program.dynamic ≤ℤ pos dynamic_limit)
+  pub cells : data_cells program ≤ DATA_LIMIT
+  pub weight : weight program ≤ WEIGHT_LIMIT
+  pub dynamic : (pos 0 ≤ℤ program.dynamic) × (program.dynamic ≤ℤ DYNAMIC_LIMIT)

@@ -73,6 +73,7 @@ module _ (scene : Scene) (fewer : Fewer) where
 
   -- ---- expressions
 
+  -- places, arrays, expressions, chains and arguments
   abbrev mutual
     -- the place that a scalar is
     pub place : Scalar → Run Place

@@ -27,6 +27,7 @@ abbrev mutual
   place_load (Element a e) = 1 + max (array_load a) (load e)
   place_load (Char a e) = 1 + max (array_load a) (load e)
 
+  -- of an array
   pub array_load : Array → ℕ
   array_load (Object o) = 0
   array_load (SlotArray s) = 0
@@ -34,6 +35,7 @@ abbrev mutual
   array_load (Row a e) = 1 + max (array_load a) (load e)
   array_load (From a e) = 1 + max (array_load a) (load e)
 
+  -- of an expression
   pub load : Expr → ℕ
   load (Const v) = 0
   load (Read p) = place_load p
@@ -55,16 +57,19 @@ abbrev mutual
   load (Native n args) = 2 * count_of args + 1 + args_load args
   load (Seq a b) = 1 + max (load a) (load b)
 
+  -- of the links of a chain
   pub links_load : Links → ℕ
   links_load no_links = 0
   links_load (then_link o e f swapped links) = max (load e) (links_load links)
 
+  -- of an argument
   pub arg_load : Arg → ℕ
   arg_load (Value e) = load e
   arg_load (Ref p) = place_load p
   arg_load (Whole a) = array_load a
   arg_load (Temp e) = load e
 
+  -- of arguments
   pub args_load : Args → ℕ
   args_load no_args = 0
   args_load (then_arg a args) = max (arg_load a) (args_load args)
@@ -95,14 +100,17 @@ abbrev mutual
   stmt_load (State automaton state c) = perhaps_load c
   stmt_load Empty = 0
 
+  -- of a statement that may be absent
   pub else_load : Else → ℕ
   else_load no_else = 0
   else_load (otherwise s) = stmt_load s
 
+  -- of cases
   pub cases_load : Cases → ℕ
   cases_load no_cases = 0
   cases_load (then_case ranges s cases) = max (stmt_load s) (cases_load cases)
 
+  -- of a list of statements
   pub stmts_load : Stmts → ℕ
   stmts_load no_stmts = 0
   stmts_load (then_stmt s stmts) = max (stmt_load s) (stmts_load stmts)
@@ -140,10 +148,12 @@ module _ (slots : List Slot) where
     locals (State automaton state c) = 0
     locals Empty = 0
 
+    -- of a statement that may be absent
     pub else_locals : Else → ℕ
     else_locals no_else = 0
     else_locals (otherwise s) = locals s
 
+    -- of cases
     pub cases_locals : Cases → ℕ
     cases_locals no_cases = 0
     cases_locals (then_case ranges s cases) = max (locals s) (cases_locals cases)
@@ -182,6 +192,7 @@ module _ (slots : List Slot) where
 abbrev pub greatest_locals : List Body → ℕ
 greatest_locals bodies = greatest (map (λ (body : Body). locals body.slots body.stmt) bodies)
 
+-- and the greatest loads
 abbrev pub greatest_load : List Body → ℕ
 greatest_load bodies = greatest (map (λ (body : Body). stmt_load body.stmt) bodies)
 

@@ -3,6 +3,7 @@
 -- each of its pairs. The lean weight is the same, where an expression that folds counts 40 in all.
 use Rattle.std.specs.Prelude.{ℕ, ◌+◌, ◌*◌, ℤ, pos, negsuc, ◌+ℤ◌, ◌-ℤ◌, List, Bool, true, false, Option, None, Some, is_some, length, sum_by}
 use Rattle.pawn_program.specs.Program.{Scalar, Global, Own, Through, Element, Char, Array, Object, SlotArray, ParamArray, Row, From, Expr, Const, Read, Unary, Binary, Chain, And, Or, Cond, Assign, Update, UpdateBy, Step, StepBy, Copy, Operate, OperateOne, Call, Native, Seq, Links, no_links, then_link, Arg, Value, Ref, Whole, Temp, Args, no_args, then_arg, Perhaps, Absent, Present, Stmt, Block, Local, LocalArray, Do, If, While, DoWhile, For, Switch, Return, Break, Continue, Exit, Sleep, Assert, State, Empty, Else, no_else, otherwise, Cases, no_cases, then_case, Stmts, no_stmts, then_stmt, Body, Route, Function, Program}
+use Rattle.pawn_meaning.specs.declared.limits.TheConstants.{NODE_WEIGHT, PAIR_WEIGHT, ROUTE_WEIGHT}
 use Rattle.pawn_meaning.specs.Fold.{fold}
 
 -- a whole number as a count: negative ones count nothing
@@ -16,16 +17,16 @@ values_in range = counted ((range.1 -ℤ range.0) +ℤ pos 1)
 
 -- the values of all ranges of a case
 abbrev pub ranges_weight : List (ℤ × ℤ) → ℕ
-ranges_weight ranges = sum_by (λ range. 2 * values_in range) ranges
+ranges_weight ranges = sum_by (λ range. PAIR_WEIGHT * values_in range) ranges
 
--- 10, and 2 for each pair of a state and a body
+-- of a route and each pair of a state and a body
 abbrev pub route_weight : Option Route → ℕ
 route_weight None = 0
-route_weight (Some route) = 10 + 2 * length route.cases
+route_weight (Some route) = ROUTE_WEIGHT + PAIR_WEIGHT * length route.cases
 
--- an expression that counts alone is 40, its parts nothing
+-- an expression that counts alone is one node, its parts nothing
 abbrev pub part : Bool → ℕ → ℕ
-part true cells = 40
+part true cells = NODE_WEIGHT
 part false cells = cells
 
 -- which expressions count alone
@@ -33,51 +34,55 @@ module _ (alone : Expr → Bool) where
   -- of places, arrays, expressions and arguments
   abbrev mutual
     pub scalar_weight : Scalar → ℕ
-    scalar_weight (Global o) = 40
-    scalar_weight (Own s) = 40
-    scalar_weight (Through s) = 40
-    scalar_weight (Element a e) = 40 + (array_weight a + expr_weight e)
-    scalar_weight (Char a e) = 40 + (array_weight a + expr_weight e)
+    scalar_weight (Global o) = NODE_WEIGHT
+    scalar_weight (Own s) = NODE_WEIGHT
+    scalar_weight (Through s) = NODE_WEIGHT
+    scalar_weight (Element a e) = NODE_WEIGHT + (array_weight a + expr_weight e)
+    scalar_weight (Char a e) = NODE_WEIGHT + (array_weight a + expr_weight e)
 
+    -- of an array
     pub array_weight : Array → ℕ
-    array_weight (Object o) = 40
-    array_weight (SlotArray s) = 40
-    array_weight (ParamArray s known) = 40
-    array_weight (Row a e) = 40 + (array_weight a + expr_weight e)
-    array_weight (From a e) = 40 + (array_weight a + expr_weight e)
+    array_weight (Object o) = NODE_WEIGHT
+    array_weight (SlotArray s) = NODE_WEIGHT
+    array_weight (ParamArray s known) = NODE_WEIGHT
+    array_weight (Row a e) = NODE_WEIGHT + (array_weight a + expr_weight e)
+    array_weight (From a e) = NODE_WEIGHT + (array_weight a + expr_weight e)
 
+    -- of an expression
     pub expr_weight : Expr → ℕ
-    expr_weight (Const v) = 40
-    expr_weight (Read p) = 40 + scalar_weight p
-    expr_weight (Unary op e) = part (alone (Unary op e)) (40 + expr_weight e)
-    expr_weight (Binary op l r) = part (alone (Binary op l r)) (40 + (expr_weight l + expr_weight r))
-    expr_weight (Chain e links) = part (alone (Chain e links)) (40 + (expr_weight e + links_weight links))
-    expr_weight (And l r) = part (alone (And l r)) (40 + (expr_weight l + expr_weight r))
-    expr_weight (Or l r) = part (alone (Or l r)) (40 + (expr_weight l + expr_weight r))
-    expr_weight (Cond c a b) = part (alone (Cond c a b)) (40 + (expr_weight c + (expr_weight a + expr_weight b)))
-    expr_weight (Assign p e) = 40 + (scalar_weight p + expr_weight e)
-    expr_weight (Update p op e) = 40 + (scalar_weight p + expr_weight e)
-    expr_weight (UpdateBy p f swapped e convert) = 40 + (scalar_weight p + expr_weight e)
-    expr_weight (Step p delta prefix) = 40 + scalar_weight p
-    expr_weight (StepBy p f prefix) = 40 + scalar_weight p
-    expr_weight (Copy to from cells) = 40 + (array_weight to + array_weight from)
-    expr_weight (Operate f l r swapped) = 40 + (expr_weight l + expr_weight r)
-    expr_weight (OperateOne f e) = 40 + expr_weight e
-    expr_weight (Call f args) = 40 + args_weight args
-    expr_weight (Native n args) = 40 + args_weight args
-    expr_weight (Seq a b) = 40 + (expr_weight a + expr_weight b)
+    expr_weight (Const v) = NODE_WEIGHT
+    expr_weight (Read p) = NODE_WEIGHT + scalar_weight p
+    expr_weight (Unary op e) = part (alone (Unary op e)) (NODE_WEIGHT + expr_weight e)
+    expr_weight (Binary op l r) = part (alone (Binary op l r)) (NODE_WEIGHT + (expr_weight l + expr_weight r))
+    expr_weight (Chain e links) = part (alone (Chain e links)) (NODE_WEIGHT + (expr_weight e + links_weight links))
+    expr_weight (And l r) = part (alone (And l r)) (NODE_WEIGHT + (expr_weight l + expr_weight r))
+    expr_weight (Or l r) = part (alone (Or l r)) (NODE_WEIGHT + (expr_weight l + expr_weight r))
+    expr_weight (Cond c a b) = part (alone (Cond c a b)) (NODE_WEIGHT + (expr_weight c + (expr_weight a + expr_weight b)))
+    expr_weight (Assign p e) = NODE_WEIGHT + (scalar_weight p + expr_weight e)
+    expr_weight (Update p op e) = NODE_WEIGHT + (scalar_weight p + expr_weight e)
+    expr_weight (UpdateBy p f swapped e convert) = NODE_WEIGHT + (scalar_weight p + expr_weight e)
+    expr_weight (Step p delta prefix) = NODE_WEIGHT + scalar_weight p
+    expr_weight (StepBy p f prefix) = NODE_WEIGHT + scalar_weight p
+    expr_weight (Copy to from cells) = NODE_WEIGHT + (array_weight to + array_weight from)
+    expr_weight (Operate f l r swapped) = NODE_WEIGHT + (expr_weight l + expr_weight r)
+    expr_weight (OperateOne f e) = NODE_WEIGHT + expr_weight e
+    expr_weight (Call f args) = NODE_WEIGHT + args_weight args
+    expr_weight (Native n args) = NODE_WEIGHT + args_weight args
+    expr_weight (Seq a b) = NODE_WEIGHT + (expr_weight a + expr_weight b)
 
     -- a link is no node
     pub links_weight : Links → ℕ
     links_weight no_links = 0
     links_weight (then_link op e f swapped links) = expr_weight e + links_weight links
 
+    -- of an argument
     pub arg_weight : Arg → ℕ
-    arg_weight (Value e) = 40 + expr_weight e
-    arg_weight (Ref p) = 40 + scalar_weight p
-    arg_weight (Whole a) = 40 + array_weight a
-    arg_weight (Temp e) = 40 + expr_weight e
+    arg_weight (Value e) = NODE_WEIGHT + expr_weight e
+    arg_weight (Ref p) = NODE_WEIGHT + scalar_weight p
+    arg_weight (Whole a) = NODE_WEIGHT + array_weight a
+    arg_weight (Temp e) = NODE_WEIGHT + expr_weight e
 
+    -- of arguments
     pub args_weight : Args → ℕ
     args_weight no_args = 0
     args_weight (then_arg a args) = arg_weight a + args_weight args
@@ -90,24 +95,25 @@ module _ (alone : Expr → Bool) where
   -- of statements
   abbrev mutual
     pub stmt_weight : Stmt → ℕ
-    stmt_weight (Block stmts) = 40 + stmts_weight stmts
-    stmt_weight (Local s e) = 40 + expr_weight e
-    stmt_weight (LocalArray s o) = 40
-    stmt_weight (Do e) = 40 + expr_weight e
-    stmt_weight (If c a b) = 40 + (expr_weight c + (stmt_weight a + else_weight b))
-    stmt_weight (While c s) = 40 + (expr_weight c + stmt_weight s)
-    stmt_weight (DoWhile s c) = 40 + (stmt_weight s + expr_weight c)
-    stmt_weight (For first c step s) = 40 + (stmts_weight first + (perhaps_weight c + (perhaps_weight step + stmt_weight s)))
-    stmt_weight (Switch e cases d) = 40 + (expr_weight e + (cases_weight cases + else_weight d))
-    stmt_weight (Return e) = 40 + expr_weight e
-    stmt_weight Break = 40
-    stmt_weight Continue = 40
-    stmt_weight (Exit e tag) = 40 + expr_weight e
-    stmt_weight (Sleep e tag) = 40 + expr_weight e
-    stmt_weight (Assert e) = 40 + expr_weight e
-    stmt_weight (State automaton state c) = 40 + perhaps_weight c
-    stmt_weight Empty = 40
+    stmt_weight (Block stmts) = NODE_WEIGHT + stmts_weight stmts
+    stmt_weight (Local s e) = NODE_WEIGHT + expr_weight e
+    stmt_weight (LocalArray s o) = NODE_WEIGHT
+    stmt_weight (Do e) = NODE_WEIGHT + expr_weight e
+    stmt_weight (If c a b) = NODE_WEIGHT + (expr_weight c + (stmt_weight a + else_weight b))
+    stmt_weight (While c s) = NODE_WEIGHT + (expr_weight c + stmt_weight s)
+    stmt_weight (DoWhile s c) = NODE_WEIGHT + (stmt_weight s + expr_weight c)
+    stmt_weight (For first c step s) = NODE_WEIGHT + (stmts_weight first + (perhaps_weight c + (perhaps_weight step + stmt_weight s)))
+    stmt_weight (Switch e cases d) = NODE_WEIGHT + (expr_weight e + (cases_weight cases + else_weight d))
+    stmt_weight (Return e) = NODE_WEIGHT + expr_weight e
+    stmt_weight Break = NODE_WEIGHT
+    stmt_weight Continue = NODE_WEIGHT
+    stmt_weight (Exit e tag) = NODE_WEIGHT + expr_weight e
+    stmt_weight (Sleep e tag) = NODE_WEIGHT + expr_weight e
+    stmt_weight (Assert e) = NODE_WEIGHT + expr_weight e
+    stmt_weight (State automaton state c) = NODE_WEIGHT + perhaps_weight c
+    stmt_weight Empty = NODE_WEIGHT
 
+    -- of a statement that may be absent
     pub else_weight : Else → ℕ
     else_weight no_else = 0
     else_weight (otherwise s) = stmt_weight s
@@ -117,6 +123,7 @@ module _ (alone : Expr → Bool) where
     cases_weight no_cases = 0
     cases_weight (then_case ranges s cases) = ranges_weight ranges + (stmt_weight s + cases_weight cases)
 
+    -- of a list of statements
     pub stmts_weight : Stmts → ℕ
     stmts_weight no_stmts = 0
     stmts_weight (then_stmt s stmts) = stmt_weight s + stmts_weight stmts
@@ -140,6 +147,11 @@ weight program = weight_by never program
 -- those that fold count alone
 abbrev pub folds : Expr → Bool
 folds e = is_some (fold e)
+
+-- which expressions count alone: in the lean weight those that fold, in the other none
+abbrev pub alone_in : Bool → Expr → Bool
+alone_in true = folds
+alone_in false = never
 
 -- its weight where an expression that folds counts alone
 abbrev pub lean : Program → ℕ

@@ -54,14 +54,17 @@ abbrev mutual
   all_slots_made (State automaton state c) = []
   all_slots_made Empty = []
 
+  -- of what stands behind `else`
   pub all_slots_made_else : Else → List ℕ
   all_slots_made_else no_else = []
   all_slots_made_else (otherwise s) = all_slots_made s
 
+  -- of cases
   pub all_slots_made_in : Cases → List ℕ
   all_slots_made_in no_cases = []
   all_slots_made_in (then_case ranges s cases) = all_slots_made s ++ all_slots_made_in cases
 
+  -- of a list of statements
   pub all_slots_made_by : Stmts → List ℕ
   all_slots_made_by no_stmts = []
   all_slots_made_by (then_stmt s stmts) = all_slots_made s ++ all_slots_made_by stmts

@@ -34,6 +34,7 @@ abbrev mutual
   scalar_view (held_scalar.Element' p a q e) = plain.Element (array_view a) (expr_view e)
   scalar_view (held_scalar.Char' p a q e) = plain.Char (array_view a) (expr_view e)
 
+  -- of an array
   pub array_view : held_array.Array → Array
   array_view (held_array.Object o) = plain.Object o
   array_view (held_array.SlotArray s) = plain.SlotArray s
@@ -41,6 +42,7 @@ abbrev mutual
   array_view (held_array.Row' p a q e) = plain.Row (array_view a) (expr_view e)
   array_view (held_array.From' p a q e) = plain.From (array_view a) (expr_view e)
 
+  -- of an expression
   pub expr_view : held.Expr → Expr
   expr_view (held.Const v) = plain.Const v
   expr_view (held.Read p) = plain.Read (scalar_view p)
@@ -62,16 +64,19 @@ abbrev mutual
   expr_view (held.Native' n k row) = plain.Native n (args_row_view row)
   expr_view (held.Seq' p a q b) = plain.Seq (expr_view a) (expr_view b)
 
+  -- of an argument
   pub arg_view : held_arg.Arg → Arg
   arg_view (held_arg.Value e) = plain.Value (expr_view e)
   arg_view (held_arg.Ref p) = plain.Ref (scalar_view p)
   arg_view (held_arg.Whole a) = plain.Whole (array_view a)
   arg_view (held_arg.Temp e) = plain.Temp (expr_view e)
 
+  -- of arguments, as a node holds them
   pub args_row_view : {n : _} → held.Row_of-Arg n → Args
   args_row_view held.end_of-Arg = no_args
   args_row_view (held.more_of-Arg a row) = then_arg (arg_view a) (args_row_view row)
 
+  -- of comparisons, as a node holds them
   pub links_row_view : {n : _} → held.Row_of-Link n → Links
   links_row_view held.end_of-Link = no_links
   links_row_view (held.more_of-Link op e f swapped row) = then_link op (expr_view e) f swapped (links_row_view row)
@@ -114,14 +119,17 @@ abbrev mutual
   stmt_view (held_stmt.State automaton state c) = plain.State automaton state (perhaps_view c)
   stmt_view held_stmt.Empty = plain.Empty
 
+  -- of a statement that may be absent, as a node holds it
   pub else_row_view : held_stmt.Held-Stmt-If-2 → Else
   else_row_view held_stmt.None' = no_else
   else_row_view (held_stmt.Some' p s) = otherwise (stmt_view s)
 
+  -- of statements, as a node holds them
   pub stmts_row_view : {n : _} → held_stmt.Row_of-Stmt n → Stmts
   stmts_row_view held_stmt.end_of-Stmt = no_stmts
   stmts_row_view (held_stmt.more_of-Stmt s row) = then_stmt (stmt_view s) (stmts_row_view row)
 
+  -- of cases, as a node holds them
   pub cases_row_view : {n : _} → held_stmt.Row_of-Case n → Cases
   cases_row_view held_stmt.end_of-Case = no_cases
   cases_row_view (held_stmt.more_of-Case ranges s row) = then_case (ranges) (stmt_view s) (cases_row_view row)

@@ -3,9 +3,11 @@
 //! is seen, so that two programs with the same parts are equal.
 #![tactic(auto)]
 
+mod limits;
 mod node;
 mod program;
 
+pub use limits::{NAME_LIMIT, NAMES_LIMIT};
 pub use node::{Arg, Array, Case, Expr, Link, Scalar, Stmt};
 pub use pawn_arrays::Shape;
 pub use pawn_cells::{Comparison, Operator, Prefix};

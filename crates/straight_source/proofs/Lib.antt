@@ -1,10 +1,11 @@
 pub mod AmongLaws
 pub mod DistinctLaws
-pub mod LineLaws
-pub mod NumberLaws
-pub mod RunLaws
-pub mod ParseLaws
+pub mod EndsSoonLaws
 pub mod HeldLaws
+pub mod LineLaws
 pub mod MadeLaws
-pub mod SmallLaws
+pub mod NumberLaws
+pub mod ParseLaws
 pub mod ReadLaws
+pub mod RunLaws
+pub mod StraightLaws

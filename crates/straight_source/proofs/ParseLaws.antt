@@ -7,10 +7,11 @@ use Rattle.std.proofs.lemmas.List.Elements.{All-head, All-tail, All-push, All-ni
 use Rattle.std.proofs.lemmas.Grind.{flat_map-append}
 use Rattle.straight_source.specs.declared.form.Form.{Form}
 use Rattle.straight_source.specs.declared.form.Call.{Call}
-use Rattle.straight_source.specs.Names.{IsWord, is_word_byte, is_digit}
-use Rattle.straight_source.specs.Parts.{IsCall, IsExit, IsSpelled, IsNativeLine, IsCallLine, IsEnd, Begins, IsParsed, call_by}
+use Rattle.pawn_token.specs.declared.class.Class.TheVariants.{NameByte, Digit}
+use Rattle.pawn_token.specs.Class.{is_in}
+use Rattle.straight_source.specs.Parts.{IsWord, IsCall, IsExit, IsSpelled, IsNativeLine, IsCallLine, IsEnd, Begins, IsParsed, call_by}
 use Rattle.straight_source.specs.Spelling.{native_line, call_line, exit_line, body_of, source_of}
-use Rattle.straight_source.proofs.RunLaws.{run_same}
+use Rattle.straight_source.proofs.RunLaws.{run_same, paren_in_no_word, blank_in_no_word, exit_is_word, paren_is_no_digit, semicolon_is_no_digit}
 use Rattle.straight_source.proofs.LineLaws.{same_tail, call_shape, decimal_digits, end_shape}
 
 -- ---- one more line
@@ -67,8 +68,8 @@ native_same : (a b x y : List ℕ) → IsWord a → IsWord b → native_line a +
 native_same a b x y ga gb e =
     let behind = same_tail _ (codes "native ") (a ++ 40 ∷ (codes "v);\n" ++ x)) (b ++ 40 ∷
     (codes "v);\n" ++ y)) (native_shape a x) (e ∙ native_shape b y) in
-    let it = run_same is_word_byte a b 40 40 (codes "v);\n" ++ x)
-    (codes "v);\n" ++ y) ga gb refl refl behind in
+    let it = run_same (is_in NameByte) a b 40 40 (codes "v);\n" ++ x)
+    (codes "v);\n" ++ y) ga gb paren_in_no_word paren_in_no_word behind in
     (it.0, same_tail _ (codes "(v);\n") x y refl it.1)
 
 -- what begins otherwise is no native line
@@ -88,7 +89,7 @@ call_name_same : (a b : Call) (x y : List ℕ) → IsCall a → IsCall b
     (decimal b.number ++ 41 ∷ (codes ";\n" ++ y)))
 call_name_same a b x y ga gb e =
     let behind = same_tail _ (codes "  ") _ _ (call_shape a x) (e ∙ call_shape b y) in
-    run_same is_word_byte a.name b.name 40 40 _ _ ga.name gb.name refl refl behind
+    run_same (is_in NameByte) a.name b.name 40 40 _ _ ga.name gb.name paren_in_no_word paren_in_no_word behind
 
 call_is : (a b : Call) → a.name ≡ b.name → a.number ≡ b.number → a ≡ b
 call_is a b e f = ap₂ call_by e f
@@ -97,9 +98,9 @@ call_same : (a b : Call) (x y : List ℕ) → IsCall a → IsCall b
     → call_line a ++ x ≡ call_line b ++ y → (a ≡ b) × (x ≡ y)
 call_same a b x y ga gb e =
     let names = call_name_same a b x y ga gb e in
-    let digits = run_same is_digit (decimal a.number) (decimal b.number) 41 41 (codes ";\n" ++ x)
+    let digits = run_same (is_in Digit) (decimal a.number) (decimal b.number) 41 41 (codes ";\n" ++ x)
     (codes ";\n" ++ y) (decimal_digits a.number ga.number)
-    (decimal_digits b.number gb.number) refl refl
+    (decimal_digits b.number gb.number) paren_is_no_digit paren_is_no_digit
     (same_tail _ (codes "(") _ _ refl names.1) in (
       call_is a b names.0 (decimal_injective a.number b.number (omega (arith, ga.number)) (omega
           (arith, gb.number)) digits.0),
@@ -112,9 +113,9 @@ end_no_call None call rest good e = let h : 125 ≡ 32 = ap (λ l. slice_index l
     absurd (omega (arith, h))
 end_no_call (Some n) call rest good e =
     let behind = same_tail _ (codes "  ") _ _ (end_shape n) (e ∙ call_shape call rest) in
-    let it = run_same is_word_byte (codes "exit") call.name 32 40
+    let it = run_same (is_in NameByte) (codes "exit") call.name 32 40
     (decimal n ++ 59 ∷ codes "\n}\n") (decimal call.number ++ 41 ∷
-    (codes ";\n" ++ rest)) refl good.name refl refl behind in
+    (codes ";\n" ++ rest)) exit_is_word good.name blank_in_no_word paren_in_no_word behind in
     let h : 32 ≡ 40 = ap (λ l. slice_index l 0) it.1 in absurd (omega (arith, h))
 
 -- ---- the whole
@@ -168,8 +169,8 @@ end_same (Some m) None ea eb e = let h : 32 ≡ 125 = ap (λ l. slice_index l 0)
 end_same (Some m) (Some n) ea eb e =
     let behind = same_tail _ (codes "  exit ") (decimal m ++ 59 ∷ codes "\n}\n")
     (decimal n ++ 59 ∷ codes "\n}\n") (end_shape m) (e ∙ end_shape n) in
-    let it = run_same is_digit (decimal m) (decimal n) 59 59 (codes "\n}\n") (codes "\n}\n")
-    (decimal_digits m ea) (decimal_digits n eb) refl refl behind in
+    let it = run_same (is_in Digit) (decimal m) (decimal n) 59 59 (codes "\n}\n") (codes "\n}\n")
+    (decimal_digits m ea) (decimal_digits n eb) semicolon_is_no_digit semicolon_is_no_digit behind in
     ap Some (decimal_injective m n (omega (arith, ea)) (omega (arith, eb)) it.0)
 
 pub forms_same : (a b : Form) → IsSpelled a → IsSpelled b → source_of a ≡ source_of b → a ≡ b

@@ -6,16 +6,17 @@ use Rattle.std.proofs.lemmas.List.Elements.{All-head, All-tail}
 use Rattle.pawn_program.specs.Program.{Program}
 use Rattle.pawn_program.specs.declared.program.Program as held
 use Rattle.pawn_program.specs.View.{program_view}
-use Rattle.gen_straight.specs.Theorems.{IsSmall}
+use Rattle.gen_straight.specs.Straight.{IsStraight}
 use Rattle.straight_source.specs.declared.form.Form.{Form}
 use Rattle.name_table.specs.Among.{is_among}
-use Rattle.straight_source.specs.Names.{IsName, IsWord}
-use Rattle.straight_source.specs.Parts.{IsSpelled, IsParsed}
+use Rattle.straight_source.specs.Names.{IsName}
+use Rattle.straight_source.specs.Parts.{IsWord, IsSpelled, IsParsed}
 use Rattle.straight_source.specs.Means.{IsForm, Means}
 use Rattle.straight_source.specs.Held.{IsMade}
 use Rattle.straight_source.specs.Answers.{IsProgramOf}
 use Rattle.straight_source.proofs.ParseLaws.{forms_same, natives_short}
-use Rattle.straight_source.proofs.SmallLaws.{small}
+use Rattle.straight_source.proofs.RunLaws.{name_is_word}
+use Rattle.straight_source.proofs.StraightLaws.{straight}
 
 -- a name among words is one
 word_among : (q : List ℕ) (words : List (List ℕ)) → All IsName words → is_among q words ≡ true
@@ -27,13 +28,13 @@ word_among q (n ∷ words) all among = by (bytes_eq q n) refl among (word_among 
     by : (b : Bool) → bytes_eq q n ≡ b → (b || is_among q words) ≡ true
         → (is_among q words ≡ true → IsWord q) → IsWord q
     by true e h others = subst IsWord (sym ((bytes_decides q n).0 e))
-        (All-head IsName n words all).word
+        (name_is_word n (All-head IsName n words all).bytes)
     by false e h others = others h
 
 -- a source's form has its spelling
 spelled_of : (form : Form) → IsForm form → IsSpelled form
 spelled_of form good = record {
-  natives = λ k d within. (good.names k d within).word;
+  natives = λ k d within. name_is_word (get_or form.natives k d) (good.names k d within).bytes;
   calls = λ k d within. record {
     name = word_among (get_or form.calls k d).name form.natives
         good.names (good.declared k d within);
@@ -62,5 +63,5 @@ pub is_program : (source : List ℕ) (form : Form) (made : held.Program)
     → IsProgramOf source (program_view made)
 is_program source form made parsed it short = record {
   means = record { form = form; good = it.0; spelled = parsed.1; program_is = it.1 };
-  small = subst IsSmall (sym it.1) (small form source it.0 parsed.1 short);
+  straight = subst IsStraight (sym it.1) (straight form source it.0 parsed.1 short);
 }

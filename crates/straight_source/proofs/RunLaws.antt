@@ -1,7 +1,18 @@
--- The run of a kind of bytes at the front: what it is, and that there is only one.
-use Rattle.std.proofs.Common.{◌≡◌, ◌+◌, ℕ, zero, suc, List, [], ◌∷◌, ◌++◌, Bool, true, false, cond, ◌&&◌, take, drop, refl, subst, append-nil, sym, ap, ap₂, ◌∙◌, true≢false, arith}
+-- The run of a class of bytes at the front: what it is, and that there is only one.
+use Rattle.std.proofs.Common.{◌≡◌, ◌+◌, ℕ, zero, suc, List, [], ◌∷◌, ◌++◌, Bool, true, false, cond, ◌&&◌, codes, take, drop, refl, subst, append-nil, sym, ap, ap₂, ◌∙◌, true≢false, arith}
 use Rattle.std.specs.List.{list_all, prefix_len}
-use Rattle.straight_source.specs.Runs.{IsRun}
+use Rattle.std.proofs.lemmas.Bool.Decides.{nat_tests}
+use Rattle.pawn_token.specs.declared.class.Class.{Class}
+use Rattle.pawn_token.specs.declared.class.Class.TheVariants.{NameByte, Digit}
+use Rattle.pawn_token.specs.Class.{is_in, run, after}
+use Rattle.straight_source.specs.Names.{is_small_or_digit}
+use Rattle.straight_source.specs.Parts.{IsWord}
+
+-- the bytes of a set at the front, and what follows them
+pub record IsRun (is_in : ℕ → Bool) (bytes run rest : List ℕ) : Type 0 where
+  pub joined : bytes ≡ run ++ rest
+  pub all : list_all is_in run ≡ true
+  pub stops : (byte : ℕ) (others : List ℕ) → rest ≡ byte ∷ others → is_in byte ≡ false
 
 pub both : (a b : Bool) → (a && b) ≡ true → (a ≡ true) × (b ≡ true)
 both true b h = (refl, h)
@@ -44,14 +55,6 @@ module _ (p : ℕ → Bool) where
   run_of [] = record { joined = refl; all = refl; stops = λ byte others same. absurd (cc same) }
   run_of (byte ∷ bytes) = front_by byte bytes (p byte) refl (run_of bytes)
 
-  -- as code meets it
-  pub run_as : (bytes run rest : List ℕ) (n : ℕ) → n ≡ prefix_len p bytes → run ≡ take n bytes
-      → rest ≡ drop n bytes → IsRun p bytes run rest
-  run_as bytes run rest n e front back =
-      let is = subst (Front bytes) (sym e) (run_of bytes) in
-      subst (λ r. IsRun p bytes r rest) (sym front) (subst (IsRun p bytes (take n bytes))
-      (sym back) is)
-
   -- a run ends at the first byte of another kind
   pub run_same : (a b : List ℕ) (c d : ℕ) (x y : List ℕ) → list_all p a ≡ true
       → list_all p b ≡ true → p c ≡ false → p d ≡ false
@@ -89,3 +92,43 @@ module _ (p : ℕ → Bool) where
   run_is bytes run (byte ∷ rest) name c x is all stop e =
       run_same run name byte c rest x is.all all (is.stops byte rest refl) stop (sym is.joined
       ∙ e)
+
+-- ---- classes
+
+-- as code meets a run
+pub run_as : (class : Class) (bytes front rest : List ℕ) → front ≡ run class bytes
+    → rest ≡ after class bytes → IsRun (is_in class) bytes front rest
+run_as class bytes front rest is_front is_rest =
+    subst (λ it. IsRun (is_in class) bytes it rest) (sym is_front)
+    (subst (IsRun (is_in class) bytes (run class bytes)) (sym is_rest) (run_of (is_in class) bytes))
+
+pub paren_in_no_word : is_in NameByte 40 ≡ false
+unfolding is_in
+paren_in_no_word = refl
+
+pub blank_in_no_word : is_in NameByte 32 ≡ false
+unfolding is_in
+blank_in_no_word = refl
+
+pub paren_is_no_digit : is_in Digit 41 ≡ false
+unfolding is_in
+paren_is_no_digit = refl
+
+pub semicolon_is_no_digit : is_in Digit 59 ≡ false
+unfolding is_in
+semicolon_is_no_digit = refl
+
+pub exit_is_word : IsWord (codes "exit")
+unfolding is_in
+exit_is_word = refl
+
+byte_in_word : (byte : ℕ) → is_small_or_digit byte ≡ true → is_in NameByte byte ≡ true
+unfolding is_in
+byte_in_word byte h = grind (arith, nat_tests)
+
+-- a name is a word
+pub name_is_word : (name : List ℕ) → list_all is_small_or_digit name ≡ true → IsWord name
+name_is_word [] all = refl
+name_is_word (byte ∷ name) all =
+    let it = both (is_small_or_digit byte) (list_all is_small_or_digit name) all in
+    ap (λ b. b && list_all (is_in NameByte) name) (byte_in_word byte it.0) ∙ name_is_word name it.1

@@ -1,10 +1,15 @@
 -- Sources by their spelling alone: names are words, and numbers fit a cell.
-use Rattle.std.specs.Prelude.{◌≡◌, ◌≢◌, ◌^◌, ◌<◌, ◌++◌, ℕ, List, Option, None, Some, All, IfSome, codes}
-use Rattle.std.specs.List.{flat_map}
+use Rattle.std.specs.Prelude.{◌≡◌, ◌≢◌, ◌^◌, ◌<◌, ◌++◌, ℕ, List, true, Option, None, Some, All, IfSome, codes}
+use Rattle.std.specs.List.{flat_map, list_all}
 use Rattle.straight_source.specs.declared.form.Form.{Form}
 use Rattle.straight_source.specs.declared.form.Call.{Call}
-use Rattle.straight_source.specs.Names.{IsWord}
+use Rattle.pawn_token.specs.declared.class.Class.TheVariants.{NameByte}
+use Rattle.pawn_token.specs.Class.{is_in}
 use Rattle.straight_source.specs.Spelling.{native_line, call_line, exit_line, source_of}
+
+-- what stands where a name does
+abbrev pub IsWord : List ℕ → Type 0
+IsWord word = list_all (is_in NameByte) word ≡ true
 
 pub record IsCall (call : Call) : Type 0 where
   pub name : IsWord call.name

@@ -1,9 +1,11 @@
 ghost use Rattle.std.specs.Prelude.{◌≡◌, ◌↔◌, slice_index, All, IsTrue, IfOk};
-ghost use Rattle.name_table.specs.Among.{is_among};
-ghost use Rattle.straight_source.specs.Names.{AreDistinct, IsName, IsWord, is_letter, taken};
+ghost use Rattle.std.specs.List.{list_all};
+ghost use Rattle.straight_source.specs.Names.{AreDistinct, IsName, is_small, is_small_or_digit};
 
+use super::scan::is_text;
 use name_table::Names;
 use pawn_base::{Bytes, Memory};
+use pawn_cells::predefined;
 use pawn_token::key_of;
 use std::alloc::Global;
 
@@ -12,18 +14,19 @@ const MOST_BYTES: usize = 31;
 
 /// Whether a word is a name that a native may have.
 fn is_name(word: &[u8]) -> bool
-    requires { IsWord word.now }
     ensures { IsTrue result ↔ IsName word.now }
 {
-    begins_with_letter(word)
+    begins_small(word)
+        && is_small_or_digits(word)
         && word.len() <= MOST_BYTES
         && key_of(word).is_none()
-        && !is_taken(word)
+        && predefined(word).is_none()
+        && !is_text(word, b"main")
 }
 
-/// Whether a lower-case letter is the first byte.
-fn begins_with_letter(word: &[u8]) -> bool
-    ensures { result ≡ is_letter (slice_index word.now 0) }
+/// Whether a small letter is the first byte.
+fn begins_small(word: &[u8]) -> bool
+    ensures { result ≡ is_small (slice_index word.now 0) }
 {
     match word.first() {
         None => false,
@@ -31,22 +34,16 @@ fn begins_with_letter(word: &[u8]) -> bool
     }
 }
 
-/// Whether a word is `main` or a predefined constant.
-fn is_taken(word: &[u8]) -> bool
-    ensures { result ≡ is_among word.now taken }
+/// Whether all bytes are small letters and digits.
+fn is_small_or_digits(word: &[u8]) -> bool
+    ensures { result ≡ list_all is_small_or_digit word.now }
 {
-    word == b"main".as_slice()
-        || word == b"true".as_slice()
-        || word == b"false".as_slice()
-        || word == b"cellbits".as_slice()
-        || word == b"cellmax".as_slice()
-        || word == b"cellmin".as_slice()
-        || word == b"charbits".as_slice()
+    word.iter()
+        .all(|byte| matches!(*byte, b'a'..=b'z' | b'0'..=b'9'))
 }
 
 /// Whether words are names that differ.
 pub fn are_names(alloc: Global, words: &[Bytes]) -> Result<bool, Memory>
-    requires { All IsWord words.now }
     ensures { IfOk result (λ are. IsTrue are ↔ (All IsName words.now × AreDistinct words.now)) }
 {
     let mut names = Names::new(alloc);

@@ -5,10 +5,12 @@
 
 mod form;
 mod good;
+mod laws;
 mod line;
 mod parse;
 mod program;
 mod scan;
 mod source;
 
+pub use laws::sources_end_soon;
 pub use source::{SourceFault, read_straight};

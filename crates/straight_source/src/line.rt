@@ -1,7 +1,8 @@
 ghost use Rattle.std.specs.Prelude.{option_map};
 ghost use Rattle.straight_source.specs.Parts.{IsNativeLine, IsCallLine, IsEnd};
 
-use super::scan::{Kind, after, is_text, number, split_run};
+use super::scan::{after, is_text, number};
+use pawn_token::{Class, split};
 
 /// The name that a line at the front declares, and what follows the line.
 pub fn native_line(bytes: &[u8]) -> Option<(&[u8], &[u8])>
@@ -10,7 +11,7 @@ pub fn native_line(bytes: &[u8]) -> Option<(&[u8], &[u8])>
     let Some(rest) = after(bytes, b"native ") else {
         return None;
     };
-    let (name, rest) = split_run(Kind::Word, rest);
+    let (name, rest) = split(Class::NameByte, rest);
     match after(rest, b"(v);\n") {
         None => None,
         Some(rest) => Some((name, rest)),
@@ -24,11 +25,11 @@ pub fn call_line(bytes: &[u8]) -> Option<(&[u8], u32, &[u8])>
     let Some(rest) = after(bytes, b"  ") else {
         return None;
     };
-    let (name, rest) = split_run(Kind::Word, rest);
+    let (name, rest) = split(Class::NameByte, rest);
     let Some(rest) = after(rest, b"(") else {
         return None;
     };
-    let (digits, rest) = split_run(Kind::Digit, rest);
+    let (digits, rest) = split(Class::Digit, rest);
     let Some(rest) = after(rest, b");\n") else {
         return None;
     };
@@ -48,7 +49,7 @@ pub fn end(bytes: &[u8]) -> Option<Option<u32>>
     let Some(rest) = after(bytes, b"  exit ") else {
         return None;
     };
-    let (digits, rest) = split_run(Kind::Digit, rest);
+    let (digits, rest) = split(Class::Digit, rest);
     if !is_text(rest, b";\n}\n") {
         return None;
     }

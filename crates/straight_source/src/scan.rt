@@ -1,46 +1,8 @@
 ghost use Rattle.std.specs.Prelude.{◌≡◌, ◌≢◌, ◌<◌, ◌^◌, ◌++◌, ◌↔◌, ℕ, List, IsTrue, MatchOption};
 ghost use Rattle.std.specs.Fmt.{decimal};
-ghost use Rattle.std.specs.List.{prefix_len};
-ghost use Rattle.straight_source.specs.Runs.{IsRun, is_of};
 
 use itoa::Buffer;
 use std::str;
-
-/// The bytes of a word, and those of a number.
-#[derive(Clone, Copy)]
-pub enum Kind {
-    Word,
-    Digit,
-}
-
-/// Whether a byte is of a kind.
-fn is_of(kind: Kind, byte: u8) -> bool
-    ensures { result ≡ is_of kind byte }
-{
-    match kind {
-        Kind::Word => matches!(byte, b'a'..=b'z' | b'0'..=b'9'),
-        Kind::Digit => matches!(byte, b'0'..=b'9'),
-    }
-}
-
-/// How many bytes of a kind stand at the front.
-fn run_length(kind: Kind, bytes: &[u8]) -> usize
-    ensures { result ≡ prefix_len (is_of kind) bytes.now }
-{
-    for (index, byte) in bytes.iter().enumerate() {
-        if !is_of(kind, *byte) {
-            return index;
-        }
-    }
-    bytes.len()
-}
-
-/// The bytes of a kind at the front, and what follows them.
-pub fn split_run(kind: Kind, bytes: &[u8]) -> (&[u8], &[u8])
-    ensures { IsRun (is_of kind) bytes.now result.0.now result.1.now }
-{
-    bytes.split_at(run_length(kind, bytes))
-}
 
 /// What follows a text at the front.
 pub fn after<'a>(bytes: &'a [u8], front: &[u8]) -> Option<&'a [u8]>

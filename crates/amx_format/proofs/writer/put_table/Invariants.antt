@@ -1,6 +1,7 @@
 use Rattle.std.proofs.Common.{◌≡◌, ◌+◌, ◌++◌, drop, take}
 use Rattle.amx_ops.specs.Writable.{names_size}
-use Rattle.amx_format.specs.Layout.{table, AddressesFit}
+use Rattle.amx_format.specs.Layout.{table}
+use Rattle.amx_format.specs.Ranges.{AddressesFit}
 use Rattle.amx_format.proofs.writer.put_table.Given as goal
 
 abbrev pub invariant-loop-record : goal.invariant-loop-record

@@ -1,6 +1,5 @@
 use Rattle.std.proofs.Common.{length}
-use Rattle.straight_source.specs.Names.{IsWord}
-use Rattle.straight_source.specs.Parts.{Begins}
+use Rattle.straight_source.specs.Parts.{IsWord, Begins}
 use Rattle.straight_source.specs.Spelling.{native_line}
 use Rattle.straight_source.proofs.parse.read_natives.Given as goal
 

@@ -1,8 +1,8 @@
 use Rattle.std.proofs.Common.{subst, IfSome, ◌≡◌, ◌∙◌, ◌/◌, length, drop, ap, sym, arith, None}
 use Rattle.amx_ops.specs.Instructions.{front, decoded, fetched}
 use Rattle.amx_ops.specs.Table.{op_of}
-use Rattle.pawn_cli.specs.Served.{IsServedOp}
-use Rattle.pawn_cli.proofs.MarkLaws.{length-marks, marked, fetched-at_mark, fetched-between, fetched-past_marks}
+use Rattle.gen_straight.specs.StraightCode.{IsStraightOp}
+use Rattle.pawn_cli.proofs.MarkLaws.{marked, fetched-at_mark, fetched-between, fetched-past_marks}
 use Rattle.pawn_cli.proofs.verified.Verified.fetch.Goals as goal
 use Rattle.pawn_cli.proofs.verified.Verified.fetch.Goals.{else-address-eq0-via-then-address-eq0+then-place-len+else-index, else-address-eq0-via-then-address-eq0+else-place-len, else-address-eq0-via-else-address-eq0}
 
@@ -24,7 +24,7 @@ returns-then-index-clause-served c =
     let at = fetched-at_mark inside.amx.code inside.starts.items a c.index.result.now c.self.invariant.marked c.if-address-eq0.true (omega arith) c.index.ensures in
     let here : decoded c.as_slice.result.now (a / 4) ≡ front (drop (a / 4) inside.amx.code) = ap (λ code. decoded code (a / 4)) c.as_slice.ensures.cells in
     let same : c.decode.result ≡ fetched inside.amx.code a = c.decode.ensures.value ∙ here ∙ sym (at ∙ ap (λ b. marked b (front (drop (a / 4) inside.amx.code))) c.if-index.true) in
-    subst (λ o. IfSome o (λ it. IsServedOp (op_of it.op))) (sym same) (c.self.invariant.served a)
+    subst (λ o. IfSome o (λ it. IsStraightOp (op_of it.op))) (sym same) (c.self.invariant.served a)
 
 pub returns-else-address-eq0-clause-value : goal.returns-else-address-eq0-clause-value
 returns-else-address-eq0-clause-value c =

@@ -1,0 +1,6 @@
+use Rattle.std.proofs.Common.{◌<◌, ℕ}
+use Rattle.amx_format.specs.Names.{name_place}
+use Rattle.amx_format.proofs.check.are_closed.Given as goal
+
+abbrev pub invariant-loop-index : goal.invariant-loop-index
+invariant-loop-index l = (k : ℕ) → k < l.index → name_place l.bytes l.header k < l.past

@@ -1,0 +1,20 @@
+-- Publics sorted by the bytes of their names, those of one name in the order that they had.
+use Rattle.std.specs.Prelude.{List}
+use Rattle.std.specs.List.Sorted.{IsPermutation, IsSortedByKey, IsStableByKey}
+use Rattle.std.specs.Ordering.{nat_cmp}
+use Rattle.std.specs.Cmp.Lexicographic.{slice_cmp}
+use Rattle.amx_ops.specs.declared.amx.Amx.{Amx}
+use Rattle.amx_ops.specs.declared.amx.Record.{Record}
+use Rattle.amx_ops.specs.Writable.{IsWritable}
+
+pub record Sorts (records sorted : List Record) : Type 0 where
+  pub same : IsPermutation records sorted
+  pub rises : IsSortedByKey (λ (it : Record). it.name) (slice_cmp nat_cmp) sorted
+  pub stable : IsStableByKey (λ (it : Record). it.name) (slice_cmp nat_cmp) records sorted
+
+abbrev pub with_publics : Amx → List Record → Amx
+with_publics amx publics = record amx { publics = publics }
+
+-- it can be written once its publics are sorted
+abbrev pub IsWritableSorted : Amx → Type 0
+IsWritableSorted amx = (publics : List Record) → Sorts amx.publics publics → IsWritable (with_publics amx publics)
