@@ -1,11 +1,13 @@
 -- The parser gives exactly the tree of 1,024 levels at most that spells the tokens, and there is at
 -- most one tree that does, of any height.
-use Rattle.std.proofs.Common.{◌≡◌, ◌+◌, ◌≤◌, List, Some, None, sym, ◌∙◌, ap, subst, arith}
+use Rattle.std.proofs.Common.{◌≡◌, ◌+◌, ◌≤◌, List, Option, Some, None, sym, ◌∙◌, ap, subst, arith, refl}
 use Rattle.pawn_lex.specs.declared.token.Token.{Token}
 use Rattle.pawn_tree.specs.Declarations.{Tree}
 use Rattle.pawn_tree.specs.Height.{depth}
 use Rattle.pawn_grammar.specs.Spells.{Spells}
 use Rattle.pawn_grammar.specs.Readers.{Got}
+use Rattle.pawn_grammar.specs.OneTree.{AtMostOneTree}
+use Rattle.pawn_grammar.specs.UnitGives.{Gives, UnitIsSpelled, UnitIsComplete}
 use Rattle.pawn_grammar.specs.ReadDeclarations.{unit}
 use Rattle.pawn_grammar.proofs.Steps.{none_some, some_inj}
 use Rattle.pawn_grammar.proofs.SoundDeclarations.{unit_sound}
@@ -27,7 +29,17 @@ pub unit_none : (ts : List Token) (tree : Tree) → Spells ts tree → depth tre
 unit_none ts tree spells low e =
     let l = subst (λ n. n ≤ 1024) (sym (spells_height spells)) low in none_some (sym e ∙ unit_complete ts 1023 tree spells l)
 
-pub one_tree : (ts : List Token) (tree other : Tree) → Spells ts tree → Spells ts other → tree ≡ other
+pub unit_is_spelled : UnitIsSpelled
+unit_is_spelled ts y e = (unit_spells ts y e, unit_low ts y e)
+
+gives : (ts : List Token) (tree : Tree) (o : Option (Got Tree)) → unit ts ≡ o → Spells ts tree → depth tree ≤ 1024 → Gives tree o
+gives ts tree None e spells low = unit_none ts tree spells low e
+gives ts tree (Some y) e spells low = unit_is ts tree spells low y e
+
+pub unit_is_complete : UnitIsComplete
+unit_is_complete ts tree spells low = gives ts tree (unit ts) refl spells low
+
+pub one_tree : AtMostOneTree
 one_tree ts tree other u v =
     let n = u.height + v.height in
     ap (λ z. z.tree) (some_inj _ _ (sym (unit_complete ts n tree u (omega arith)) ∙ unit_complete ts n other v (omega arith)))

@@ -16,6 +16,7 @@ open_by n (kind.Sign sign.CloseBracket) = n - 1
 open_by n (kind.Sign sign.CloseBrace) = n - 1
 open_by n _ = n
 
+-- so many are open behind some tokens, where n were open before them
 abbrev pub open_from : ℕ → List Token → ℕ
 open_from n [] = n
 open_from n (token ∷ more) = open_from (open_by n token.kind) more

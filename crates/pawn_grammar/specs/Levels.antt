@@ -77,13 +77,16 @@ level_of tags first joint.Parenthesis = if first then 16 else 0
 level_of tags first joint.Colon = if tags then 0 else 16
 level_of tags first joint.Nothing = 16
 
+-- how a token continues an expression
 abbrev pub joint_at : Word → Joint
 joint_at (w.Sign c) = joint_of c
 joint_at _ = joint.Nothing
 
+-- the level at which token i goes on with an expression
 unfoldable pub binds : List Token → Bool → ℕ → ℕ
 binds ts tags i = level_of tags (is_first ts i) (joint_at (word ts i))
 
+-- a comparison
 abbrev pub is_compare : Joint → Bool
 is_compare joint.Compare = true
 is_compare _ = false

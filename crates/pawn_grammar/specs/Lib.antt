@@ -13,3 +13,5 @@ pub mod ReadExpressions
 pub mod ReadVariables
 pub mod ReadStatements
 pub mod ReadDeclarations
+pub mod OneTree
+pub mod UnitGives

@@ -11,6 +11,7 @@ use Rattle.pawn_grammar.specs.Brackets.{IsShallow}
 unfoldable pub are_left : List Token → ℕ → Bool
 are_left ts i = not (i == length ts)
 
+-- the declarations of a tree stand one behind another on all tokens; the highest is so high
 pub record Spells (ts : List Token) (tree : Tree) : Type 0 where
   pub height : ℕ
   pub decls : Many (are_left ts) (IsDecl ts) height tree 0 (length ts)

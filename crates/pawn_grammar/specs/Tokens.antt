@@ -21,6 +21,7 @@ abbrev pub is_blank : List ℕ → Bool
 is_blank (byte ∷ []) = byte == 95
 is_blank _ = false
 
+-- what a token is, from its kind
 abbrev pub word_of : TokenKind → Word
 word_of (kind.Name bytes) = if is_blank bytes then w.Blank else w.Name
 word_of (kind.Key k) = w.Key k
@@ -28,6 +29,7 @@ word_of (kind.Number v) = w.Number
 word_of (kind.Text bytes packed) = w.Text
 word_of (kind.Sign s) = w.Sign s
 
+-- and from the token, if there is one
 abbrev pub word_at : Option Token → Word
 word_at None = w.Absent
 word_at (Some token) = word_of token.kind
@@ -36,11 +38,13 @@ word_at (Some token) = word_of token.kind
 unfoldable pub word : List Token → ℕ → Word
 word ts i = word_at (slice_get ts i)
 
+-- the bytes of a kind
 abbrev pub spelling_of : TokenKind → List ℕ
 spelling_of (kind.Name bytes) = bytes
 spelling_of (kind.Text bytes packed) = bytes
 spelling_of _ = []
 
+-- and of a token, if there is one
 abbrev pub spelling_at : Option Token → List ℕ
 spelling_at None = []
 spelling_at (Some token) = spelling_of token.kind
@@ -49,10 +53,12 @@ spelling_at (Some token) = spelling_of token.kind
 unfoldable pub spelling : List Token → ℕ → List ℕ
 spelling ts i = spelling_at (slice_get ts i)
 
+-- whether a kind is a packed text
 abbrev pub packed_of : TokenKind → Bool
 packed_of (kind.Text bytes packed) = packed
 packed_of _ = false
 
+-- and whether a token is, if there is one
 abbrev pub packed_at : Option Token → Bool
 packed_at None = false
 packed_at (Some token) = packed_of token.kind
@@ -61,10 +67,12 @@ packed_at (Some token) = packed_of token.kind
 unfoldable pub is_packed : List Token → ℕ → Bool
 is_packed ts i = packed_at (slice_get ts i)
 
+-- the value of a kind
 abbrev pub value_of : TokenKind → ℤ
 value_of (kind.Number v) = v
 value_of _ = pos 0
 
+-- and of a token, if there is one
 abbrev pub value_at : Option Token → ℤ
 value_at None = pos 0
 value_at (Some token) = value_of token.kind
@@ -73,6 +81,7 @@ value_at (Some token) = value_of token.kind
 unfoldable pub value : List Token → ℕ → ℤ
 value ts i = value_at (slice_get ts i)
 
+-- the place of a token, if there is one
 abbrev pub place_at : Option Token → Place
 place_at None = record { file = 0; line = 0 }
 place_at (Some token) = token.place
@@ -81,12 +90,15 @@ place_at (Some token) = token.place
 unfoldable pub at : List Token → ℕ → At
 at ts i = record { token = i; place = place_at (slice_get ts i) }
 
+-- token i as a name
 abbrev pub name_at : List Token → ℕ → Name
 name_at ts i = record { at = at ts i; bytes = spelling ts i }
 
+-- token i as a text
 abbrev pub text_at : List Token → ℕ → t.Text
 text_at ts i = record { at = at ts i; bytes = spelling ts i; packed = is_packed ts i }
 
+-- whether a token is the first on its line, if there is one
 abbrev pub first_at : Option Token → Bool
 first_at None = true
 first_at (Some token) = token.first
@@ -95,13 +107,16 @@ first_at (Some token) = token.first
 unfoldable pub is_first : List Token → ℕ → Bool
 is_first ts i = first_at (slice_get ts i)
 
+-- whether a token touches the one before it, if there is one
 abbrev pub touches_at : Option Token → Bool
 touches_at None = false
 touches_at (Some token) = token.touches
 
+-- and token i
 unfoldable pub touches : List Token → ℕ → Bool
 touches ts i = touches_at (slice_get ts i)
 
+-- whether a token is strict, if there is one
 abbrev pub strict_at : Option Token → Bool
 strict_at None = false
 strict_at (Some token) = token.strict
@@ -110,6 +125,7 @@ strict_at (Some token) = token.strict
 unfoldable pub is_strict : List Token → ℕ → Bool
 is_strict ts i = strict_at (slice_get ts i)
 
+-- whether a word is this sign
 abbrev pub is_sign : Sign → Word → Bool
 is_sign c (w.Sign s) = sameb signs.the_type c s
 is_sign c _ = false
@@ -118,6 +134,7 @@ is_sign c _ = false
 unfoldable pub sees : List Token → Sign → ℕ → Bool
 sees ts c i = is_sign c (word ts i)
 
+-- whether a word is this key word
 abbrev pub is_key : Key → Word → Bool
 is_key k (w.Key found) = sameb keys.the_type k found
 is_key k _ = false
@@ -130,6 +147,7 @@ sees_key ts k i = is_key k (word ts i)
 unfoldable pub behind_sign : List Token → Sign → ℕ → ℕ
 behind_sign ts c i = if sees ts c i then suc i else i
 
+-- the token behind a key word, where that stands there
 unfoldable pub behind_key : List Token → Key → ℕ → ℕ
 behind_key ts k i = if sees_key ts k i then suc i else i
 
@@ -157,5 +175,6 @@ is_tag ts i = is_label (word ts i) && (sees ts sign.Colon (suc i) && touches ts 
 unfoldable pub tag_at : List Token → ℕ → Option Name
 tag_at ts i = if is_tag ts i then Some (name_at ts i) else None
 
+-- the token behind the tag
 unfoldable pub behind_tag : List Token → ℕ → ℕ
 behind_tag ts i = if is_tag ts i then suc (suc i) else i

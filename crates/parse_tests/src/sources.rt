@@ -1,0 +1,105 @@
+use super::shown::shown;
+use std::test::Fail;
+
+/// Sources, with the height of the tree and the number of its declarations.
+const TREES: [(&str, &str); 54] = [
+    ("", "tree 0 0"),
+    ("main() { }", "tree 2 1"),
+    ("main() { p(1); }", "tree 5 1"),
+    ("f();", "tree 2 1"),
+    ("enum { a };", "tree 1 1"),
+    ("enum { a, b = 2, }\nenum e { c };", "tree 2 2"),
+    ("new a\n[3]", "tree 2 1"),
+    ("f\n(a)\n{\n}", "tree 2 1"),
+    ("static a\n(b) { }", "tree 2 1"),
+    ("static a\n,b, c", "tree 1 1"),
+    ("stock static public f() { }", "tree 2 1"),
+    ("new a = 1\n-b", "tree 3 1"),
+    ("new const a = 1, T:b[2 char]", "tree 2 1"),
+    ("new a = {1, {2}, ...}", "tree 4 1"),
+    ("const T:a = 1", "tree 2 1"),
+    ("native f(T:...)\nforward public g(x);", "tree 1 2"),
+    ("f({A, _}:x, const &y, z[] = 2) { }", "tree 2 1"),
+    ("operator;(a) {}", "tree 2 1"),
+    ("f() <a, m :s> { }\nf() <> { }", "tree 2 2"),
+    ("main() { break\n- 1\n}", "tree 5 1"),
+    ("main() { return\n5\n}", "tree 4 1"),
+    ("main() return 5", "tree 3 1"),
+    ("main() { if (a) b\n; else c; }", "tree 5 1"),
+    ("main() { if (a) if (b) ; else c; }", "tree 6 1"),
+    ("main() { a\n; }", "tree 4 1"),
+    ("main() assert\n5", "tree 3 1"),
+    ("main() state\na", "tree 2 1"),
+    ("main() state (a) m: s", "tree 3 1"),
+    ("main() sizeof (a) + 1", "tree 4 1"),
+    ("main() sizeof \"x\"[]", "tree 3 1"),
+    ("main() tagof(Fixed:)", "tree 3 1"),
+    ("main() a[1, 2]", "tree 5 1"),
+    ("main() f(_:x)", "tree 5 1"),
+    ("main() f(_)", "tree 3 1"),
+    ("main() f(1, .a = 2)", "tree 4 1"),
+    ("main() p _, 2", "tree 4 1"),
+    ("main() p T:x", "tree 5 1"),
+    ("main() p -1", "tree 4 1"),
+    ("main() p (1), 2", "tree 5 1"),
+    ("main() a ? b:c:d", "tree 5 1"),
+    ("main() T:a + b", "tree 5 1"),
+    ("main() 5 = 1", "tree 4 1"),
+    ("main() a++ = 1", "tree 5 1"),
+    ("main() a = b = 1", "tree 5 1"),
+    ("main() 1 - 2 - 3", "tree 5 1"),
+    ("main() a < b < c", "tree 4 1"),
+    ("main() a < b == c < d", "tree 5 1"),
+    ("main() ++-a", "tree 5 1"),
+    ("main() { a{0}; }", "tree 5 1"),
+    ("main() { a\n{0} }", "tree 5 1"),
+    (
+        "main() switch (a) { case 1, 2 .. 3: b; default : c; }",
+        "tree 4 1",
+    ),
+    ("main() for (new i = 0; i < 9; i++) ;", "tree 4 1"),
+    ("main() do x; while (c)", "tree 4 1"),
+    ("#pragma semicolon 1\nmain() { a; }", "tree 4 1"),
+];
+
+/// Sources that no tree spells, with the token at which none goes on.
+const FAULTS: [(&str, &str); 29] = [
+    ("main() { };", "syntax 5"),
+    ("static static f() { }", "syntax 1"),
+    ("static native f();", "syntax 1"),
+    ("new f() { }", "syntax 2"),
+    ("public a;", "syntax 2"),
+    ("main() { f(1,) }", "syntax 8"),
+    ("main() f(.a = 1, _)", "syntax 10"),
+    ("main() a ? b ? c : d:e : f", "syntax 12"),
+    ("main() T:a = 1", "syntax 6"),
+    ("main() -a = 1", "syntax 5"),
+    ("main() a\n[0]", "syntax 4"),
+    ("main() (f)(1)", "syntax 6"),
+    ("main() { if (a) b else c; }", "syntax 9"),
+    ("main() { do x while (c) }", "syntax 6"),
+    ("main() { if (a) new b; }", "syntax 8"),
+    ("main() goto x", "syntax 3"),
+    ("main() tagof((x))", "syntax 5"),
+    ("main() sizeof a[][][]", "syntax 9"),
+    ("main() {", "syntax 4"),
+    ("new a = {}", "syntax 4"),
+    ("new a = {1,}", "syntax 6"),
+    ("new _", "syntax 1"),
+    ("enum { }", "syntax 2"),
+    ("const a = 1, b = 2", "syntax 4"),
+    ("f(...) { }", "syntax 2"),
+    ("native f(const ...)", "syntax 4"),
+    ("native f() = g", "syntax 4"),
+    ("#pragma semicolon 1\nmain() { a\n}", "syntax 5"),
+    ("#pragma semicolon 1\nmain() { return\n5; }", "syntax 5"),
+];
+
+#[test]
+fn sources(rt: HostRuntime) -> Result<(), Fail> {
+    for (source, want) in TREES.iter().chain(&FAULTS) {
+        let got = shown(rt.alloc(), *source)?;
+        assert_eq!(rt; got.as_str(), *want, "{source}");
+    }
+    Ok(())
+}

@@ -1,0 +1,3 @@
+pub mod WordLaws
+pub mod Turns
+pub mod KnotLaws

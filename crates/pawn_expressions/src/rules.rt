@@ -1,0 +1,70 @@
+ghost use Rattle.std.specs.Prelude.{Some};
+ghost use Rattle.pawn_tree.specs.View.{expr_view};
+ghost use Rattle.pawn_grammar.specs.ReadExpressions as spec;
+ghost use Rattle.pawn_expressions.specs.Answers.{Answers, part_view};
+ghost use Rattle.pawn_expressions.specs.Nests.{Nests};
+
+use super::fault::ReadFault;
+use super::parser::Parser;
+use super::part::Part;
+use pawn_tree::Expr;
+
+/// The rules of expressions. Those in them are read by `nested`, so that each rule is proved by
+/// itself.
+#[derive(Clone, Copy)]
+pub(crate) struct Rules<'a, F> {
+    pub parser: Parser<'a>,
+    /// How many levels may stand below a node.
+    pub height: u16,
+    pub nested: F,
+}
+
+impl<'a, F: Fn(Parser<'a>, u16, bool, usize, usize) -> Result<Part, ReadFault>> Rules<'a, F> {
+    /// An expression up to a level.
+    pub(crate) fn sub(&self, tags: bool, level: usize, start: usize) -> Result<Part, ReadFault>
+        requires { Nests self.now.parser.tokens.now self.now.height
+            (F.pre self.now.nested) (F.post self.now.nested) }
+        ensures { let ts = self.now.parser.tokens.now in let d = self.now.height in
+            Answers ts part_view (spec.expr ts d tags level start) result }
+    {
+        (self.nested)(self.parser, self.height, tags, level, start)
+    }
+
+    /// A node of a level, if no more than so many levels stand below it. Else no tree goes on at
+    /// token `at`.
+    pub(crate) fn operation(
+        &self,
+        at: usize,
+        tree: Expr,
+        level: usize,
+        under: usize,
+        stop: usize,
+    ) -> Result<Part, ReadFault>
+        ensures { let ts = self.now.parser.tokens.now in let d = self.now.height in
+            Answers ts part_view
+            (spec.operation d (expr_view tree) level under stop) result }
+    {
+        if under > usize::from(self.height) {
+            return Err(self.parser.stuck(at));
+        }
+        Ok(Part {
+            tree: Box::new(self.parser.alloc, tree)?,
+            level,
+            height: under + 1,
+            stop,
+        })
+    }
+
+    /// A node with none below it.
+    pub(crate) fn leaf(&self, tree: Expr, level: usize, stop: usize) -> Result<Part, ReadFault>
+        ensures { let ts = self.now.parser.tokens.now in
+            Answers ts part_view (Some (spec.part (expr_view tree) level 1 stop)) result }
+    {
+        Ok(Part {
+            tree: Box::new(self.parser.alloc, tree)?,
+            level,
+            height: 1,
+            stop,
+        })
+    }
+}

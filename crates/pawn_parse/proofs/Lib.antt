@@ -1,0 +1,3 @@
+pub mod BracketLaws
+pub mod TreeLaws
+pub mod WordsLaws

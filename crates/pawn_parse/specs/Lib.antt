@@ -1,0 +1,4 @@
+pub mod Boxed
+pub mod Deep
+pub mod Parses
+pub mod Words

@@ -1,0 +1,53 @@
+ghost use Rattle.std.specs.Prelude.{◌≡◌};
+ghost use Rattle.pawn_grammar.specs.Ends as spec;
+ghost use Rattle.pawn_expressions.specs.Answers.{Answers};
+
+use super::expressions::Reader;
+use pawn_expressions::ReadFault;
+use pawn_grammar::Word;
+use pawn_token::Sign;
+
+/// Whether a statement may end before this without a semicolon.
+fn stops(first: bool, word: Word) -> bool
+    ensures { result ≡ spec.stops first word }
+{
+    match word {
+        Word::Absent => true,
+        Word::Sign(Sign::CloseBrace) => true,
+        _ => first,
+    }
+}
+
+impl<'a> Reader<'a> {
+    /// The token behind the end of a statement, if one may end before this token: behind its
+    /// semicolon where that stands there (Language Guide, "General syntax").
+    #[tactic(auto, unfolding(pawn_grammar::specs::Ends::ending))]
+    pub(crate) fn ending(&self, at: usize) -> Option<usize>
+        ensures { result ≡ spec.ending self.now.parser.tokens.now at }
+    {
+        if self.parser.sees(Sign::Semicolon, at) {
+            return Some(at + 1);
+        }
+        if self.parser.is_strict(at.saturating_sub(1)) {
+            return None;
+        }
+        if stops(self.parser.is_first(at), self.parser.word(at)) {
+            Some(at)
+        } else {
+            None
+        }
+    }
+
+    /// The token behind the end of a statement.
+    ///
+    /// Errors: `Syntax` where none may end before this token.
+    pub fn end(&self, at: usize) -> Result<usize, ReadFault>
+        ensures { let ts = self.now.parser.tokens.now in
+            Answers ts (λ stop. stop) (spec.ending ts at) result }
+    {
+        match self.ending(at) {
+            Some(stop) => Ok(stop),
+            None => Err(self.parser.stuck(at)),
+        }
+    }
+}
