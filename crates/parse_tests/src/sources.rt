@@ -62,8 +62,62 @@ const TREES: [(&str, &str); 54] = [
     ("#pragma semicolon 1\nmain() { a; }", "tree 4 1"),
 ];
 
+/// Sources that a tree spells: of `sizeof` and `tagof`, of line ends, of bare calls, of tags and states.
+const GOOD: [&str; 50] = [
+    "main() tagof x",
+    "main() tagof(x)",
+    "main() tagof Fixed:",
+    "main() sizeof (a)",
+    "main() sizeof \"x\"",
+    "main() sizeof a[]\n[]",
+    "public static stock f() { }",
+    "public stock f() { }",
+    "forward public f();",
+    "main() p _:x",
+    "main() p 1",
+    "main() p 'a'",
+    "main() p \"x\"",
+    "main() p !\"x\"",
+    "main() p 1, !x,\n-1",
+    "main() p T:x, sizeof y",
+    "main() f(_, 2)",
+    "main() f(.a = 1, .b = 2)",
+    "main() { x\n++y }",
+    "main() { x\n!y }",
+    "main() { x\n~y }",
+    "main() { x\n(y) }",
+    "main() { x\n--y }",
+    "main() { new a\n- b }",
+    "main() { new a = {1}\n- b }",
+    "main() { exit\n- b }",
+    "main() { sleep\n- b }",
+    "main() { state s\n- b }",
+    "main() { do x; while (c)\n- b }",
+    "main() { continue\n- b }",
+    "main() { if (c)\n- b }",
+    "main() { switch (c) { case 1:\n- b } }",
+    "main() { new a[3]\n[4] }",
+    "main() if\n(c)\n;",
+    "f({A, _} :x) { }",
+    "main() T:\na",
+    "f() <m:s> { }",
+    "f() <m: s, m:t> { }",
+    "main() state m: s",
+    "main() state m :s",
+    "main() switch (a) { default : ; }",
+    "main() (a) = 1",
+    "main() 5++",
+    "main() 5{0}",
+    "main() \"abc\"[1]",
+    "main() ! ! a",
+    "main() a ? (T:b) : c",
+    "main() a ? tagof(Fixed:) : c",
+    "main() { if (1) if (2) ; else ; }",
+    "main() { return 1 - 2 - 3; }",
+];
+
 /// Sources that no tree spells, with the token at which none goes on.
-const FAULTS: [(&str, &str); 29] = [
+const FAULTS: [(&str, &str); 60] = [
     ("main() { };", "syntax 5"),
     ("static static f() { }", "syntax 1"),
     ("static native f();", "syntax 1"),
@@ -85,7 +139,7 @@ const FAULTS: [(&str, &str); 29] = [
     ("main() {", "syntax 4"),
     ("new a = {}", "syntax 4"),
     ("new a = {1,}", "syntax 6"),
-    ("new _", "syntax 1"),
+    ("new _", "syntax 2"),
     ("enum { }", "syntax 2"),
     ("const a = 1, b = 2", "syntax 4"),
     ("f(...) { }", "syntax 2"),
@@ -93,6 +147,37 @@ const FAULTS: [(&str, &str); 29] = [
     ("native f() = g", "syntax 4"),
     ("#pragma semicolon 1\nmain() { a\n}", "syntax 5"),
     ("#pragma semicolon 1\nmain() { return\n5; }", "syntax 5"),
+    ("main() sizeof((a))", "syntax 5"),
+    ("main() sizeof a[1]", "syntax 6"),
+    ("main() sizeof(a + 1)", "syntax 6"),
+    ("main() sizeof(a)[]", "syntax 7"),
+    ("main() p !x", "syntax 4"),
+    ("main() p sizeof x", "syntax 4"),
+    ("main() p .a = 1", "syntax 4"),
+    ("main() f(.a = _)", "syntax 9"),
+    ("main() f(1,,2)", "syntax 7"),
+    ("main() ++a = 1", "syntax 5"),
+    ("main() a + b = 1", "syntax 6"),
+    ("main() a ? b : c = 1", "syntax 8"),
+    ("main() a ? b, c : d", "syntax 6"),
+    ("main() a ? b = 1 : c", "syntax 6"),
+    ("main() f(1)(2)", "syntax 7"),
+    ("main() +a", "syntax 3"),
+    ("main() { a :b }", "syntax 5"),
+    ("main() { if (1) }", "syntax 8"),
+    ("main() switch (a) { case 1: b; c; }", "syntax 13"),
+    ("main() switch (a) { default: ; case 1: ; }", "syntax 11"),
+    ("main() switch (a) { default: ; default: ; }", "syntax 11"),
+    ("main() for (new const i = 0; ; ) ;", "syntax 6"),
+    ("main() for (static i; ; ) ;", "syntax 5"),
+    ("forward f() <a>;", "syntax 4"),
+    ("forward static f();", "syntax 1"),
+    ("f(_) { }", "syntax 3"),
+    ("f(T:_) { }", "syntax 4"),
+    ("const _ = 1", "syntax 2"),
+    ("stock stock a", "syntax 1"),
+    ("native f(&...)", "syntax 4"),
+    ("native f(..., a)", "syntax 4"),
 ];
 
 #[test]
@@ -100,6 +185,15 @@ fn sources(rt: HostRuntime) -> Result<(), Fail> {
     for (source, want) in TREES.iter().chain(&FAULTS) {
         let got = shown(rt.alloc(), *source)?;
         assert_eq!(rt; got.as_str(), *want, "{source}");
+    }
+    Ok(())
+}
+
+#[test]
+fn good(rt: HostRuntime) -> Result<(), Fail> {
+    for source in &GOOD {
+        let got = shown(rt.alloc(), *source)?;
+        assert!(rt; got.as_str().starts_with("tree"), "{source}");
     }
     Ok(())
 }

@@ -14,9 +14,10 @@ type Tower = (
 );
 
 /// Sources at the limits of brackets and of levels, and beyond them.
-const TOWERS: [Tower; 14] = [
+const TOWERS: [Tower; 15] = [
     ("main() return ", "(", "1", ")", 256, "tree 259 1"),
     ("main() return ", "(", "1", ")", 257, "deep 260"),
+    ("", "(", "", "", 257, "deep 256"),
     ("main() ", "{", "", "}", 256, "tree 257 1"),
     ("main() ", "{", "", "}", 257, "deep 259"),
     (") ] } main() ", "[", "", "]", 256, "syntax 0"),

@@ -126,7 +126,7 @@ impl<'a> Declarations<'a> {
         if self.reader.parser.is_name(name) {
             self.reader.parser.stuck(name + 1)
         } else {
-            self.reader.parser.stuck(name)
+            self.reader.nameless(at)
         }
     }
 

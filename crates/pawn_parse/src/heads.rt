@@ -54,7 +54,12 @@ impl<'a> Declarations<'a> {
     {
         let parser = self.reader.parser;
         if !parser.is_name(tags.stop) {
-            return Err(parser.stuck(tags.stop));
+            let tagged = !tags.tree.as_slice().is_empty();
+            return Err(if tagged {
+                parser.stuck(tags.stop)
+            } else {
+                self.reader.nameless(tags.stop)
+            });
         }
         let dims = self.reader.dims(tags.stop + 1)?;
         let value = self.value(dims.stop)?;

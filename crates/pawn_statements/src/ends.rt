@@ -1,6 +1,6 @@
-ghost use Rattle.std.specs.Prelude.{◌≡◌};
+ghost use Rattle.std.specs.Prelude.{◌≡◌, length};
 ghost use Rattle.pawn_grammar.specs.Ends as spec;
-ghost use Rattle.pawn_expressions.specs.Answers.{Answers};
+ghost use Rattle.pawn_expressions.specs.Answers.{Answers, IsStuck};
 
 use super::expressions::Reader;
 use pawn_expressions::ReadFault;
@@ -49,5 +49,17 @@ impl<'a> Reader<'a> {
             Some(stop) => Ok(stop),
             None => Err(self.parser.stuck(at)),
         }
+    }
+
+    /// That no tree goes on where a name should stand, behind a tag if one does. A lone `_` could
+    /// have been a tag.
+    pub fn nameless(&self, start: usize) -> ReadFault
+        ensures { IsStuck (length self.now.parser.tokens.now) result }
+    {
+        let at = self.parser.behind_tag(start);
+        if at == start && self.parser.is_blank(at) {
+            return self.parser.stuck(at + 1);
+        }
+        self.parser.stuck(at)
     }
 }

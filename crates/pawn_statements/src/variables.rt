@@ -109,7 +109,7 @@ impl<'a> Reader<'a> {
     {
         let at = self.parser.behind_tag(start);
         if !self.parser.is_name(at) {
-            return Err(self.parser.stuck(at));
+            return Err(self.nameless(start));
         }
         let dims = self.dims(at + 1)?;
         let value = self.first_value(dims.stop)?;
@@ -197,7 +197,7 @@ impl<'a> Reader<'a> {
     {
         let at = self.parser.behind_tag(start);
         if !self.parser.is_name(at) {
-            return Err(self.parser.stuck(at));
+            return Err(self.nameless(start));
         }
         let value = self.parser.expect(Sign::Assign, at + 1)?;
         let x = self.expression(true, 13, value)?;
