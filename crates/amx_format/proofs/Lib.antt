@@ -3,6 +3,7 @@ pub mod Determines
 pub mod Examples
 pub mod FileLaws
 pub mod HeaderLaws
+pub mod LimitLaws
 pub mod Numbers
 pub mod ReadLaws
 pub mod RowLaws

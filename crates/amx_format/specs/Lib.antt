@@ -2,6 +2,7 @@ pub mod Faults
 pub mod File
 pub mod Header
 pub mod Layout
+pub mod Limits
 pub mod Names
 pub mod Numbers
 pub mod Ranges

@@ -2,6 +2,7 @@
 use Rattle.std.specs.Prelude.{◌≡◌, ◌≢◌, ℕ, List, Result, Ok, Err}
 use Rattle.amx_ops.specs.declared.amx.Amx.{Amx}
 use Rattle.amx_ops.specs.declared.amx.Record.{Record}
+use Rattle.amx_ops.specs.Writable.{IsWritable}
 use Rattle.amx_format.specs.declared.encoding.Encoding.{Encoding}
 use Rattle.amx_format.specs.declared.fault.FormatFault.{FormatFault}
 use Rattle.amx_format.specs.declared.fault.FormatFault.TheVariants.{Memory}
@@ -20,3 +21,8 @@ abbrev pub WhatIsWrittenIsRead : Type 0
 WhatIsWrittenIsRead =
     (encoding : Encoding) (amx : Amx) (bytes : List ℕ) (it : IsWritten encoding amx bytes) (answer : Result Amx FormatFault) → Answers bytes answer
     → answer ≢ Err Memory → answer ≡ Ok (with_publics amx it.publics)
+
+-- what is written of an Amx whose publics are in the order of their names is its layout and its file
+abbrev pub SortedIsWrittenAsItIs : Type 0
+SortedIsWrittenAsItIs =
+    (encoding : Encoding) (amx : Amx) (bytes : List ℕ) → IsWritable amx → IsWritten encoding amx bytes → IsLayout encoding amx bytes × IsFile bytes amx

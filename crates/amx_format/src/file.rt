@@ -2,7 +2,8 @@ ghost use Rattle.std.specs.Prelude.{◌≡◌};
 ghost use Rattle.amx_ops.specs.declared.amx.Amx.{Amx};
 ghost use Rattle.amx_format.specs.Header.{header_of, is_compact};
 ghost use Rattle.amx_format.specs.File.{AFileIsOfOneAmx, IsFile};
-ghost use Rattle.amx_format.specs.Written.{WhatIsWrittenIsRead};
+ghost use Rattle.amx_format.specs.Sorts.{SortedTablesStay};
+ghost use Rattle.amx_format.specs.Written.{SortedIsWrittenAsItIs, WhatIsWrittenIsRead};
 
 use super::header::Header;
 
@@ -39,4 +40,11 @@ pub fn a_file_is_of_one_amx()
 /// What is written is read back, with its publics sorted.
 pub fn what_is_written_is_read()
     ensures { WhatIsWrittenIsRead }
+{}
+
+/// Publics in the order of their names are written as they are.
+#[tactic(auto, using(crate::proofs::SortLaws::sorted_tables_stay))]
+pub fn sorted_tables_stay()
+    ensures tables { SortedTablesStay }
+    ensures written { SortedIsWrittenAsItIs }
 {}

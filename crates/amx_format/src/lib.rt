@@ -14,6 +14,9 @@ mod writer;
 
 pub use encoding::Encoding;
 pub use fault::FormatFault;
-pub use file::{a_file_is_of_one_amx, code_place, file_size, is_compact, what_is_written_is_read};
+pub use file::{
+    a_file_is_of_one_amx, code_place, file_size, is_compact, sorted_tables_stay,
+    what_is_written_is_read,
+};
 pub use reader::read;
 pub use writer::write;

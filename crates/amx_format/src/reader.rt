@@ -6,6 +6,7 @@ ghost use Rattle.amx_format.specs.Numbers.{word_at, cell_at, cells_at};
 ghost use Rattle.amx_format.specs.Names.{name_from, record_at, records_at, table_at};
 ghost use Rattle.amx_format.specs.Faults.{HasCellFault, row_of};
 ghost use Rattle.amx_format.specs.File.{HasCells, IsFile, Answers};
+ghost use Rattle.amx_format.specs.Limits.{IsWithinLimits};
 
 use super::check::check;
 use super::fault::FormatFault;
@@ -142,6 +143,9 @@ pub fn read(alloc: Global, bytes: &[u8]) -> Result<Amx, FormatFault>
     // There is no other answer, but want of memory.
     ensures only { (answer : Result Amx FormatFault) → Answers bytes.now answer →
         answer ≢ Err FormatFault.Memory → result ≢ Err FormatFault.Memory → result ≡ answer }
+
+    // It can be verified, and fits a machine.
+    ensures limits { IfOk result IsWithinLimits }
 {
     read_file(alloc, bytes)
 }

@@ -9,11 +9,10 @@ use Rattle.host_script.proofs.PlainLaws.{plain_is_script}
 use Rattle.pawn_program.specs.Program.{Program, Public}
 use Rattle.pawn_meaning.specs.Told.{Told, meaning}
 use Rattle.amx_ops.specs.declared.amx.Amx.{Amx}
-use Rattle.amx_ops.specs.declared.amx.Record.{Record}
 use Rattle.amx_ops.specs.Writable.{IsWritable}
 use Rattle.amx_ops.specs.Trace.{Main, address_of, trace_from}
 use Rattle.gen_agrees.specs.Agrees.{IsRoom, function_of}
-use Rattle.gen_agrees.specs.Shape.{HasEntry, names}
+use Rattle.gen_agrees.specs.Shape.{HasEntry}
 use Rattle.gen_agrees.specs.Gives.{HasEnough, EndsAs}
 use Rattle.gen_agrees.proofs.GivesLaws.{what_agreement_gives_lem}
 use Rattle.straight_source.specs.EndsSoon.{EndsSoon}
@@ -24,11 +23,6 @@ use Rattle.pawn_cli.specs.Reply.{step_limit}
 -- code of few cells needs few steps where there is no turn
 few_steps : (cells turns : ℕ) → cells ≤ 1600122 → turns ≡ 0 → cells * (turns + 1) ≤ step_limit
 few_steps cells turns few none = rw none (omega (arith, few))
-
--- a table without names is empty
-nameless : (records : List Record) → names records ≡ [] → records ≡ []
-nameless [] none = refl
-nameless (it ∷ records) none = absurd (cc none)
 
 module _ {source : List ℕ} {amx : Amx} (it : HasFile source amx) where
   pub main_entry : function_of it.program Main ≡ Some 0
@@ -74,7 +68,3 @@ module _ {source : List ℕ} {amx : Amx} (it : HasFile source amx) where
   pub ends : EndsAs told soon.end (trace_from amx 4096 plain amx.entry step_limit [])
   ends = what_agreement_gives_lem it.program amx it.agrees plain 4096 Main 0 amx.entry step_limit []
       plain_is_script (inl refl) within main_entry main_address 0 soon.end enough
-
-  pub no_publics : amx.publics ≡ []
-  no_publics =
-      nameless amx.publics (it.agrees.shape.publics ∙ ap (λ (p : Program). map (λ (it : Public). it.name) p.publics) it.means.program_is)

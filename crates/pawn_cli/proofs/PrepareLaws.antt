@@ -14,7 +14,7 @@ use Rattle.amx_format.specs.File.{IsFile}
 use Rattle.amx_format.specs.declared.encoding.Encoding.TheVariants.{Plain}
 use Rattle.amx_format.specs.Written.{IsWritten}
 use Rattle.amx_format.proofs.Determines.{file_determines}
-use Rattle.amx_format.proofs.SortLaws.{file_without}
+use Rattle.amx_format.proofs.SortLaws.{written_sorted}
 use Rattle.pawn_cli.specs.declared.stop.StopEarly.{StopEarly}
 use Rattle.pawn_cli.specs.declared.stop.StopEarly.TheVariants.{Refused, NoFile, TooLarge, FileFault, NoMemory}
 use Rattle.pawn_cli.specs.Command.{Command}
@@ -22,7 +22,7 @@ use Rattle.pawn_cli.specs.Compiled.{HasFile}
 use Rattle.pawn_cli.specs.Put.{IsBytesOf, IsStarted}
 use Rattle.pawn_cli.specs.Ready.{IsPrepared}
 use Rattle.pawn_cli.specs.Reply.{Met, Reads, source_limit}
-use Rattle.pawn_cli.proofs.FileLaws.{room_is, writable, no_publics}
+use Rattle.pawn_cli.proofs.FileLaws.{room_is, writable}
 
 -- a put changes no other file
 same_by : (b : Bool) (o : Option (List ℕ)) (bytes : List ℕ)
@@ -44,7 +44,7 @@ without-with_put (Some map) name bytes = ap Some (same_map nat_list_cmp_total
 
 -- what was written is the file of the source
 pub bytes_are : (source bytes : List ℕ) (amx : Amx) → HasFile source amx → IsWritten Plain amx bytes → IsBytesOf source bytes
-bytes_are source bytes amx has it = record { amx = amx; compiled = has; file = file_without amx (no_publics has) Plain bytes it }
+bytes_are source bytes amx has it = record { amx = amx; compiled = has; file = (written_sorted Plain amx bytes (writable has) it).1 }
 
 -- what was read is the file of the source
 module _ {bytes : List ℕ} (given : (source : List ℕ)

@@ -1,0 +1,8 @@
+-- What the Amx of a file keeps, so that it can be verified and fits a machine.
+use Rattle.std.specs.Prelude.{◌+◌, ◌^◌, ◌<◌, ◌≤◌, length}
+use Rattle.amx_ops.specs.declared.amx.Amx.{Amx}
+
+pub record IsWithinLimits (amx : Amx) : Type 0 where
+  pub memory : length amx.code + length amx.store + amx.room ≤ 33554432
+  pub publics : length amx.publics < 2 ^ 31
+  pub natives : length amx.natives < 2 ^ 31

@@ -1,0 +1,15 @@
+//! Tests of files: their bytes, the verifier and the listing, by their public calls.
+#![tactic(auto)]
+
+#[cfg(test)]
+mod base;
+#[cfg(test)]
+mod large;
+#[cfg(test)]
+mod listings;
+#[cfg(test)]
+mod reading;
+#[cfg(test)]
+mod verdicts;
+#[cfg(test)]
+mod writing;
