@@ -1,3 +1,5 @@
+pub mod Hosting
+pub mod Lending
 pub mod Machine
 pub mod Parts
 pub mod Turns

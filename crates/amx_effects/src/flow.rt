@@ -127,7 +127,7 @@ impl<'v> Core<'v> {
     }
 
     /// Makes the cells between heap and stack 0.
-    pub(crate) fn sweep(&mut self)
+    pub fn sweep(&mut self)
         ensures { self.new ≡ record self.old { state = state.swept self.old.state } }
     {
         let count = (self.stk - self.hea) / 4;

@@ -6,6 +6,7 @@ mod bytes;
 mod cases;
 mod error;
 mod flow;
+mod host;
 mod load;
 mod parts;
 mod registers;
@@ -13,5 +14,6 @@ mod set;
 mod stack;
 mod turn;
 
+pub use host::Registers;
 pub use registers::Core;
 pub use turn::Turn;

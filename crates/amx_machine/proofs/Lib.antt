@@ -1,4 +1,3 @@
-pub mod Firsts
-pub mod RowLaws
+pub mod RestLaws
 pub mod RunLaws
-pub mod StepLaws
+pub mod SleepLaws

@@ -1,49 +1,68 @@
--- Steps, one after the other.
-use Rattle.std.proofs.Common.{◌≡◌, ◌+◌, ◌-◌, ◌<◌, ◌≤◌, ℕ, suc, ℤ, refl, sym, ap, ◌∙◌, arith}
-use Rattle.amx_ops.specs.State.{Turned, Goes, Errs, Halts, Asks}
-use Rattle.amx_ops.specs.Step.{step}
-use Rattle.amx_effects.specs.Machine.{Machine}
-use Rattle.amx_effects.specs.Turns.{IsTurn}
+-- Runs of a machine by the runs of its core.
+use Rattle.std.proofs.Common.{◌≡◌, ◌==◌, ℕ, ℤ, pos, Option, None, Some, Bool, true, false, if◌then◌else◌, refl, sym, ap, ◌∙◌}
+use Rattle.std.proofs.lemmas.Bool.{false≢true}
+use Rattle.amx_ops.specs.declared.amx.Amx.{Amx}
+use Rattle.amx_ops.specs.Table.{is_number}
+use Rattle.amx_ops.specs.State.{State}
+use Rattle.amx_effects.specs.declared.turn.Turn.{Turn}
 use Rattle.amx_effects.specs.declared.turn.Turn.TheVariants as turn
-use Rattle.amx_machine.specs.Runs.{Ran, runs, with_state}
+use Rattle.amx_steps.specs.Runs.{runs}
+use Rattle.amx_steps.specs.Runs as steps
+use Rattle.amx_machine.specs.declared.event.Event.{Event}
+use Rattle.amx_machine.specs.declared.event.Event.TheVariants as event
+use Rattle.amx_machine.specs.declared.mode.Mode.{Mode}
+use Rattle.amx_machine.specs.declared.mode.Mode.TheVariants as mode
+use Rattle.amx_machine.specs.Machine.{Machine, in_mode, resting, IsIdle, IsSteady}
+use Rattle.amx_machine.specs.Runs.{Ran, asleep_or, mode_behind, event_of, ran_by, stays, last_event, again_or, core_of, ran, Follows}
 
-abbrev after : ℕ → ℕ → Machine → Turned → Ran
-after n so_far m t = elim t [
-  | Goes s ↦ runs n (so_far + 1) (with_state m s)
-  | Errs e ↦ record { steps = so_far + 1; turn = turn.Errs e; machine = m }
-  | Halts v s ↦ record { steps = so_far + 1; turn = turn.Halts v; machine = with_state m s }
-  | Asks native s ↦ record { steps = so_far + 1; turn = turn.Asks native; machine = with_state m s }
-]
+-- an idle machine isn't at a sleep
+pub idle_rests : (m : Mode) (s : State) → IsIdle m → resting m s ≡ s
+idle_rests mode.Loaded s i = refl
+idle_rests mode.Running s i = refl
+idle_rests mode.Asleep s i = absurd i
+idle_rests mode.Waiting s i = refl
+idle_rests (mode.Halted code) s i = refl
+idle_rests (mode.Failed code) s i = refl
 
-one : (n so_far : ℕ) (m : Machine) → runs (suc n) so_far m ≡ after n so_far m (step m.amx m.state)
-unfolding runs
-one n so_far m = refl
+-- ---- what may follow
 
-kept : (old new : Machine) → new.amx ≡ old.amx → with_state old new.state ≡ new
-kept old new e = ap (λ amx. record { amx = amx; state = new.state }) (sym e)
+halt_follows : (b : Bool) (code : ℤ) → is_number 12 code ≡ b → IsSteady (asleep_or b code) × (code ≡ pos 0 → IsIdle (asleep_or b code))
+halt_follows true code e = (tt, λ zero. absurd (false≢true (ap (is_number 12) (sym zero) ∙ e)))
+halt_follows false code e = (tt, λ zero. zero)
 
-pub none_left : (n i : ℕ) (m : Machine) (whole : Ran) → n ≤ i → i ≤ n → runs (n - i) i m ≡ whole → record { steps = n; turn = turn.Goes; machine = m } ≡ whole
-unfolding runs
-none_left n i m whole h l so_far =
-    let z : n - i ≡ 0 = omega (arith, h) in
-    let e : n ≡ i = omega (arith, h, l) in
-    ap (λ s. record { steps = s; turn = turn.Goes; machine = m }) e ∙ sym (ap (λ k. runs k i m) z) ∙ so_far
+turn_follows : (t : Turn) (s : State) → Follows (event_of t s) (mode_behind t)
+turn_follows turn.Goes s = tt
+turn_follows (turn.Errs code) s = tt
+turn_follows (turn.Halts code) s = halt_follows (is_number 12 code) code refl
+turn_follows (turn.Asks native) s = refl
 
-module _ (n i : ℕ) (m new : Machine) (whole : Ran) (h : i < n) (so_far : runs (n - i) i m ≡ whole) where
-  left : n - i ≡ suc (n - (i + 1))
-  left = omega (arith, h)
+again_follows : (amx : Amx) (s : State) (m : Mode) (r : Ran) → IsSteady m → Follows r.event r.machine.mode
+    → let it : Machine = record { amx = amx; state = s; mode = m } in
+    Follows (again_or (last_event it) r it).event (again_or (last_event it) r it).machine.mode
+again_follows amx s mode.Loaded r i f = f
+again_follows amx s mode.Running r i f = f
+again_follows amx s mode.Asleep r i f = f
+again_follows amx s mode.Waiting r i f = f
+again_follows amx s (mode.Halted code) r i f = (tt, λ zero. zero)
+again_follows amx s (mode.Failed code) r i f = tt
 
-  next : (t : Turned) → step m.amx m.state ≡ t → after (n - (i + 1)) i m t ≡ whole
-  next t e = ap (after (n - (i + 1)) i m) (sym e) ∙ sym (one (n - (i + 1)) i m) ∙ sym (ap (λ k. runs k i m) left) ∙ so_far
+bound_follows : (b : Bool) (m : Machine) (r : steps.Ran) → IsSteady m.mode
+    → Follows (if b then stays event.Going m else ran_by r).event (if b then stays event.Going m else ran_by r).machine.mode
+bound_follows true m r i = i
+bound_follows false m r i = turn_follows r.turn r.machine.state
 
-  pub goes : IsTurn (step m.amx m.state) m turn.Goes new → runs (n - (i + 1)) (i + 1) new ≡ whole
-  goes t = ap (runs (n - (i + 1)) (i + 1)) (sym (kept m new t.1)) ∙ next (Goes new.state) t.0
+pub ran_follows : (n : ℕ) (m : Machine) → IsSteady m.mode → Follows (ran n m).event (ran n m).machine.mode
+ran_follows n m i =
+    again_follows m.amx m.state m.mode (if n == 0 then stays event.Going m else ran_by (runs n 0 (core_of m))) i
+    (bound_follows (n == 0) m (runs n 0 (core_of m)) i)
 
-  pub errs : (e : ℤ) → IsTurn (step m.amx m.state) m (turn.Errs e) new → record { steps = i + 1; turn = turn.Errs e; machine = new } ≡ whole
-  errs e t = ap (λ x. record { steps = i + 1; turn = turn.Errs e; machine = x }) t.1 ∙ next (Errs e) t.0
+-- ---- the three ways of a run
 
-  pub halts : (v : ℤ) → IsTurn (step m.amx m.state) m (turn.Halts v) new → record { steps = i + 1; turn = turn.Halts v; machine = new } ≡ whole
-  halts v t = ap (λ x. record { steps = i + 1; turn = turn.Halts v; machine = x }) (sym (kept m new t.1)) ∙ next (Halts v new.state) t.0
+pub ended : (n : ℕ) (m : Machine) (e : Event) → Some e ≡ last_event m → stays e m ≡ ran n m
+ended n m e last = rw (← last) refl
 
-  pub asks : (native : ℕ) → IsTurn (step m.amx m.state) m (turn.Asks native) new → record { steps = i + 1; turn = turn.Asks native; machine = new } ≡ whole
-  asks native t = ap (λ x. record { steps = i + 1; turn = turn.Asks native; machine = x }) (sym (kept m new t.1)) ∙ next (Asks native new.state) t.0
+pub without_steps : (n : ℕ) (m : Machine) → None ≡ last_event m → n ≡ 0 → stays event.Going m ≡ ran n m
+without_steps n m last none = rw (← last, none) refl
+
+pub with_steps : (n : ℕ) (m : Machine) (r : steps.Ran) → None ≡ last_event m → (n == 0) ≡ false → r ≡ runs n 0 (core_of m) → ran_by r ≡ ran n m
+with_steps n m r last some e = rw (← last, some) (ap ran_by e)

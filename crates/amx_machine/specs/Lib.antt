@@ -1,3 +1,3 @@
-pub mod Done
-pub mod Groups
+pub mod Machine
 pub mod Runs
+pub mod Starts

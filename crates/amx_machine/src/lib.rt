@@ -1,14 +1,13 @@
-//! The abstract machine: one step of each instruction, and runs of so many steps.
+//! The machine of a file as a host runs it: started, stepped, asked by its natives, and asleep.
 #![tactic(auto)]
 
-mod arithmetic;
-mod calls;
-mod host;
-mod loads;
-mod runs;
-mod stores;
-mod testing;
-mod turns;
+mod event;
+mod machine;
+mod memory;
+mod mode;
+mod start;
 
-pub use runs::run;
-pub use turns::step;
+pub use amx_effects::Registers;
+pub use event::Event;
+pub use machine::Machine;
+pub use start::StartFault;

@@ -1,0 +1,11 @@
+-- What a machine ends as, once a part of its memory that was lent is given back.
+use Rattle.std.specs.Prelude.{ℕ, ℤ, List, []}
+use mir.Syntax.{named}
+use Rattle.std.specs.Borrow.{Lends, MutBor, Fml, Array, i32}
+use Rattle.amx_effects.specs.Machine.{Machine}
+use Rattle.amx_effects.specs.Hosting.{with_live}
+use Rattle.amx_effects.specs.contracts.registers.Core.{the_row}
+
+abbrev pub LendsLive : MutBor Machine → ℕ → MutBor (List ℤ) → Fml
+LendsLive m at part =
+    Lends (the_row (record { mir = named 1; lft = [] })) (Array i32 0) m part (λ new. record m.now { state = with_live m.now.state at new })

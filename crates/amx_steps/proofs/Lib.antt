@@ -1,0 +1,4 @@
+pub mod Firsts
+pub mod RowLaws
+pub mod RunLaws
+pub mod StepLaws
