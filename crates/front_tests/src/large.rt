@@ -1,6 +1,6 @@
-use super::shown::{run, shown};
+use super::shown::{comes_to, files_of, run};
+use pawn_base::{Bytes, Memory};
 use pawn_outside::MemoryFiles;
-use pawn_pre::preprocess;
 use std::alloc::Global;
 use std::test::Fail;
 
@@ -53,60 +53,98 @@ const LARGE: [Case; 14] = [
 ];
 
 /// Puts a part at the end so many times.
-fn push_times(text: &mut String, part: &str, count: u32) -> Result<(), Fail> {
+fn append_times(text: &mut Bytes, part: &str, count: u32) -> Result<(), Memory> {
     for _ in 0..count {
-        text.push_str(part)?;
+        text.append(part.as_bytes())?;
     }
     Ok(())
+}
+
+/// The source of a case.
+fn source_of(alloc: Global, case: &Case) -> Result<Bytes, Memory> {
+    let (front, part, middle, other, count, _) = case;
+    let mut source = Bytes::from_slice(alloc, front.as_bytes())?;
+    append_times(&mut source, *part, *count)?;
+    source.append(middle.as_bytes())?;
+    append_times(&mut source, *other, *count)?;
+    Ok(source)
+}
+
+/// Whether what a source comes to begins so.
+fn begins_so(alloc: Global, case: &Case) -> Result<bool, Memory> {
+    let source = source_of(alloc, case)?;
+    let mut files = MemoryFiles::new(alloc, &[])?;
+    files.hold("s.p", source.as_slice())?;
+    let got = run(alloc, "s.p", &mut files)?;
+    Ok(got.as_slice().starts_with(case.5.as_bytes()))
+}
+
+fn cases() -> &'static [Case] {
+    &LARGE
+}
+
+/// The number of the first row that is wrong.
+fn first_wrong(alloc: Global) -> Result<Option<usize>, Memory> {
+    for (row, case) in cases().iter().enumerate() {
+        if !begins_so(alloc, case)? {
+            return Ok(Some(row));
+        }
+    }
+    Ok(None)
 }
 
 #[test]
 fn large(rt: HostRuntime) -> Result<(), Fail> {
-    for (front, part, middle, other, count, want) in &LARGE {
-        let mut source = String::from_str(rt.alloc(), *front)?;
-        push_times(&mut source, *part, *count)?;
-        source.push_str(*middle)?;
-        push_times(&mut source, *other, *count)?;
-        let got = run(rt.alloc(), source.as_str(), &[])?;
-        assert!(rt; got.as_str().starts_with(*want), "{front} {part} {count}");
-    }
+    assert_eq!(rt; first_wrong(rt.alloc())?, None);
     Ok(())
 }
 
-/// What a source comes to beside a file that is too large.
-fn beside_large(alloc: Global, source: &str) -> Result<String, Fail> {
-    let mut files = MemoryFiles::new(alloc, &[])?;
+/// Sources beside a file that is too large, what they come to, and the calls that are made.
+const BESIDE_LARGE: [(&str, &str, u64); 3] = [
+    ("#include q\n#error", "too large q.inc", 2),
+    ("#include q /*", "fault 12 0:1 s.p", 1),
+    ("#error\n#include q", "fault 4 0:1 s.p", 1),
+];
+
+/// Whether each source is read so beside a file of one byte too many.
+fn are_read_beside_large(alloc: Global) -> Result<bool, Memory> {
     let large = vec![in alloc; b'x'; 16_777_217usize]?;
-    files.hold("q.inc", large.as_slice())?;
-    files.hold("s.p", source.as_bytes())?;
-    shown(alloc, preprocess(alloc, "s.p", &mut files))
+    for (source, want, calls) in &BESIDE_LARGE {
+        let mut files = files_of(alloc, &[("s.p", *source)])?;
+        files.hold("q.inc", large.as_slice())?;
+        if !comes_to(alloc, &mut files, *want, *calls)? {
+            return Ok(false);
+        }
+    }
+    Ok(true)
 }
 
 #[test]
 fn large_files(rt: HostRuntime) -> Result<(), Fail> {
-    for (source, want) in [
-        ("#include q\n#error", "too large q.inc"),
-        ("#include q /*", "fault 12 0:1 s.p"),
-        ("#error\n#include q", "fault 4 0:1 s.p"),
-    ] {
-        let got = beside_large(rt.alloc(), source)?;
-        assert_eq!(rt; got.as_str(), want, "{source}");
-    }
+    assert!(rt; are_read_beside_large(rt.alloc())?);
     Ok(())
+}
+
+/// A name of 300 bytes.
+fn long_name(alloc: Global) -> Result<String, Memory> {
+    let mut name = String::new(alloc);
+    for _ in 0..30 {
+        name.push_str("abcdefghi/")?;
+    }
+    Ok(name)
+}
+
+/// Whether a fault names a source whose name is long.
+fn is_named(alloc: Global) -> Result<bool, Memory> {
+    let name = long_name(alloc)?;
+    let mut files = files_of(alloc, &[(name.as_str(), "x\n#error")])?;
+    let got = run(alloc, name.as_str(), &mut files)?;
+    let front = b"fault 4 0:2 abcdefghi/abcdefghi/";
+    Ok(got.as_slice().starts_with(front.as_slice()) && got.len() == 312)
 }
 
 #[test]
 fn long_names(rt: HostRuntime) -> Result<(), Fail> {
-    // A source whose name has 300 bytes.
-    let mut name = String::new(rt.alloc());
-    push_times(&mut name, "abcdefghi/", 30)?;
-    let mut files = MemoryFiles::new(rt.alloc(), &[])?;
-    files.hold(name.as_str(), b"x\n#error")?;
-    let got = shown(
-        rt.alloc(),
-        preprocess(rt.alloc(), name.as_str(), &mut files),
-    )?;
-    assert!(rt; got.as_str().starts_with("fault 4 0:2 abcdefghi/abcdefghi/"));
-    assert_eq!(rt; got.as_str().len(), 312);
+    assert!(rt; is_named(rt.alloc())?);
     Ok(())
 }

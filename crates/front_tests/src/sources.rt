@@ -1,4 +1,6 @@
-use super::shown::run;
+use super::shown::{files_of, run, same};
+use pawn_base::Memory;
+use std::alloc::Global;
 use std::test::Fail;
 
 /// Sources, and what they come to.
@@ -134,11 +136,29 @@ const SOURCES: [(&str, &str); 78] = [
     ("#pragma tabsize\nx", "0:2 x|"),
 ];
 
+/// Whether a source comes to this text.
+fn is_read_as(alloc: Global, source: &str, want: &str) -> Result<bool, Memory> {
+    let mut files = files_of(alloc, &[("s.p", source)])?;
+    let got = run(alloc, "s.p", &mut files)?;
+    Ok(same(got.as_slice(), want.as_bytes()))
+}
+
+fn cases() -> &'static [(&'static str, &'static str)] {
+    &SOURCES
+}
+
+/// The number of the first row that is wrong.
+fn first_wrong(alloc: Global) -> Result<Option<usize>, Memory> {
+    for (row, (source, want)) in cases().iter().enumerate() {
+        if !is_read_as(alloc, *source, *want)? {
+            return Ok(Some(row));
+        }
+    }
+    Ok(None)
+}
+
 #[test]
 fn sources(rt: HostRuntime) -> Result<(), Fail> {
-    for (source, want) in &SOURCES {
-        let got = run(rt.alloc(), *source, &[])?;
-        assert_eq!(rt; got.as_str(), *want, "{source}");
-    }
+    assert_eq!(rt; first_wrong(rt.alloc())?, None);
     Ok(())
 }

@@ -1,77 +1,95 @@
-use pawn_base::{Bytes, List};
+use super::shown::{put_number, put_place, same};
+use itoa::Buffer;
+use pawn_base::{Bytes, List, Memory};
 use pawn_cells::Place;
 use pawn_condition::value_of;
 use pawn_lex::{Key, LexFault, Line, Lines, Sign, TokenKind, Tokens, key_of, tokens};
 use std::alloc::Global;
 use std::test::Fail;
 
-const LINE: Place = Place { file: 0, line: 7 };
-
-/// One line without strictness, after another that is empty.
-fn read(
+/// A line in the first file.
+fn line_of(
     alloc: Global,
     source: &[u8],
     ctrl: u8,
     packed: bool,
-) -> Result<Result<Tokens, LexFault>, Fail> {
+    strict: bool,
+) -> Result<Line, Memory> {
+    let bytes = Bytes::from_slice(alloc, source)?;
+    let place = Place { file: 0, line: 7 };
+    Ok(Line {
+        place,
+        ctrl,
+        strict,
+        packed,
+        bytes,
+    })
+}
+
+/// The tokens of two lines.
+fn tokens_of(alloc: Global, first: Line, second: Line) -> Result<Result<Tokens, LexFault>, Memory> {
     let mut lines = List::new(alloc);
-    for bytes in [b"".as_slice(), source] {
-        let bytes = Bytes::from_slice(alloc, bytes)?;
-        lines.push(Line {
-            place: LINE,
-            ctrl,
-            strict: false,
-            packed,
-            bytes,
-        })?;
-    }
-    let files = List::new(alloc);
+    lines.push(first)?;
+    lines.push(second)?;
     let lines = Lines {
         lines,
-        files,
+        files: List::new(alloc),
         dynamic: 0,
     };
     Ok(tokens(alloc, &lines))
 }
 
-/// What a token is, as text.
-fn describe(alloc: Global, kind: &TokenKind, out: &mut Bytes) -> Result<(), Fail> {
+/// Puts bytes behind a word.
+fn put_behind(out: &mut Bytes, word: &[u8], bytes: &[u8]) -> Result<(), Memory> {
+    out.append(word)?;
+    out.append(bytes)
+}
+
+/// Puts what a token is.
+fn put_kind(out: &mut Bytes, kind: &TokenKind) -> Result<(), Memory> {
     match kind {
-        TokenKind::Name(name) => {
-            out.append(b"name:")?;
-            out.append(name.as_slice())?;
-        }
-        TokenKind::Key(key) => {
-            out.append(b"key:")?;
-            out.append(key.spelling())?;
-        }
+        TokenKind::Name(name) => put_behind(out, b"name:", name.as_slice()),
+        TokenKind::Key(key) => put_behind(out, b"key:", key.spelling()),
         TokenKind::Number(number) => {
-            out.append(b"number:")?;
-            out.append(format!(in alloc; "{number}")?.as_bytes())?;
+            put_behind(out, b"number:", Buffer::new().format(*number).as_bytes())
         }
         TokenKind::Text { bytes, packed } => {
             out.append(if *packed { b"packed:" } else { b"text:" })?;
-            out.append(bytes.as_slice())?;
+            out.append(bytes.as_slice())
         }
-        TokenKind::Sign(sign) => out.append(sign.spelling())?,
+        TokenKind::Sign(sign) => out.append(sign.spelling()),
+    }
+}
+
+/// Puts each token before a blank.
+fn put_tokens(out: &mut Bytes, tokens: &Tokens) -> Result<(), Memory> {
+    for token in tokens.list.as_slice() {
+        put_kind(out, &token.kind)?;
+        out.push(b' ')?;
     }
     Ok(())
 }
 
-/// The tokens of a line, or its fault, as text.
-fn describe_all(alloc: Global, source: &[u8], ctrl: u8, packed: bool) -> Result<Bytes, Fail> {
+/// Puts a fault and its place.
+fn put_fault(out: &mut Bytes, fault: LexFault) -> Result<(), Memory> {
+    match fault {
+        LexFault::Source { kind, place } => {
+            out.append(b"fault ")?;
+            put_number(out, kind as u64, b' ')?;
+            put_place(out, place)
+        }
+        LexFault::Memory => out.append(b"no memory"),
+    }
+}
+
+/// The tokens of a line behind an empty one, or its fault.
+fn shown(alloc: Global, source: &[u8], ctrl: u8, packed: bool) -> Result<Bytes, Memory> {
+    let empty = line_of(alloc, b"", ctrl, packed, false)?;
+    let line = line_of(alloc, source, ctrl, packed, false)?;
     let mut out = Bytes::new(alloc);
-    match read(alloc, source, ctrl, packed)? {
-        Ok(tokens) => {
-            for token in tokens.list.as_slice() {
-                describe(alloc, &token.kind, &mut out)?;
-                out.push(b' ')?;
-            }
-        }
-        Err(LexFault::Source { kind, place }) => {
-            out.append(format!(in alloc; "fault {kind} line {}", place.line)?.as_bytes())?;
-        }
-        Err(LexFault::Memory) => out.append(b"no memory")?,
+    match tokens_of(alloc, empty, line)? {
+        Ok(tokens) => put_tokens(&mut out, &tokens)?,
+        Err(fault) => put_fault(&mut out, fault)?,
     }
     Ok(out)
 }
@@ -129,7 +147,7 @@ const GOOD: [(&[u8], &[u8]); 36] = [
     (b"\"\\0065\\65;\\x41;\\66\"", b"text:AAAB "),
     (b"\"\\n;\"", b"text:\n; "),
     (b"\"\\65;;\"", b"text:A; "),
-    (b"\"\\xg\"", b"fault 26 line 7"),
+    (b"\"\\xg\"", b"fault 26 0:7 "),
     (b"\"a\nb\"", b"text:a\nb "),
     (b"\"\\255\\000\"", b"text:\xff\x00 "),
 ];
@@ -182,15 +200,15 @@ const BAD: [(&[u8], u8); 40] = [
 const SETTINGS: [(&[u8], u8, bool, &[u8]); 11] = [
     (b"\"a\" !\"b\"", b'\\', true, b"packed:a text:b "),
     (b"\"\\n^n\"", b'^', false, b"text:\\n\n "),
-    (b"\"a\"", b'"', false, b"fault 26 line 7"),
-    (b"\"a", b'"', false, b"fault 23 line 7"),
+    (b"\"a\"", b'"', false, b"fault 26 0:7 "),
+    (b"\"a", b'"', false, b"fault 23 0:7 "),
     (b"'aa'", b'a', false, b"number:7 "),
     (b"'55'", b'5', false, b"number:53 "),
     (b"'xx'", b'x', false, b"number:120 "),
-    (b"'a'", b'\'', false, b"fault 23 line 7"),
-    (b"'''' a", b'\'', false, b"fault 23 line 7"),
-    (b"''n'", b'\'', false, b"fault 23 line 7"),
-    (b"''''", b'\'', false, b"fault 23 line 7"),
+    (b"'a'", b'\'', false, b"fault 23 0:7 "),
+    (b"'''' a", b'\'', false, b"fault 23 0:7 "),
+    (b"''n'", b'\'', false, b"fault 23 0:7 "),
+    (b"''''", b'\'', false, b"fault 23 0:7 "),
 ];
 
 /// Conditions under a control character, and their values.
@@ -216,99 +234,148 @@ const CONDITIONS: [(&[u8], u8, Option<i32>); 19] = [
     (b"''''", b'\'', None),
 ];
 
+fn good() -> &'static [(&'static [u8], &'static [u8])] {
+    &GOOD
+}
+
+/// The number of the first line that has other tokens.
+fn first_with_others(alloc: Global) -> Result<Option<usize>, Memory> {
+    for (row, (source, want)) in good().iter().enumerate() {
+        if !same(shown(alloc, *source, b'\\', false)?.as_slice(), *want) {
+            return Ok(Some(row));
+        }
+    }
+    Ok(None)
+}
+
 #[test]
 fn lines_have_tokens(rt: HostRuntime) -> Result<(), Fail> {
-    for (source, wanted) in GOOD {
-        let told = describe_all(rt.alloc(), source, b'\\', false)?;
-        assert_eq!(rt; told.as_slice(), wanted);
-    }
+    assert_eq!(rt; first_with_others(rt.alloc())?, None);
     Ok(())
+}
+
+/// Whether a line has this fault, in its place.
+fn is_fault(alloc: Global, source: &[u8], kind: u8) -> Result<bool, Memory> {
+    let mut want = Bytes::new(alloc);
+    let place = Place { file: 0, line: 7 };
+    put_fault(&mut want, LexFault::Source { kind, place })?;
+    let got = shown(alloc, source, b'\\', false)?;
+    Ok(same(got.as_slice(), want.as_slice()))
+}
+
+fn bad() -> &'static [(&'static [u8], u8)] {
+    &BAD
+}
+
+/// The number of the first line that has another fault.
+fn first_without_fault(alloc: Global) -> Result<Option<usize>, Memory> {
+    for (row, (source, kind)) in bad().iter().enumerate() {
+        if !is_fault(alloc, *source, *kind)? {
+            return Ok(Some(row));
+        }
+    }
+    Ok(None)
 }
 
 #[test]
 fn lines_have_faults(rt: HostRuntime) -> Result<(), Fail> {
-    for (source, kind) in BAD {
-        let told = read(rt.alloc(), source, b'\\', false)?;
-        let place = LINE;
-        assert_eq!(rt; told.err(), Some(LexFault::Source { kind, place }));
-    }
+    assert_eq!(rt; first_without_fault(rt.alloc())?, None);
     Ok(())
+}
+
+/// A line, its control character, whether it is packed, and its tokens.
+type Setting = (&'static [u8], u8, bool, &'static [u8]);
+
+fn settings() -> &'static [Setting] {
+    &SETTINGS
+}
+
+/// The number of the first setting under which a line has other tokens.
+fn first_unlike(alloc: Global) -> Result<Option<usize>, Memory> {
+    for (row, (source, ctrl, packed, want)) in settings().iter().enumerate() {
+        if !same(shown(alloc, *source, *ctrl, *packed)?.as_slice(), *want) {
+            return Ok(Some(row));
+        }
+    }
+    Ok(None)
 }
 
 #[test]
 fn settings_of_a_line(rt: HostRuntime) -> Result<(), Fail> {
-    for (source, ctrl, packed, wanted) in SETTINGS {
-        let told = describe_all(rt.alloc(), source, ctrl, packed)?;
-        assert_eq!(rt; told.as_slice(), wanted);
-    }
+    assert_eq!(rt; first_unlike(rt.alloc())?, None);
     Ok(())
+}
+
+/// A condition, its control character, and its value.
+type Condition = (&'static [u8], u8, Option<i32>);
+
+fn conditions() -> &'static [Condition] {
+    &CONDITIONS
+}
+
+/// The number of the first condition that has another value.
+fn first_with_other_value(alloc: Global) -> Result<Option<usize>, Memory> {
+    for (row, (text, control, want)) in conditions().iter().enumerate() {
+        if value_of(alloc, *control, *text)? != *want {
+            return Ok(Some(row));
+        }
+    }
+    Ok(None)
 }
 
 #[test]
 fn conditions_have_values(rt: HostRuntime) -> Result<(), Fail> {
-    for (text, control, wanted) in CONDITIONS {
-        assert_eq!(rt; value_of(rt.alloc(), control, text)?, wanted);
-    }
+    assert_eq!(rt; first_with_other_value(rt.alloc())?, None);
     Ok(())
 }
 
 /// The tokens of two lines, of which the second is strict.
-fn two_lines(alloc: Global) -> Result<Tokens, Fail> {
-    let mut lines = List::new(alloc);
-    for (strict, source) in [
-        (false, b"  a+ while".as_slice()),
-        (true, b"!\"c\"_".as_slice()),
-    ] {
-        let bytes = Bytes::from_slice(alloc, source)?;
-        lines.push(Line {
-            place: LINE,
-            ctrl: b'\\',
-            strict,
-            packed: false,
-            bytes,
-        })?;
-    }
-    let files = List::new(alloc);
-    let lines = Lines {
-        lines,
-        files,
-        dynamic: 0,
-    };
-    match tokens(alloc, &lines) {
-        Ok(read) => Ok(read),
-        Err(_) => Err("a fault".into()),
-    }
+fn two_lines(alloc: Global) -> Result<Result<Tokens, LexFault>, Memory> {
+    let first = line_of(alloc, b"  a+ while", b'\\', false, false)?;
+    let second = line_of(alloc, b"!\"c\"_", b'\\', false, true)?;
+    tokens_of(alloc, first, second)
 }
 
-#[test]
-fn tokens_have_flags(rt: HostRuntime) -> Result<(), Fail> {
-    let read = two_lines(rt.alloc())?;
-    let wanted = [
-        (true, false, false),
-        (false, true, false),
-        (false, false, false),
-        (true, false, true),
-        (false, true, true),
-        (false, false, false),
-    ];
-    for (at, flags) in wanted.iter().enumerate() {
-        let told = (read.is_first(at), read.touches(at), read.is_strict(at));
-        assert_eq!(rt; told, *flags);
+/// Of each token of the two lines, and behind the last: whether it is the first of its line, stands
+/// directly behind the one before, and is strict.
+const FLAGS: [(bool, bool, bool); 6] = [
+    (true, false, false),
+    (false, true, false),
+    (false, false, false),
+    (true, false, true),
+    (false, true, true),
+    (false, false, false),
+];
+
+/// Whether the tokens have these flags.
+fn have_flags(read: &Tokens) -> bool {
+    let mut are_so = true;
+    for (at, (first, touches, strict)) in FLAGS.iter().enumerate() {
+        are_so = are_so && read.is_first(at) == *first;
+        are_so = are_so && read.touches(at) == *touches;
+        are_so = are_so && read.is_strict(at) == *strict;
     }
-    Ok(())
+    are_so
+}
+
+/// Whether the names of the two lines are seen, and where tokens end.
+fn have_names(read: &Tokens) -> bool {
+    let is_named = read.name(0) == Some(b"a".as_slice()) && read.name(4) == None;
+    is_named && read.kind(4).is_some() && read.kind(5).is_none()
+}
+
+/// Whether signs and key words of the two lines are seen.
+fn have_words(read: &Tokens) -> bool {
+    let has_sign = read.sees_sign(1, Sign::Plus) && !read.sees_sign(1, Sign::Increment);
+    has_sign && read.sees_key(2, Key::While) && !read.sees_key(5, Key::While)
 }
 
 #[test]
 fn tokens_are_seen(rt: HostRuntime) -> Result<(), Fail> {
-    let read = two_lines(rt.alloc())?;
-    assert_eq!(rt; read.name(0), Some(b"a".as_slice()));
-    assert_eq!(rt; read.name(4), None);
-    assert!(rt; read.sees_sign(1, Sign::Plus));
-    assert!(rt; !read.sees_sign(1, Sign::Increment));
-    assert!(rt; read.sees_key(2, Key::While));
-    assert!(rt; !read.sees_key(5, Key::While));
-    assert!(rt; read.kind(4).is_some());
-    assert!(rt; read.kind(5).is_none());
-    assert_eq!(rt; key_of(b"while"), Some(Key::While));
+    let are_seen = match two_lines(rt.alloc())? {
+        Ok(read) => have_flags(&read) && have_names(&read) && have_words(&read),
+        Err(_) => false,
+    };
+    assert!(rt; are_seen && key_of(b"while") == Some(Key::While));
     Ok(())
 }
