@@ -1,0 +1,10 @@
+-- What is known of a name behind some marks is what is known of the declaration that is meant.
+use Rattle.std.specs.Prelude.{◌≡◌, ℕ, List}
+use Rattle.pawn_scopes.specs.Mark.{Mark}
+use Rattle.pawn_scopes.specs.Around.{Around}
+use Rattle.pawn_scopes.specs.Found.{meaning}
+use Rattle.pawn_scopes.specs.Meant.{meant, known_by}
+
+abbrev pub KnownIsMeant : Type 0
+KnownIsMeant = (around : Around) (before : List Mark) (name : List ℕ)
+    → meaning around before name ≡ known_by around name (meant before 0 name)

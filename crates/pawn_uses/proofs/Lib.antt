@@ -1,0 +1,3 @@
+pub mod Rises
+pub mod Nodes
+pub mod Whole
