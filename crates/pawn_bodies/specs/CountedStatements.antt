@@ -1,0 +1,17 @@
+-- A statement that stands makes as many slots and objects as are counted in its tree: so the counts
+-- before a statement are the numbers of slots and objects there.
+use Rattle.std.specs.Prelude.{◌≡◌, ℕ, Bool, List, length}
+use Rattle.pawn_tree.specs.Statements.{Stmt}
+use Rattle.pawn_program.specs.Program.{Automaton}
+use Rattle.pawn_scopes.specs.Verdict.{Stands}
+use Rattle.pawn_typing.specs.Around.{Around}
+use Rattle.pawn_bodies.specs.Counts.{slots_in, objects_in}
+use Rattle.pawn_bodies.specs.Points.{Point}
+use Rattle.pawn_bodies.specs.Stood.{Stood}
+use Rattle.pawn_bodies.specs.Statements.{stmt}
+
+abbrev pub StatementsAreCounted : Type 0
+StatementsAreCounted =
+    (cx : Around) (automata : List Automaton) (result : ℕ) (point : Point) (in_loop : Bool)
+    (s : Stmt) (x : Stood) → stmt cx automata result point in_loop s ≡ Stands x
+    → (length x.slots ≡ slots_in s) × (length x.objects ≡ objects_in s)

@@ -1,0 +1,3 @@
+mod Examples
+pub mod LiteralLaws
+pub mod Samples

@@ -1,0 +1,3 @@
+pub mod ParamDefaults
+pub mod Params
+pub mod SameHeads

@@ -1,0 +1,9 @@
+mod CellLaws
+mod BasicLaws
+mod OperatorLaws
+mod AssignmentLaws
+mod ChainLaws
+mod GivenLaws
+mod FillingLaws
+mod CallLaws
+mod ExpressionLaws

@@ -1,0 +1,4 @@
+pub mod Meant
+pub mod Known
+pub mod Placed
+pub mod ValidExpressions

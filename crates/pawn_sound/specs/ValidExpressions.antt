@@ -1,0 +1,27 @@
+-- An expression that stands is valid where it stands: its value, its place or its array.
+use Rattle.std.specs.Prelude.{◌≡◌, ℕ}
+use Rattle.pawn_tree.specs.Expressions.{Expr}
+use Rattle.pawn_program.specs.Program.{Object}
+use Rattle.pawn_program.specs.Scope as program
+use Rattle.pawn_program.specs.ValidExprs.{IsValidScalar, IsValidExpr}
+use Rattle.pawn_scopes.specs.Verdict.{Stands}
+use Rattle.pawn_typing.specs.Typed.{Typed, Form, Value, Place, Whole, Literal, line}
+use Rattle.pawn_typing.specs.Around.{Around}
+use Rattle.pawn_typing.specs.Scope.{Scope}
+use Rattle.pawn_calls.specs.Expressions.{expr}
+use Rattle.pawn_sound.specs.Meant.{IsReached, KnowsPath}
+use Rattle.pawn_sound.specs.Known.{KnowsAround}
+use Rattle.pawn_sound.specs.Placed.{IsPlaced}
+
+abbrev pub IsValidForm : program.Scope → Form → Type 0
+IsValidForm scope (Value e) = IsValidExpr scope e
+IsValidForm scope (Place p constant) = IsValidScalar scope p
+IsValidForm scope (Whole a reach constant) = IsReached scope a reach
+IsValidForm scope (Literal object cells) = IsReached scope (Object object) (line cells)
+
+abbrev pub ExpressionsAreValid : Type 0
+ExpressionsAreValid =
+    (scope : program.Scope) (cx : Around) (path : Scope) (before : ℕ) (e : Expr) (x : Typed)
+    → KnowsAround scope.program cx → KnowsPath scope path
+    → IsPlaced scope.program cx path before e
+    → expr cx path before e ≡ Stands x → IsValidForm scope x.form

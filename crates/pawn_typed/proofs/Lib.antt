@@ -1,0 +1,4 @@
+mod Spellings
+mod Examples
+mod DeclarationExamples
+mod WholeLaws

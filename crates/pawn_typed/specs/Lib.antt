@@ -1,0 +1,12 @@
+pub mod Enums
+pub mod Headings
+pub mod Paths
+pub mod Sources
+pub mod Declarations
+pub mod Functions
+pub mod Publics
+pub mod Programs
+pub mod Whole
+pub mod IsTyped
+pub mod OneProgram
+pub mod Sums

@@ -1,0 +1,18 @@
+-- What stands is within the limits on sums over the whole.
+use Rattle.std.specs.Prelude.{◌≤◌, ℤ, List}
+use Rattle.pawn_cells.specs.declared.place.Place.{Place}
+use Rattle.pawn_tree.specs.Declarations.{Tree}
+use Rattle.pawn_program.specs.Program.{Program}
+use Rattle.pawn_meaning.specs.declared.limits.TheConstants.{DATA_LIMIT, WEIGHT_LIMIT}
+use Rattle.pawn_meaning.specs.Limits.{data_cells}
+use Rattle.pawn_meaning.specs.Weight.{weight}
+use Rattle.pawn_typed.specs.IsTyped.{IsTyped}
+
+pub record IsWithinSums (program : Program) : Type 0 where
+  pub cells : data_cells program ≤ DATA_LIMIT
+  pub code : weight program ≤ WEIGHT_LIMIT
+
+abbrev pub StandsWithinSums : Type 0
+StandsWithinSums =
+    (tree : Tree) (dynamic : ℤ) (program : Program) (warnings : List Place)
+    → IsTyped tree dynamic program warnings → IsWithinSums program

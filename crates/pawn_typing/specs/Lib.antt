@@ -1,0 +1,14 @@
+pub mod Rule
+pub mod Typed
+pub mod Around
+pub mod Tests
+pub mod Scope
+pub mod Texts
+pub mod Names
+pub mod Signs
+pub mod Operators
+pub mod Chains
+pub mod Choices
+pub mod Indexes
+pub mod Assignments
+pub mod Prefixes
