@@ -1,0 +1,12 @@
+pub mod ChangeLaws
+pub mod CutLaws
+pub mod DataLaws
+pub mod FrameLaws
+pub mod LayoutLaws
+pub mod LeadLaws
+pub mod Lists
+pub mod MemLaws
+pub mod ObjectLaws
+pub mod PieceLaws
+pub mod ViewLaws
+pub mod WorldLaws

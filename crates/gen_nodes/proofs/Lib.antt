@@ -1,0 +1,5 @@
+pub mod ItemSteps
+pub mod KindLaws
+pub mod OperatorLaws
+pub mod PartLaws
+pub mod SimpleNodes

@@ -1,0 +1,16 @@
+pub mod AnswerLaws
+pub mod BodyLaws
+pub mod CallLaws
+pub mod CharacterLaws
+pub mod ContractExamples
+pub mod CopyLaws
+pub mod ItemLaws
+pub mod MoveLaws
+pub mod NativeLaws
+pub mod NearNative
+pub mod ParameterLaws
+pub mod PartLaws
+pub mod SeenLaws
+pub mod StepLaws
+pub mod TemporaryLaws
+pub mod TurnLaws
