@@ -15,7 +15,6 @@ use Rattle.pawn_program.specs.Program as code
 use Rattle.pawn_program.specs.Scope.{Extent, extent, HasCells}
 use Rattle.pawn_program.specs.Scope as program
 use Rattle.pawn_program.specs.ValidExprs.{IsOperator, IsValidScalar, IsValidExpr}
-use Rattle.pawn_scopes.specs.Verdict.{Verdict, Stands}
 use Rattle.pawn_scopes.specs.Signs.{Between, Operates, Decides, Nothing}
 use Rattle.pawn_scopes.specs.Signs as signs
 use Rattle.pawn_typing.specs.Typed.{Typed, Form, cell, line}
@@ -25,14 +24,14 @@ use Rattle.pawn_typing.specs.Tests.{sent, sent_by, converter, converter_to}
 use Rattle.pawn_typing.specs.Operators.{divides_by_zero, chosen}
 use Rattle.pawn_typing.specs.Signs.{updater_of, updates_by}
 use Rattle.pawn_typing.specs.Signs as typing_signs
-use Rattle.pawn_typing.specs.Assignments.{unless_constant, target, assign_cell, known_by, known_line, cells_or_broken, copied_cells, literal_cells, copy_from, assign_to, set_rule, updated, update_rule, update_by, assign_rule}
+use Rattle.pawn_typing.specs.Assignments.{unless_constant, assign_cell, known_by, known_line, cells_or_broken, copied_cells, literal_cells, copy_from, assign_to, set_rule, updated, update_rule, update_by, assign_rule}
 use Rattle.pawn_typing.proofs.VerdictLaws.{Holds, stands_itself, breaks_holds, holds_after, holds_both}
 use Rattle.pawn_sound.specs.Meant.{IsReached}
 use Rattle.pawn_sound.specs.Known.{KnowsAround}
 use Rattle.pawn_sound.specs.ValidExpressions.{IsValidForm}
 use Rattle.pawn_sound.proofs.CellLaws.{if_holds, unless_some}
 use Rattle.pawn_sound.proofs.BasicLaws.{Sound, stands, cell_sound}
-use Rattle.pawn_sound.proofs.OperatorLaws.{IsBinaryUser, IsBinaryBetween, between_binary, chosen_takes, target_sound}
+use Rattle.pawn_sound.proofs.OperatorLaws.{IsBinaryBetween, between_binary, chosen_takes, target_sound}
 
 -- ---- the cells of one dimension
 

@@ -1,5 +1,5 @@
 -- Cells, arrays, names, `sizeof`, `tagof` and indexes that stand are valid.
-use Rattle.std.proofs.Common.{◌≡◌, ◌^◌, ◌<◌, ◌≤◌, ℕ, zero, suc, ℤ, pos, List, [], ◌∷◌, Bool, true, false, Option, None, Some, refl, sym, ◌∙◌, subst, ap, arith}
+use Rattle.std.proofs.Common.{◌≡◌, ◌≤◌, ℕ, zero, suc, pos, List, [], ◌∷◌, Bool, Option, None, Some, refl, sym, ◌∙◌, subst, ap, arith}
 use Rattle.std.specs.Prelude.{length, slice_get, nat_eq, nat_le, is_some, IfSome}
 use Rattle.std.proofs.lemmas.Bool.{leb-true}
 use Rattle.pawn_cells.specs.Cells.{IsCell}
@@ -8,12 +8,11 @@ use Rattle.pawn_tree.specs.declared.name.At.{At}
 use Rattle.pawn_tree.specs.declared.expression.SizeofOperand.{SizeofOperand}
 use Rattle.pawn_tree.specs.declared.expression.SizeofOperand.TheVariants as sizeof
 use Rattle.pawn_tree.specs.declared.expression.TagofOperand.{TagofOperand}
-use Rattle.pawn_program.specs.Program.{Scalar, Element, Char, Object, Expr, StaticObject}
-use Rattle.pawn_program.specs.Program as code
+use Rattle.pawn_program.specs.Program.{Object, Expr, StaticObject}
 use Rattle.pawn_program.specs.Scope.{Extent, extent, known_extent, object_extent, row_extent, IsLine}
 use Rattle.pawn_program.specs.Scope as program
-use Rattle.pawn_program.specs.ValidExprs.{IsValidScalar, IsValidArray, IsValidExpr}
-use Rattle.pawn_scopes.specs.Verdict.{Verdict, Stands}
+use Rattle.pawn_program.specs.ValidExprs.{IsValidExpr}
+use Rattle.pawn_scopes.specs.Verdict.{Stands}
 use Rattle.pawn_typing.specs.Typed.{Typed, Form, Held, cell_in, cell, array_in, array_or_broken, array, line}
 use Rattle.pawn_typing.specs.Typed as typed
 use Rattle.pawn_typing.specs.Around.{Around}

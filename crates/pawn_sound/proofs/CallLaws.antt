@@ -1,5 +1,5 @@
 -- Calls that stand are valid.
-use Rattle.std.proofs.Common.{◌≡◌, ◌^◌, ◌<◌, ℕ, suc, zero, ℤ, pos, List, [], ◌∷◌, Bool, true, false, Option, None, Some, refl, sym, subst, ap, arith}
+use Rattle.std.proofs.Common.{◌≡◌, ◌<◌, ℕ, suc, zero, ℤ, pos, List, [], ◌∷◌, Bool, true, false, Option, None, Some, refl, sym, subst, ap, arith}
 use Rattle.std.specs.Prelude.{if◌then◌else◌, length, map, slice_get}
 use Rattle.pawn_cells.specs.Cells.{IsCell, cell_of}
 use Rattle.pawn_tree.specs.declared.name.At.{At}
@@ -8,14 +8,13 @@ use Rattle.pawn_program.specs.Program.{Expr, Const, Arg, Value, Temp, Args, no_a
 use Rattle.pawn_program.specs.Scope.{Extent}
 use Rattle.pawn_program.specs.Scope as program
 use Rattle.pawn_program.specs.ValidExprs.{IsOperator, ArgAgrees, ArgsAgree, IsValidExpr, IsValidArg, AreValidArgs}
-use Rattle.pawn_scopes.specs.Verdict.{Verdict, Stands}
 use Rattle.pawn_typing.specs.Around.{Around, Callable, Head, Param, NoDefault, Always, SizeOf, TagOf}
 use Rattle.pawn_typing.specs.Around as around
 use Rattle.pawn_typing.specs.Scope.{Meaning, Constant, Variable, Function, Taken, Unknown, Scope, found}
 use Rattle.pawn_typing.specs.Scope as means
 use Rattle.pawn_typing.specs.Tests.{converter_to}
 use Rattle.pawn_typing.proofs.VerdictLaws.{Holds, stands_itself, breaks_holds, holds_after, holds_both}
-use Rattle.pawn_calls.specs.Filling.{Offer, Filled, Argument, Default, fill}
+use Rattle.pawn_calls.specs.Filling.{Offer, Filled, Argument, Default}
 use Rattle.pawn_calls.specs.Defaults.{size_given, tag_given, own_tag, converted, default_arg, default_of, arg_of, args_of}
 use Rattle.pawn_calls.specs.Calls.{Callee, headed, callable, callee_rule, call_code, args_in, call_rule}
 use Rattle.pawn_sound.specs.Known.{slot_by, slot_of, IsDefault, HasDefaults, KnowsAround}

@@ -5,15 +5,12 @@ use Rattle.pawn_token.specs.declared.sign.Sign.{Sign}
 use Rattle.pawn_token.specs.declared.sign.Sign.TheVariants as sign
 use Rattle.pawn_tree.specs.declared.name.At.{At}
 use Rattle.pawn_cells.specs.declared.operator.Comparison.{Comparison}
-use Rattle.pawn_tags.specs.declared.op.Op.{Op}
 use Rattle.pawn_tags.specs.declared.operators.Choice.{Choice}
 use Rattle.pawn_program.specs.Program.{Expr, Links, no_links, ScalarSlot}
 use Rattle.pawn_program.specs.Scope as program
 use Rattle.pawn_program.specs.ValidExprs.{Takes, IsOperator, IsValidExpr, AreValidLinks}
-use Rattle.pawn_scopes.specs.Verdict.{Verdict, Stands}
 use Rattle.pawn_scopes.specs.Signs.{Link, Compares, No_link, link_of}
-use Rattle.pawn_typing.specs.Rule.{pair}
-use Rattle.pawn_typing.specs.Typed.{Typed, cell}
+use Rattle.pawn_typing.specs.Typed.{Typed}
 use Rattle.pawn_typing.specs.Around.{Around}
 use Rattle.pawn_typing.specs.Chains.{Compared, compared, link_choice, link_code, links_code, chain_rule}
 use Rattle.pawn_typing.specs.Choices.{choice_rule}

@@ -2,14 +2,13 @@
 use Rattle.std.proofs.Common.{◌≡◌, ◌+◌, ℕ, List, [], ◌∷◌, refl}
 use Rattle.pawn_tree.specs.Expressions as tree
 use Rattle.pawn_program.specs.Scope as program
-use Rattle.pawn_scopes.specs.Verdict.{Stands}
 use Rattle.pawn_scopes.specs.Signs.{between_of, link_of}
 use Rattle.pawn_typing.specs.Typed.{Typed}
 use Rattle.pawn_typing.specs.Around.{Around}
 use Rattle.pawn_typing.specs.Scope.{Scope, found}
 use Rattle.pawn_typing.specs.Chains.{Compared}
 use Rattle.pawn_typing.proofs.VerdictLaws.{Holds, stands_itself, holds_after, holds_both}
-use Rattle.pawn_calls.specs.Filling.{Offer, Positional, Skipped}
+use Rattle.pawn_calls.specs.Filling.{Offer, Skipped}
 use Rattle.pawn_calls.specs.Literals.{literals, literals_of_arg, literals_of_link}
 use Rattle.pawn_calls.specs.Expressions.{expr, chain, linked, offers, offer}
 use Rattle.pawn_sound.specs.Meant.{KnowsPath}

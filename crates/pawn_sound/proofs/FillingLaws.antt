@@ -5,12 +5,11 @@ use Rattle.pawn_tree.specs.declared.name.At.{At}
 use Rattle.pawn_program.specs.Program.{Arg}
 use Rattle.pawn_program.specs.Scope as program
 use Rattle.pawn_program.specs.ValidExprs.{IsValidArg}
-use Rattle.pawn_scopes.specs.Verdict.{Verdict, Stands}
 use Rattle.pawn_typing.specs.Rule.{thread}
 use Rattle.pawn_typing.specs.Typed.{Typed}
 use Rattle.pawn_typing.specs.Around.{Around, Head, Param}
 use Rattle.pawn_typing.proofs.VerdictLaws.{Holds, stands_itself, breaks_holds, holds_after}
-use Rattle.pawn_calls.specs.Given.{given_rule, rest_rule}
+use Rattle.pawn_calls.specs.Given.{rest_rule}
 use Rattle.pawn_calls.specs.Filling.{Offer, Positional, Skipped, Filling, Filled, Argument, Default, nothing_filled, put_in, put, for_param, for_rest, positional, skipped_rest, skipped, named_param, named, number_of_param, offer_step, fill}
 use Rattle.pawn_calls.specs.Filling as filling
 use Rattle.pawn_sound.specs.Known.{slot_of, KnowsAround}

@@ -7,3 +7,4 @@ mod GivenLaws
 mod FillingLaws
 mod CallLaws
 mod ExpressionLaws
+mod PublicLaws

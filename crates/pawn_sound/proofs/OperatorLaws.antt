@@ -1,5 +1,5 @@
 -- Operators on one and two operands that stand are valid.
-use Rattle.std.proofs.Common.{◌≡◌, ◌⊎◌, inl, inr, ℕ, ℤ, pos, negsuc, Bool, true, false, Option, None, Some, refl, ◌∙◌, subst, ap}
+use Rattle.std.proofs.Common.{◌≡◌, ◌⊎◌, inl, inr, ℕ, pos, negsuc, Bool, true, false, Option, None, Some, refl, subst, ap}
 use Rattle.std.specs.Prelude.{if◌then◌else◌, option_map, replicate}
 use Rattle.std.specs.Option.{option_or}
 use Rattle.pawn_token.specs.declared.sign.Sign.{Sign}
@@ -16,7 +16,6 @@ use Rattle.pawn_tags.specs.declared.operators.Choice.{Choice}
 use Rattle.pawn_program.specs.Program.{Scalar, Expr, ScalarSlot}
 use Rattle.pawn_program.specs.Scope as program
 use Rattle.pawn_program.specs.ValidExprs.{Takes, IsOperator, IsValidScalar, IsValidExpr}
-use Rattle.pawn_scopes.specs.Verdict.{Verdict, Stands}
 use Rattle.pawn_scopes.specs.Signs.{Between, Operates, Decides, Nothing, between_of}
 use Rattle.pawn_scopes.specs.Signs as signs
 use Rattle.pawn_typing.specs.Typed.{Typed, Form, cell}

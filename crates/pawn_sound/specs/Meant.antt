@@ -1,6 +1,6 @@
 -- What names mean is there: a constant is a cell, and a place or an array is valid where the
 -- expression stands.
-use Rattle.std.specs.Prelude.{◌≡◌, ℕ, pos, List, Option, Some, IfSome, slice_get}
+use Rattle.std.specs.Prelude.{◌≡◌, ℕ, pos, List, Some, IfSome, slice_get}
 use Rattle.pawn_cells.specs.Cells.{IsCell}
 use Rattle.pawn_program.specs.Program as code
 use Rattle.pawn_program.specs.Scope.{Extent, extent}
