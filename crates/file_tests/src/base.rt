@@ -1,7 +1,9 @@
+//! Files spelled by hand, and changes of their bytes.
+use pawn_base::{Bytes, Memory};
 use std::alloc::{AllocError, Global};
 
-/// The file of an empty main, spelled by hand: the header, no tables, and five cells of code.
-pub const EMPTY_MAIN: [u8; 80] = [
+/// The file of an empty main: the header, no tables, and five cells of code.
+const EMPTY_MAIN: [u8; 80] = [
     80, 0, 0, 0, 0xE0, 0xF1, 8, 8, 0, 0, 8, 0, // size, magic number, versions, flags, record size
     60, 0, 0, 0, 80, 0, 0, 0, 80, 0, 0, 0, 0x50, 0x40, 0, 0, 8, 0, 0, 0, // cod to stp, cip
     56, 0, 0, 0, 56, 0, 0, 0, 56, 0, 0, 0, 56, 0, 0, 0, 56, 0, 0, 0, 56, 0, 0, 0, // tables
@@ -9,8 +11,12 @@ pub const EMPTY_MAIN: [u8; 80] = [
     120, 0, 0, 0, 0, 0, 0, 0, 46, 0, 0, 0, 89, 0, 0, 0, 48, 0, 0, 0,
 ];
 
+pub fn empty_main() -> &'static [u8] {
+    &EMPTY_MAIN
+}
+
 /// The same with compact cells.
-pub const COMPACT_MAIN: [u8; 67] = [
+const COMPACT_MAIN: [u8; 67] = [
     67, 0, 0, 0, 0xE0, 0xF1, 8, 8, 4, 0, 8, 0, // size, magic number, versions, flags, record size
     60, 0, 0, 0, 80, 0, 0, 0, 80, 0, 0, 0, 0x50, 0x40, 0, 0, 8, 0, 0, 0, // cod to stp, cip
     56, 0, 0, 0, 56, 0, 0, 0, 56, 0, 0, 0, 56, 0, 0, 0, 56, 0, 0, 0, 56, 0, 0, 0, // tables
@@ -18,8 +24,12 @@ pub const COMPACT_MAIN: [u8; 67] = [
     0x80, 0x78, 0x00, 0x2E, 0x80, 0x59, 0x30,
 ];
 
+pub fn compact_main() -> &'static [u8] {
+    &COMPACT_MAIN
+}
+
 /// The same code with two natives, `p` and `q`.
-pub const TWO_NATIVES: [u8; 100] = [
+const TWO_NATIVES: [u8; 100] = [
     100, 0, 0, 0, 0xE0, 0xF1, 8, 8, 0, 0, 8, 0, // size, magic number, versions, flags, record size
     80, 0, 0, 0, 100, 0, 0, 0, 100, 0, 0, 0, 164, 0, 0, 0, 8, 0, 0, 0, // cod to stp, cip
     56, 0, 0, 0, 56, 0, 0, 0, 72, 0, 0, 0, 72, 0, 0, 0, 72, 0, 0, 0, 72, 0, 0, 0, // tables
@@ -28,45 +38,100 @@ pub const TWO_NATIVES: [u8; 100] = [
     120, 0, 0, 0, 0, 0, 0, 0, 46, 0, 0, 0, 89, 0, 0, 0, 48, 0, 0, 0,
 ];
 
-/// A file with a record in each table, a case table in its code, and nine cells of data.
-pub const EVERY_TABLE: [u8; 172] = [
-    172, 0, 0, 0, 0xE0, 0xF1, 8, 1, 0x79, 0x80, 8, 0, // size to record size, with other flags
-    108, 0, 0, 0, 136, 0, 0, 0, 172, 0, 0, 0, 188, 0, 0, 0, 255, 255, 255, 255, // cod to stp, cip
-    56, 0, 0, 0, 64, 0, 0, 0, 72, 0, 0, 0, 80, 0, 0, 0, 88, 0, 0, 0, 96, 0, 0, 0, // tables
-    8, 0, 0, 0, 98, 0, 0, 0, 5, 0, 0, 0, 100, 0, 0, 0, // a public and a native
-    254, 255, 255, 255, 102, 0, 0, 0, 12, 0, 0, 0, 104, 0, 0, 0, // a library and a variable
-    7, 0, 0, 0, 106, 0, 0, 0, // a tag
-    31, 0, b'b', 0, b'"', 0, b'\\', 0, 200, 0, b'F', 0, // the name table
+pub fn two_natives() -> &'static [u8] {
+    &TWO_NATIVES
+}
+
+/// A file with records in each table, a case table in its code, and nine cells of data. The library's
+/// name is empty, and a zero byte stands before the code.
+const EVERY_TABLE: [u8; 192] = [
+    192, 0, 0, 0, 0xE0, 0xF1, 8, 1, 0x79, 0x80, 8, 0, // size to record size, with other flags
+    128, 0, 0, 0, 156, 0, 0, 0, 192, 0, 0, 0, 208, 0, 0, 0, 255, 255, 255, 255, // cod to stp, cip
+    56, 0, 0, 0, 80, 0, 0, 0, 88, 0, 0, 0, 96, 0, 0, 0, 104, 0, 0, 0, 112, 0, 0, 0, // tables
+    0, 0, 0, 0, 114, 0, 0, 0, 8, 0, 0, 0, 116, 0, 0, 0, 4, 0, 0, 0, 118, 0, 0, 0, // publics
+    5, 0, 0, 0, 120, 0, 0, 0, 254, 255, 255, 255, 122, 0, 0, 0, // a native and a library
+    12, 0, 0, 0, 123, 0, 0, 0, 7, 0, 0, 0, 125, 0, 0, 0, // a variable and a tag
+    31, 0, b'a', 0, b'b', 0, b'b', 0, b'"', 0, 0, b'\\', 0, 200, 0, 0, // the name table
     120, 0, 0, 0, 0, 0, 0, 0, 130, 0, 0, 0, 1, 0, 0, 0, 8, 0, 0, 0, 249, 255, 255, 255, 0, 0, 0, 0,
     255, 255, 255, 255, 0, 0, 0, 0, 255, 255, 255, 127, 0, 0, 0, 128, 5, 0, 0, 0, 6, 0, 0, 0, 7, 0,
     0, 0, 8, 0, 0, 0, 9, 0, 0, 0,
 ];
 
-/// Bytes that are put at a place of a file.
-pub type Change = (usize, &'static [u8]);
-
-/// A file with some changes.
-pub fn changed(alloc: Global, file: &[u8], changes: &[Change]) -> Result<Vec<u8>, AllocError> {
-    let mut bytes = Vec::from_slice(alloc, file)?;
-    for (place, with) in changes {
-        put(&mut bytes, *place, with);
-    }
-    Ok(bytes)
+pub fn every_table() -> &'static [u8] {
+    &EVERY_TABLE
 }
 
-fn put(bytes: &mut Vec<u8>, place: usize, with: &[u8]) {
-    for (index, byte) in with.iter().enumerate() {
-        if place < bytes.len() && index < bytes.len() - place {
-            bytes[place + index] = *byte;
+/// The same with compact cells.
+const EVERY_COMPACT: [u8; 154] = [
+    154, 0, 0, 0, 0xE0, 0xF1, 8, 1, 0x7D, 0x80, 8, 0, // size to record size, with other flags
+    128, 0, 0, 0, 156, 0, 0, 0, 192, 0, 0, 0, 208, 0, 0, 0, 255, 255, 255, 255, // cod to stp, cip
+    56, 0, 0, 0, 80, 0, 0, 0, 88, 0, 0, 0, 96, 0, 0, 0, 104, 0, 0, 0, 112, 0, 0, 0, // tables
+    0, 0, 0, 0, 114, 0, 0, 0, 8, 0, 0, 0, 116, 0, 0, 0, 4, 0, 0, 0, 118, 0, 0, 0, // publics
+    5, 0, 0, 0, 120, 0, 0, 0, 254, 255, 255, 255, 122, 0, 0, 0, // a native and a library
+    12, 0, 0, 0, 123, 0, 0, 0, 7, 0, 0, 0, 125, 0, 0, 0, // a variable and a tag
+    31, 0, b'a', 0, b'b', 0, b'b', 0, b'"', 0, 0, b'\\', 0, 200, 0, 0, // the name table
+    0x80, 0x78, 0x00, 0x81, 0x02, 0x01, 0x08, 0x79, 0x00, // the code
+    0x7F, 0x00, 0x87, 0xFF, 0xFF, 0xFF, 0x7F, 0x88, 0x80, 0x80, 0x80, 0x00, 5, 6, 7, 8, 9,
+];
+
+pub fn every_compact() -> &'static [u8] {
+    &EVERY_COMPACT
+}
+
+/// A file with changes of its front: each is a place and the byte that is put there.
+pub fn changed(alloc: Global, file: &[u8], changes: &[u8]) -> Result<Vec<u8>, AllocError> {
+    let mut bytes = Vec::from_slice(alloc, file)?;
+    for change in changes.chunks_exact(2) {
+        if let [place, byte] = change {
+            put(&mut bytes, *place as usize, *byte);
         }
     }
+    Ok(bytes)
 }
 
-/// The file of an empty main with other code in place of its own.
-pub fn with_code(alloc: Global, code: &[i32; 5]) -> Result<Vec<u8>, AllocError> {
-    let mut bytes = Vec::from_slice(alloc, &EMPTY_MAIN)?;
-    for (index, cell) in code.iter().enumerate() {
-        put(&mut bytes, 60 + 4 * index, &cell.to_le_bytes());
+fn put(bytes: &mut Vec<u8>, place: usize, byte: u8) {
+    if place < bytes.len() {
+        bytes[place] = byte;
     }
-    Ok(bytes)
+}
+
+fn put_word(out: &mut Bytes, word: u32) -> Result<(), Memory> {
+    out.append(&word.to_le_bytes())
+}
+
+/// The header of a plain file: its size, and its places from cod to the name table.
+pub fn header(alloc: Global, size: u32, places: &[u32]) -> Result<Bytes, Memory> {
+    let mut out = Bytes::new(alloc);
+    put_word(&mut out, size)?;
+    out.append(&[0xE0, 0xF1, 8, 8, 0, 0, 8, 0])?;
+    for place in places {
+        put_word(&mut out, *place)?;
+    }
+    Ok(out)
+}
+
+/// Puts records, each with address 0 and the place of its name.
+pub fn put_records(out: &mut Bytes, count: u32, name: u32) -> Result<(), Memory> {
+    for _ in 0..count {
+        put_word(out, 0)?;
+        put_word(out, name)?;
+    }
+    Ok(())
+}
+
+fn put_cells(out: &mut Bytes, cells: &[i32]) -> Result<(), Memory> {
+    for cell in cells {
+        put_word(out, cell.cast_unsigned())?;
+    }
+    Ok(())
+}
+
+/// The plain file of this code and main at 8, without tables and data.
+pub fn with_code(alloc: Global, code: &[i32]) -> Result<Bytes, Memory> {
+    let end = 60 + 4 * (code.len() % 64) as u32;
+    let places = [60, end, end, 16_464, 8, 56, 56, 56, 56, 56, 56];
+    let mut out = header(alloc, end, &places)?;
+    out.append(&[31, 0, 0, 0])?;
+    put_cells(&mut out, code)?;
+    Ok(out)
 }

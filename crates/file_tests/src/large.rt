@@ -1,33 +1,40 @@
 ghost use Rattle.std.specs.Prelude.{◌≤◌};
 
+use super::base::{header, put_records};
 use amx_format::{FormatFault, read};
-use std::alloc::{AllocError, Global};
+use pawn_base::{Bytes, Memory};
+use std::alloc::Global;
 use std::test::Fail;
 
 /// The greatest file.
 const LIMIT: usize = 67_108_864;
 
+/// Whether bytes of one kind, as many as the greatest file has, are told by their magic number.
+fn is_no_file(alloc: Global, byte: u8) -> Result<bool, Fail> {
+    let bytes = vec![in alloc; byte; LIMIT]?;
+    Ok(read(alloc, bytes.as_slice()).err() == Some(FormatFault::Magic))
+}
+
 #[test]
 fn bytes_of_one_kind(rt: HostRuntime) -> Result<(), Fail> {
-    for byte in [0, 0xFF] {
-        let bytes = vec![in rt.alloc(); byte; LIMIT]?;
-        assert_eq!(rt;
-            read(rt.alloc(), bytes.as_slice()).err(),
-            Some(FormatFault::Magic)
-        );
+    assert!(rt; is_no_file(rt.alloc(), 0)? && is_no_file(rt.alloc(), 0xFF)?);
+    Ok(())
+}
+
+fn put_many(out: &mut Bytes, count: u32, byte: u8) -> Result<(), Memory> {
+    for _ in 0..count {
+        out.push(byte)?;
     }
     Ok(())
 }
 
 /// A plain file without code, with so many natives, all of one name of so many bytes.
-fn natives(alloc: Global, count: u32, length: u32) -> Result<Vec<u8>, AllocError>
+fn natives(alloc: Global, count: u32, length: u32) -> Result<Bytes, Memory>
     requires { (count ≤ 8388600) × (length ≤ 700) }
 {
     let names = 56 + 8 * count;
-    let cod = names + 2 + length + 6;
-    let mut bytes = Vec::from_slice(alloc, &cod.to_le_bytes())?;
-    bytes.extend_from_slice(&[0xE0, 0xF1, 8, 8, 0, 0, 8, 0])?;
-    for place in [
+    let cod = names + 8 + length;
+    let places = [
         cod,
         cod,
         cod,
@@ -39,41 +46,38 @@ fn natives(alloc: Global, count: u32, length: u32) -> Result<Vec<u8>, AllocError
         names,
         names,
         names,
-    ] {
-        bytes.extend_from_slice(&place.to_le_bytes())?;
+    ];
+    let mut out = header(alloc, cod, &places)?;
+    put_records(&mut out, count, names + 2)?;
+    out.append(&[31, 0])?;
+    put_many(&mut out, length, b'n')?;
+    put_many(&mut out, 6, 0)?;
+    Ok(out)
+}
+
+/// How many natives are read of such a file, and its bytes, or nothing for want of memory.
+fn counted(alloc: Global, count: u32, length: u32) -> Result<Option<(usize, usize)>, Memory>
+    requires { (count ≤ 8388600) × (length ≤ 700) }
+{
+    let bytes = natives(alloc, count, length)?;
+    match read(alloc, bytes.as_slice()) {
+        Ok(amx) => Ok(Some((amx.natives.len(), bytes.len()))),
+        Err(FormatFault::Memory) => Ok(None),
+        Err(_) => Ok(Some((0, 0))),
     }
-    for _ in 0..count {
-        bytes.extend_from_slice(&[0; 4])?;
-        bytes.extend_from_slice(&(names + 2).to_le_bytes())?;
-    }
-    bytes.extend_from_slice(&[31, 0])?;
-    for _ in 0..length {
-        bytes.push(b'n')?;
-    }
-    bytes.extend_from_slice(&[0; 6])?;
-    Ok(bytes)
 }
 
 #[test]
 fn tables_that_fill_a_file(rt: HostRuntime) -> Result<(), Fail> {
-    let bytes = natives(rt.alloc(), 8_388_600, 0)?;
-    assert_eq!(rt; bytes.len(), LIMIT);
-    assert_eq!(rt;
-        read(rt.alloc(), bytes.as_slice())?.natives.len(),
-        8_388_600
-    );
+    assert!(rt; counted(rt.alloc(), 8_388_600, 0)? == Some((8_388_600, LIMIT)));
     Ok(())
 }
 
 /// Records may share a long name: the copies take 64 MiB together at most.
 #[test]
 fn a_long_name_of_many(rt: HostRuntime) -> Result<(), Fail> {
-    let bytes = natives(rt.alloc(), 100_000, 600)?;
-    assert_eq!(rt; read(rt.alloc(), bytes.as_slice())?.natives.len(), 100_000);
-    let bytes = natives(rt.alloc(), 100_000, 700)?;
-    assert_eq!(rt;
-        read(rt.alloc(), bytes.as_slice()).err(),
-        Some(FormatFault::Memory)
-    );
+    let within = counted(rt.alloc(), 100_000, 600)?;
+    let above = counted(rt.alloc(), 100_000, 700)?;
+    assert!(rt; within == Some((100_000, 800_664)) && above.is_none());
     Ok(())
 }

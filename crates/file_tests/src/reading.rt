@@ -1,193 +1,195 @@
-use super::base::{COMPACT_MAIN, Change, EMPTY_MAIN, TWO_NATIVES, changed};
-use amx_format::{FormatFault, code_place, file_size, is_compact, read};
-use amx_ops::Amx;
+use super::base::{changed, compact_main, empty_main, two_natives};
+use amx_format::{code_place, file_size, is_compact, read};
 use std::alloc::{AllocError, Global};
 use std::test::Fail;
 
-/// Whether reading a file with some changes answers this fault.
-fn has(
-    alloc: Global,
-    file: &[u8],
-    changes: &[Change],
-    fault: FormatFault,
-) -> Result<bool, AllocError> {
-    let bytes = changed(alloc, file, changes)?;
-    Ok(read(alloc, bytes.as_slice()).err() == Some(fault))
-}
+/// Changes of a file, and the number of the fault that it then has, 0 where it is read.
+type Row = (&'static [u8], u8);
 
-/// Changes of the file of an empty main, each with the first fault that it has.
-const FAULTS: [(&[Change], FormatFault); 17] = [
-    (&[(4, &[0])], FormatFault::Magic),
-    (&[(6, &[7])], FormatFault::Version),
-    (&[(7, &[0])], FormatFault::Version),
-    (&[(7, &[9])], FormatFault::Version),
-    (&[(10, &[12])], FormatFault::RecordSize),
-    (&[(0, &[79])], FormatFault::SizeDiffers),
-    (&[(0, &[81])], FormatFault::SizeDiffers),
-    (&[(0, &[55])], FormatFault::SizeDiffers),
-    (&[(0, &[81]), (8, &[2])], FormatFault::SizeDiffers),
-    (&[(20, &[84])], FormatFault::SizeDiffers),
-    (&[(52, &[59])], FormatFault::Order),
-    (&[(24, &[76, 0])], FormatFault::Order),
+/// Changes of the file of an empty main.
+const HEADERS: [Row; 33] = [
+    (&[4, 0], 91),
+    (&[6, 7], 92),
+    (&[7, 0], 92),
+    (&[7, 9], 92),
+    (&[10, 12], 93),
+    (&[0, 79], 97),
+    (&[0, 81], 97),
+    (&[0, 55], 97),
+    (&[3, 0x80], 97),
+    // A size above the bytes isn't good where bytes may follow, nor is another hea in the plain form.
+    (&[0, 81, 8, 2], 97),
+    (&[20, 84], 97),
+    // Tables that fall, have a part of a record, begin in the header, or leave no room for a number.
+    (&[52, 59], 94),
+    (&[36, 64], 94),
+    (&[36, 57], 94),
+    (&[32, 48], 94),
+    (&[32, 58, 36, 58, 40, 58, 44, 58, 48, 58, 52, 58], 0),
+    (&[32, 59, 36, 59, 40, 59, 44, 59, 48, 59, 52, 59], 94),
+    // Parts that fall, or are no multiples of 4.
+    (&[24, 76, 25, 0], 94),
+    (&[16, 56], 94),
+    (&[16, 61], 94),
+    (&[24, 0x51], 94),
+    (&[27, 0x80], 94),
+    // 134,217,728 bytes from cod to stp, and four more.
+    (&[24, 60, 25, 0, 27, 8], 0),
+    (&[24, 64, 25, 0, 27, 8], 94),
     // Each fault with all behind it.
-    (
-        &[(4, &[0]), (6, &[7]), (10, &[12]), (0, &[79]), (52, &[59])],
-        FormatFault::Magic,
-    ),
-    (
-        &[(6, &[7]), (10, &[12]), (0, &[79]), (52, &[59])],
-        FormatFault::Version,
-    ),
-    (
-        &[(10, &[12]), (0, &[79]), (52, &[59])],
-        FormatFault::RecordSize,
-    ),
-    (&[(0, &[79]), (52, &[59])], FormatFault::SizeDiffers),
-    (&[(8, &[4]), (52, &[59])], FormatFault::Order),
+    (&[4, 0, 6, 7, 10, 12, 0, 79, 52, 59], 91),
+    (&[6, 7, 10, 12, 0, 79, 52, 59], 92),
+    (&[10, 12, 0, 79, 52, 59], 93),
+    (&[0, 79, 52, 59], 97),
+    (&[8, 4, 52, 59], 94),
+    // No fault: other flags, the first version, a main within an instruction.
+    (&[8, 0xF9, 9, 0xFF], 0),
+    (&[8, 2], 0),
+    (&[7, 1], 0),
+    (&[28, 4], 0),
 ];
 
-#[test]
-fn faults_of_the_header(rt: HostRuntime) -> Result<(), Fail> {
-    for (changes, fault) in FAULTS {
-        assert!(rt; has(rt.alloc(), &EMPTY_MAIN, changes, fault)?, "{fault}");
-    }
-    let short = [0; 55];
-    assert_eq!(rt; read(rt.alloc(), &short).err(), Some(FormatFault::TooShort));
-    assert_eq!(rt; read(rt.alloc(), &[]).err(), Some(FormatFault::TooShort));
-    Ok(())
+fn headers() -> &'static [Row] {
+    &HEADERS
 }
 
 /// Changes of the file with two natives.
-const NAME_FAULTS: [(&[Change], FormatFault); 8] = [
-    (&[(68, &[80])], FormatFault::NameOutside),
-    (&[(60, &[73])], FormatFault::NameOutside),
-    (&[(77, &[1, 1, 1])], FormatFault::NameOpen),
+const NAMES: [Row; 9] = [
+    (&[68, 80], 95),
+    (&[60, 73], 95),
+    (&[60, 72], 95),
+    (&[77, 1, 78, 1, 79, 1], 96),
     // A name outside the table goes before an open one of an earlier record.
-    (
-        &[(75, &[1, 1, 1, 1, 1]), (68, &[80])],
-        FormatFault::NameOutside,
-    ),
-    (&[(75, &[1, 1, 1, 1, 1])], FormatFault::NameOpen),
-    (&[(24, &[96]), (68, &[80])], FormatFault::Order),
+    (&[75, 1, 76, 1, 77, 1, 78, 1, 79, 1, 68, 80], 95),
+    (&[75, 1, 76, 1, 77, 1, 78, 1, 79, 1], 96),
+    (&[24, 96, 68, 80], 94),
     // Both go before a fault of compact cells.
-    (&[(8, &[4]), (68, &[80])], FormatFault::NameOutside),
-    (&[(8, &[4]), (77, &[1, 1, 1])], FormatFault::NameOpen),
+    (&[8, 4, 68, 80], 95),
+    (&[8, 4, 77, 1, 78, 1, 79, 1], 96),
 ];
 
-/// Changes of the file with compact cells.
-const CELL_FAULTS: [(&[Change], FormatFault); 6] = [
+fn names() -> &'static [Row] {
+    &NAMES
+}
+
+/// Changes of the file with compact cells: one cell more, an open one, five bytes that go on, a sixth,
+/// bytes behind the last cell, and code that begins behind the size.
+const CELLS: [Row; 7] = [
+    (&[16, 84, 20, 84, 24, 0x54], 80),
+    (&[66, 0xB0], 81),
+    (&[62, 0x80, 63, 0x80, 64, 0x80, 65, 0x80, 66, 0x80], 81),
     (
-        &[(16, &[84]), (20, &[84]), (24, &[0x54])],
-        FormatFault::Compact(80),
+        &[60, 0x80, 61, 0x80, 62, 0x80, 63, 0x80, 64, 0x80, 65, 0],
+        82,
     ),
-    (&[(66, &[0xB0])], FormatFault::Compact(81)),
-    (
-        &[(60, &[0x80, 0x80, 0x80, 0x80, 0x80, 0x80])],
-        FormatFault::Compact(82),
-    ),
-    (
-        &[(16, &[76]), (20, &[76]), (24, &[0x4C])],
-        FormatFault::Compact(83),
-    ),
-    (
-        &[(16, &[60]), (20, &[60]), (24, &[0x3C])],
-        FormatFault::Compact(83),
-    ),
-    // The code would begin behind the size.
-    (
-        &[(12, &[68]), (16, &[88]), (20, &[88]), (24, &[0x58])],
-        FormatFault::Order,
-    ),
+    (&[16, 76, 20, 76, 24, 0x4C], 83),
+    (&[16, 60, 20, 60, 24, 0x3C], 83),
+    (&[12, 68, 16, 88, 20, 88, 24, 0x58], 94),
 ];
 
-#[test]
-fn faults_of_names_and_cells(rt: HostRuntime) -> Result<(), Fail> {
-    for (changes, fault) in NAME_FAULTS {
-        assert!(rt; has(rt.alloc(), &TWO_NATIVES, changes, fault)?, "{fault}");
-    }
-    for (changes, fault) in CELL_FAULTS {
-        assert!(rt; has(rt.alloc(), &COMPACT_MAIN, changes, fault)?, "{fault}");
-    }
-    Ok(())
+fn cells() -> &'static [Row] {
+    &CELLS
 }
 
-/// Whether a file is that of an empty main, with these flags.
-fn is_empty_main(amx: &Amx, flags: u16) -> bool {
-    amx.flags == flags
-        && amx.version == 8
-        && amx.code.as_slice() == [120, 0, 46, 89, 48].as_slice()
-        && amx.store.is_empty()
-        && amx.room == 4096
-        && amx.entry == 8
-        && amx.publics.is_empty()
-        && amx.natives.is_empty()
-        && amx.libraries.is_empty()
-        && amx.variables.is_empty()
-        && amx.tags.is_empty()
-}
-
-#[test]
-fn an_empty_main(rt: HostRuntime) -> Result<(), Fail> {
-    assert!(rt; is_empty_main(&read(rt.alloc(), &EMPTY_MAIN)?, 0));
-    assert!(rt; is_empty_main(&read(rt.alloc(), &COMPACT_MAIN)?, 0));
-
-    // All flags but 0x02 and 0x04 are kept; with 0x02 bytes may follow.
-    let flags = changed(rt.alloc(), &EMPTY_MAIN, &[(8, &[0x79, 0x80])])?;
-    assert!(rt; is_empty_main(&read(rt.alloc(), flags.as_slice())?, 0x8079));
-    let mut longer = changed(rt.alloc(), &EMPTY_MAIN, &[(8, &[0x7B, 0x80])])?;
-    longer.extend_from_slice(&[1; 8])?;
-    assert!(rt; is_empty_main(&read(rt.alloc(), longer.as_slice())?, 0x8079));
-    Ok(())
-}
-
-/// What the header of a file says, where it is one.
-fn header_of(alloc: Global, bytes: &[u8]) -> Option<(u32, u32, bool)> {
+/// The number of a file's fault, or 0.
+fn fault_of(alloc: Global, bytes: &[u8]) -> u8 {
     match read(alloc, bytes) {
-        Ok(_amx) => Some((file_size(bytes), code_place(bytes), is_compact(bytes))),
-        Err(_) => None,
+        Ok(_amx) => 0,
+        Err(fault) => fault.number().unwrap_or(255),
+    }
+}
+
+/// The number of the first row, counted from 0, that is wrong.
+fn first_wrong(alloc: Global, file: &[u8], rows: &[Row]) -> Result<Option<usize>, AllocError> {
+    for (row, (changes, fault)) in rows.iter().enumerate() {
+        let bytes = changed(alloc, file, *changes)?;
+        if fault_of(alloc, bytes.as_slice()) != *fault {
+            return Ok(Some(row));
+        }
+    }
+    Ok(None)
+}
+
+#[test]
+fn faults_of_the_header(rt: HostRuntime) -> Result<(), Fail> {
+    assert_eq!(rt; first_wrong(rt.alloc(), empty_main(), headers())?, None);
+    Ok(())
+}
+
+#[test]
+fn faults_of_names(rt: HostRuntime) -> Result<(), Fail> {
+    assert_eq!(rt; first_wrong(rt.alloc(), two_natives(), names())?, None);
+    Ok(())
+}
+
+#[test]
+fn faults_of_cells(rt: HostRuntime) -> Result<(), Fail> {
+    assert_eq!(rt; first_wrong(rt.alloc(), compact_main(), cells())?, None);
+    Ok(())
+}
+
+#[test]
+fn fewer_bytes_than_a_header(rt: HostRuntime) {
+    assert!(rt; fault_of(rt.alloc(), &[]) == 90 && fault_of(rt.alloc(), &[0; 55]) == 90);
+}
+
+/// Whether a file is one, whose header says this size, this place of the code and this form.
+fn says(alloc: Global, bytes: &[u8], size: u32, code: u32, compact: bool) -> bool {
+    match read(alloc, bytes) {
+        Ok(_amx) => {
+            file_size(bytes) == size && code_place(bytes) == code && is_compact(bytes) == compact
+        }
+        Err(_) => false,
     }
 }
 
 #[test]
-fn what_a_header_says(rt: HostRuntime) -> Result<(), Fail> {
-    assert_eq!(rt; header_of(rt.alloc(), &EMPTY_MAIN), Some((80, 60, false)));
-    assert_eq!(rt; header_of(rt.alloc(), &COMPACT_MAIN), Some((67, 60, true)));
-    assert_eq!(rt; header_of(rt.alloc(), &TWO_NATIVES), Some((100, 80, false)));
+fn what_a_header_says(rt: HostRuntime) {
+    let plain = says(rt.alloc(), empty_main(), 80, 60, false);
+    assert!(rt; plain && says(rt.alloc(), compact_main(), 67, 60, true));
+}
 
-    // The code may begin anywhere.
-    let odd = changed(
-        rt.alloc(),
-        &COMPACT_MAIN,
-        &[(12, &[61]), (16, &[81]), (20, &[81]), (24, &[0x51])],
-    )?;
-    assert_eq!(rt; header_of(rt.alloc(), odd.as_slice()), Some((67, 61, true)));
-    let amx = read(rt.alloc(), odd.as_slice())?;
-    assert_eq!(rt; amx.code.as_slice(), [-8, 0, 46, 89, 48].as_slice());
+/// Whether the code may begin at any place: here a byte later, so that it is another one.
+fn is_odd(alloc: Global) -> Result<bool, Fail> {
+    let bytes = changed(alloc, compact_main(), &[12, 61, 16, 81, 20, 81, 24, 0x51])?;
+    let amx = read(alloc, bytes.as_slice())?;
+    Ok(amx.code.as_slice() == [-8, 0, 46, 89, 48].as_slice())
+}
+
+#[test]
+fn code_at_an_odd_place(rt: HostRuntime) -> Result<(), Fail> {
+    assert!(rt; is_odd(rt.alloc())?);
     Ok(())
+}
+
+/// Places of the second native's name, and what it is then: shared, a part of another, empty.
+const PLACES: [(u8, &[u8]); 5] = [(76, b"q"), (74, b"p"), (75, b""), (77, b""), (79, b"")];
+
+fn places() -> &'static [(u8, &'static [u8])] {
+    &PLACES
 }
 
 /// Whether the second native's name, which stands at a place, is read as this.
-fn is_named(alloc: Global, place: &'static [u8], name: &[u8]) -> Result<bool, Fail> {
-    let bytes = changed(alloc, &TWO_NATIVES, &[(68, place)])?;
+fn is_named(alloc: Global, place: u8, name: &[u8]) -> Result<bool, Fail> {
+    let bytes = changed(alloc, two_natives(), &[68, place])?;
     let amx = read(alloc, bytes.as_slice())?;
     Ok(match amx.natives.as_slice() {
-        [first, second] => first.name.as_slice() == b"p".as_slice()
-            && second.name.as_slice() == name,
+        [_, second] => second.name.as_slice() == name,
         _ => false,
     })
 }
 
+fn are_named(alloc: Global) -> Result<bool, Fail> {
+    for (place, name) in places() {
+        if !is_named(alloc, *place, *name)? {
+            return Ok(false);
+        }
+    }
+    Ok(true)
+}
+
 #[test]
 fn names_are_shared_or_empty(rt: HostRuntime) -> Result<(), Fail> {
-    let rows: [(&[u8], &[u8]); 5] = [
-        (&[76], b"q"),
-        (&[74], b"p"),
-        (&[75], b""),
-        (&[77], b""),
-        (&[79], b""),
-    ];
-    for (place, name) in rows {
-        assert!(rt; is_named(rt.alloc(), place, name)?);
-    }
+    assert!(rt; are_named(rt.alloc())?);
     Ok(())
 }
