@@ -1,9 +1,9 @@
 -- What is seen of a state in a mode.
-use Rattle.std.proofs.Common.{◌≡◌, ◌*◌, ◌≤◌, ◌/◌, ◌%◌, ℕ, ℤ, pos, List, length, replicate, refl, sym, ap, ◌∙◌, arith}
+use Rattle.std.proofs.Common.{◌≡◌, ◌/◌, ℕ, ℤ, pos, List, length, replicate, refl, sym, ap, arith}
 use Rattle.std.proofs.lemmas.List.{length-replicate}
 use Rattle.pawn_cells.specs.Cells.{bits_of}
 use Rattle.amx_ops.specs.declared.amx.Amx.{Amx}
-use Rattle.amx_ops.specs.State.{State, stp, first_hea, swept}
+use Rattle.amx_ops.specs.State.{State, swept}
 use Rattle.amx_ops.specs.Moves.{live_from, arguments}
 use Rattle.amx_effects.specs.declared.host.Registers.{Registers}
 use Rattle.amx_effects.specs.Hosting.{AreInOrder, registers_of, cleared}

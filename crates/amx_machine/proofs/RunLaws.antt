@@ -1,5 +1,5 @@
 -- Runs of a machine by the runs of its core.
-use Rattle.std.proofs.Common.{◌≡◌, ◌==◌, ℕ, ℤ, pos, Option, None, Some, Bool, true, false, if◌then◌else◌, refl, sym, ap, ◌∙◌}
+use Rattle.std.proofs.Common.{◌≡◌, ◌==◌, ℕ, ℤ, pos, None, Some, Bool, true, false, if◌then◌else◌, refl, sym, ap, ◌∙◌}
 use Rattle.std.proofs.lemmas.Bool.{false≢true}
 use Rattle.amx_ops.specs.declared.amx.Amx.{Amx}
 use Rattle.amx_ops.specs.Table.{is_number}
@@ -12,7 +12,7 @@ use Rattle.amx_machine.specs.declared.event.Event.{Event}
 use Rattle.amx_machine.specs.declared.event.Event.TheVariants as event
 use Rattle.amx_machine.specs.declared.mode.Mode.{Mode}
 use Rattle.amx_machine.specs.declared.mode.Mode.TheVariants as mode
-use Rattle.amx_machine.specs.Machine.{Machine, in_mode, resting, IsIdle, IsSteady}
+use Rattle.amx_machine.specs.Machine.{Machine, resting, IsIdle, IsSteady}
 use Rattle.amx_machine.specs.Runs.{Ran, asleep_or, mode_behind, event_of, ran_by, stays, last_event, again_or, core_of, ran, Follows}
 
 -- an idle machine isn't at a sleep

@@ -11,7 +11,7 @@ use Rattle.amx_machine.specs.declared.event.Event.{Event}
 use Rattle.amx_machine.specs.declared.event.Event.TheVariants as event
 use Rattle.amx_machine.specs.declared.mode.Mode.{Mode}
 use Rattle.amx_machine.specs.declared.mode.Mode.TheVariants as mode
-use Rattle.amx_machine.specs.Machine.{Machine, in_mode, IsIdle, IsSteady}
+use Rattle.amx_machine.specs.Machine.{Machine, IsIdle, IsSteady}
 
 -- how many steps were done, their event, and the machine behind them
 pub record Ran : Type 0 where
@@ -38,13 +38,13 @@ event_of (turn.Errs code) s = event.Error code
 event_of (turn.Halts code) s = event.Halt code s.pri s.alt
 event_of (turn.Asks native) s = event.Native native
 
+-- the machine behind it
+abbrev pub behind : Turn → Core → Machine
+behind t core = record { amx = core.amx; state = core.state; mode = mode_behind t }
+
 -- steps of which the last one did this
 abbrev pub ran_by : steps.Ran → Ran
-ran_by r = record {
-  steps = r.steps;
-  event = event_of r.turn r.machine.state;
-  machine = in_mode (mode_behind r.turn) r.machine;
-}
+ran_by r = record { steps = r.steps; event = event_of r.turn r.machine.state; machine = behind r.turn r.machine }
 
 -- no step
 abbrev pub stays : Event → Machine → Ran

@@ -5,6 +5,7 @@ mod event;
 mod machine;
 mod memory;
 mod mode;
+mod restore;
 mod start;
 
 pub use amx_effects::Registers;

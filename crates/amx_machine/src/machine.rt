@@ -1,6 +1,6 @@
 ghost use Rattle.std.specs.Prelude.{◌≡◌, IfOk};
-ghost use Rattle.amx_machine.specs.Machine.{IsIdle, IsSteady, first, in_mode};
-ghost use Rattle.amx_machine.specs.Runs.{Follows, core_of, event_of, last_event, mode_behind, ran};
+ghost use Rattle.amx_machine.specs.Machine.{IsClean, IsIdle, IsSteady, first};
+ghost use Rattle.amx_machine.specs.Runs.{Follows, behind, core_of, event_of, last_event, mode_behind, ran};
 ghost use Rattle.amx_machine.specs.Starts.{StartsSo, address_by};
 ghost use Rattle.amx_machine.specs.declared.event.Event.TheVariants as event;
 ghost use Rattle.amx_machine.specs.declared.mode.Mode.TheVariants as mode;
@@ -91,6 +91,7 @@ impl<'v> Machine<'v> {
         }
         self.wake();
         let (steps, turn) = amx_steps::run(&mut self.core, count);
+        let _registers = self.core.registers();
         (steps, self.settle(turn))
     }
 
@@ -127,9 +128,10 @@ impl<'v> Machine<'v> {
 
     /// Takes the mode that a step leads to, and tells its event.
     fn settle(&mut self, turn: Turn) -> Event
-        requires { self.old.mode ≡ mode.Running }
+        requires running { self.old.mode ≡ mode.Running }
+        requires clean { IsClean (mode_behind turn) self.old.state }
         ensures event { result ≡ event_of turn self.old.state }
-        ensures machine { self.new ≡ in_mode (mode_behind turn) (core_of self.old) }
+        ensures machine { self.new ≡ behind turn (core_of self.old) }
     {
         let (mode, event) = match turn {
             Turn::Goes => (Mode::Running, Event::Going),

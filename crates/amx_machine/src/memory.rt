@@ -1,4 +1,4 @@
-ghost use Rattle.std.specs.Prelude.{[], ◌≡◌, ◌<◌, length, option_map, pos, unwrap_or};
+ghost use Rattle.std.specs.Prelude.{[], ◌≡◌, ◌<◌, ◌≤◌, ◌++◌, drop, length, option_map, pos, unwrap_or};
 ghost use Rattle.std.specs.List.{slice_index_or};
 ghost use Rattle.pawn_cells.specs.Cells.{bits_of};
 ghost use Rattle.amx_ops.specs.Moves as moves;
@@ -38,6 +38,19 @@ impl<'v> Machine<'v> {
         self.core.live_from(at)
     }
 
+    /// Writes cells from an address on, where so many lie within its live part.
+    pub fn write(&mut self, at: i32, cells: &[i32])
+        requires { length cells.now ≤ length (moves.live_from self.old.state (bits_of at)) }
+        ensures { self.new ≡ record self.old {
+          state = record self.old.state {
+            cells = moves.with_write (record { to = bits_of at; values = cells.now })
+                self.old.state.cells;
+          };
+        } }
+    {
+        put_first(self.core.live_from_mut(at), cells);
+    }
+
     /// The registers. HEA and STK are multiples of 4 between the data's end and the top, HEA not
     /// above STK, and at a sleep the cells from HEA below STK are 0.
     pub fn registers(&self) -> Registers
@@ -61,4 +74,12 @@ impl<'v> Machine<'v> {
         self.core.clear(registers);
         self.mode = Mode::Asleep;
     }
+}
+
+/// Puts cells in the place of a part's first.
+fn put_first(part: &mut [i32], cells: &[i32])
+    requires { length cells.now ≤ length part.old }
+    ensures { part.new ≡ cells.now ++ drop (length cells.now) part.old }
+{
+    part[..cells.len()].copy_from_slice(cells);
 }

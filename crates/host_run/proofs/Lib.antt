@@ -1,1 +1,10 @@
 pub mod NameLaws
+pub mod FormLaws
+pub mod SightLaws
+pub mod ReplyLaws
+pub mod WriteLaws
+pub mod GuestLaws
+pub mod GrowLaws
+pub mod ReachLaws
+pub mod AdvanceLaws
+pub mod LoopLaws

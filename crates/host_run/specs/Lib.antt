@@ -1,1 +1,11 @@
+pub mod Advance
 pub mod Bound
+pub mod Called
+pub mod Guest
+pub mod Reached
+pub mod Reply
+pub mod Segments
+pub mod Session
+pub mod Sights
+pub mod SoFar
+pub mod Stands

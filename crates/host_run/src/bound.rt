@@ -37,6 +37,17 @@ impl Model for Bound {
     ghost view = { λ bound. bound.natives };
 }
 
+impl Bound {
+    ghost use Rattle.std.specs.Prelude.{◌≡◌, option_map, slice_get};
+
+    /// A native by its number.
+    pub(crate) fn get(&self, number: usize) -> Option<&BoundNative>
+        ensures { option_map (λ native. native.now) result ≡ slice_get self.now number }
+    {
+        self.natives.as_slice().get(number)
+    }
+}
+
 /// Why natives aren't bound.
 #[derive(Clone, Copy, Debug, PartialEq, Eq, Error)]
 pub enum BindFault {

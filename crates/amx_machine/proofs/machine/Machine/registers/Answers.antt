@@ -1,4 +1,4 @@
-use Rattle.std.proofs.Common.{◌*◌, arith}
+use Rattle.std.proofs.Common.{arith}
 use Rattle.amx_machine.proofs.RestLaws.{order_in, clean_in, length_in}
 use Rattle.amx_machine.proofs.machine.Machine.registers.Goals as goal
 

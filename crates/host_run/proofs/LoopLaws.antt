@@ -1,0 +1,410 @@
+-- A session from event to event: it goes on, or the event was the last one.
+use Rattle.std.proofs.Common.{◌≡◌, ◌+◌, ◌-◌, ◌<◌, ◌≤◌, ℕ, suc, ℤ, Bool, true, false, List, [], ◌++◌, Option, None, Some, Ok, Err, refl, sym, ap, subst, ◌∙◌, append-nil, append_assoc, arith}
+use Rattle.std.proofs.lemmas.Grind.{flat_map-append}
+use Rattle.pawn_outside.specs.Said.{Said}
+use Rattle.pawn_outside.specs.Taken.{with_more, WroteFront}
+use Rattle.pawn_outside.proofs.SaidLaws.{said_as, said_then, said_cut, said_nothing}
+use Rattle.host_script.specs.declared.script.Script.{Script}
+use Rattle.host_script.specs.declared.event.Event.{Event as Shown}
+use Rattle.host_script.specs.declared.event.End.{End}
+use Rattle.host_script.specs.Text.{event_text}
+use Rattle.host_script.specs.NativeCall.{Called, Ends_there, Answers, native_call}
+use Rattle.amx_ops.specs.declared.amx.Amx.{Amx}
+use Rattle.amx_ops.specs.Table.{is_number}
+use Rattle.amx_ops.specs.State.{State, Errs}
+use Rattle.amx_ops.specs.Moves.{Config, move, moved, arguments}
+use Rattle.amx_ops.specs.Moves as moves
+use Rattle.amx_ops.specs.Runs.{Moved, Segmented, Stop, Steps, Asleep, Over_by, segment}
+use Rattle.amx_ops.specs.Runs as run
+use Rattle.amx_ops.proofs.RunLaws.{segment-zero, segment-goes, segment-sleeps, segment-ends}
+use Rattle.amx_machine.specs.Machine.{Machine}
+use Rattle.amx_machine.specs.declared.event.Event.{Event}
+use Rattle.amx_machine.specs.declared.event.Event.TheVariants as event
+use Rattle.amx_machine.specs.declared.mode.Mode.TheVariants as mode
+use Rattle.host_run.specs.declared.end.SessionEnd.{SessionEnd}
+use Rattle.host_run.specs.declared.end.SessionEnd.TheVariants as answer
+use Rattle.host_run.specs.Segments.{Place, begun, segment_of, lines_of, stop_text, text_of}
+use Rattle.host_run.specs.Stands.{IsAwake, Stands, IsLeft}
+use Rattle.host_run.specs.Session.{IsAnswer, IsCutOff, Concludes, Sessions, told}
+use Rattle.host_run.specs.Advance.{made_by, IsGiven, Advanced, turned_by, move_by, told_of}
+use Rattle.host_run.specs.Reached.{placed, IsLast, Reached}
+use Rattle.host_run.specs.SoFar.{SoFar}
+use Rattle.host_run.proofs.GrowLaws.{Grows, config_of, move_grows, segment_grows}
+
+-- ---- one move of a segment
+
+-- it stops there, or goes on
+abbrev behind : (Config → Moved Config End) → Stop End → ℕ → ℕ → Config → Segmented Config End
+behind go Steps k so_far c = segment go k so_far c
+behind go Asleep k so_far c = record { stop = Asleep; config = c; steps = so_far }
+behind go (Over_by e) k so_far c = record { stop = Over_by e; config = c; steps = so_far }
+
+one_move : (go : Config → Moved Config End) (stop : Stop End) (k so_far : ℕ) (c d : Config) → go c ≡ made_by stop d
+    → segment go (suc k) so_far c ≡ behind go stop k (so_far + 1) d
+one_move go Steps k so_far c d e = segment-goes go k so_far c d e
+one_move go Asleep k so_far c d e = segment-sleeps go k so_far c d e
+one_move go (Over_by x) k so_far c d e = segment-ends go k so_far c d x e
+
+at_once : (go : Config → Moved Config End) (stop : Stop End) (so_far : ℕ) (c : Config)
+    → behind go stop 0 so_far c ≡ record { stop = stop; config = c; steps = so_far }
+at_once go Steps so_far c = segment-zero go so_far c
+at_once go Asleep so_far c = refl
+at_once go (Over_by e) so_far c = refl
+
+-- what was shown comes first
+text_grows : (go : Config → Moved Config End) (grows : (c : Config) → Grows c.events (config_of (go c)).events) (stop : Stop End) (k so_far : ℕ) (c : Config)
+    → (more : List ℕ) × (text_of (behind go stop k so_far c) ≡ (lines_of c.events ++ stop_text stop) ++ more)
+text_grows go grows Steps k so_far c =
+    let rest = segment_grows go grows k so_far c in (
+      lines_of rest.0 ++ stop_text (segment go k so_far c).stop,
+      ap (λ events. lines_of events ++ stop_text (segment go k so_far c).stop) rest.1
+          ∙ ap (λ text. text ++ stop_text (segment go k so_far c).stop) (flat_map-append event_text c.events rest.0)
+          ∙ append_assoc (lines_of c.events) (lines_of rest.0) (stop_text (segment go k so_far c).stop)
+          ∙ ap (λ text. text ++ (lines_of rest.0 ++ stop_text (segment go k so_far c).stop)) (sym (append-nil (lines_of c.events))),
+    )
+text_grows go grows Asleep k so_far c = ([], sym (append-nil (lines_of c.events ++ [])))
+text_grows go grows (Over_by e) k so_far c = ([], sym (append-nil (lines_of c.events ++ stop_text (Over_by e))))
+
+-- ---- the move behind an event
+
+abbrev pub IsStep : Event → Type 0
+IsStep event.Going = ⊥
+IsStep (event.Native number) = Unit {0}
+IsStep (event.Halt code pri alt) = Unit {0}
+IsStep (event.Error code) = Unit {0}
+
+pub steps_if : (e : Event) (given : Option SessionEnd) (g : SessionEnd) → (e ≡ event.Going → given ≡ None) → given ≡ Some g → IsStep e
+steps_if event.Going given g h is = absurd (cc (h refl, is))
+steps_if (event.Native number) given g h is = tt
+steps_if (event.Halt code pri alt) given g h is = tt
+steps_if (event.Error code) given g h is = tt
+
+module _ (amx : Amx) (script : Script) where
+  answered_any : (called : Called ℕ) (s mid : State) (position : ℕ) (events : List Shown)
+      → moves.answered called s (placed mid position events) ≡ moves.answered called s (placed s position events)
+  answered_any (Ends_there trap at) s mid position events = refl
+  answered_any (Answers it result at puts) s mid position events = refl
+
+  asked_any : (name : List ℕ) (o : Option (List ℤ)) (s mid : State) (position : ℕ) (events : List Shown)
+      → moves.asked script name o s (placed mid position events) ≡ moves.asked script name o s (placed s position events)
+  asked_any name None s mid position events = refl
+  asked_any name (Some values) s mid position events = answered_any (native_call script (moves.look s) name values position) s mid position events
+
+  halted_any : (v : ℤ) (a b d : Bool) (s mid : State) (position : ℕ) (events : List Shown)
+      → moves.halted_by v a b d s (placed mid position events) ≡ moves.halted_by v a b d s (placed s position events)
+  halted_any v true b d s mid position events = refl
+  halted_any v false true d s mid position events = refl
+  halted_any v false false true s mid position events = refl
+  halted_any v false false false s mid position events = refl
+
+  -- from the state before it or the one behind it
+  move_is : (e : Event) (bound : ℕ) (mid : State) (passed count : ℕ) (s : State) (position : ℕ) (events : List Shown) → IsStep e
+      → IsLast e amx bound mid passed count s
+      → move amx script (placed mid position events) ≡ moved amx script (placed s position events) (turned_by e s)
+  move_is event.Going bound mid passed count s position events h last = absurd h
+  move_is (event.Native number) bound mid passed count s position events h last =
+      ap (moved amx script (placed mid position events)) last.2 ∙ asked_any (moves.name_of amx.natives number) (arguments s) s mid position events
+  move_is (event.Halt code pri alt) bound mid passed count s position events h last =
+      ap (moved amx script (placed mid position events)) last.2
+      ∙ halted_any code (is_number 0 code) (is_number 1 code) (is_number 12 code) s mid position events
+  move_is (event.Error code) bound mid passed count s position events h last =
+      ap (moved amx script (placed mid position events)) last.2 ∙ ap (λ x. moved amx script (placed x position events) (Errs code)) (sym last.3)
+
+counted : (e : Event) (amx : Amx) (bound : ℕ) (mid : State) (passed count : ℕ) (s : State) → IsStep e → IsLast e amx bound mid passed count s → (count ≡ passed + 1) × (passed < bound)
+counted event.Going amx bound mid passed count s h last = absurd h
+counted (event.Native number) amx bound mid passed count s h last = (last.0, last.1)
+counted (event.Halt code pri alt) amx bound mid passed count s h last = (last.0, last.1)
+counted (event.Error code) amx bound mid passed count s h last = (last.0, last.1)
+
+abbrev place_behind : Machine → Place → Place
+place_behind m now = record { machine = m; position = now.position }
+
+-- ---- the segment, up to the event and behind it
+
+module _ {S : Type 0} (taken : S → Option (List ℕ)) (faults : S → ℕ) (has_room : S → ℕ → Type 0) (begun mid out : S)
+    (script : Script) (old now new : Place) (bound done count : ℕ) (e : Event) (m : Machine)
+    (so : SoFar script old bound done now (λ text. Said taken faults has_room begun mid text (Ok tt)))
+    (r : Reached (bound - done) now.machine count e m) (within_bound : done < bound) where
+  abbrev go : Config → Moved Config End
+  go = move old.machine.amx script
+
+  abbrev before : ℕ
+  before = done + r.passed
+
+  up_to : (k : ℕ) → segment_of script old (before + k) ≡ segment go k before (placed r.mid now.position so.shown)
+  up_to k =
+      let n : (done + r.passed) + k ≡ done + (r.passed + k) = omega arith in
+      ap (segment_of script old) n ∙ so.leads (r.passed + k)
+      ∙ subst (λ amx. segment (move amx script) (r.passed + k) done (placed now.machine.state now.position so.shown) ≡ segment (move amx script) k before (placed r.mid now.position so.shown))
+      so.file (r.leads script k done now.position so.shown)
+
+  module _ (given : Option SessionEnd) (file : new.machine.amx ≡ m.amx)
+      (ad : Advanced (move_by m.amx script e (place_behind m now)) new given (λ text. Said taken faults has_room mid out text (told_of given))) where
+    abbrev at_end : Config
+    at_end = placed new.machine.state new.position (so.shown ++ ad.shown)
+
+    module _ (steps : IsStep e) where
+      last_move : go (placed r.mid now.position so.shown) ≡ made_by ad.stop at_end
+      last_move =
+          subst (λ amx. move amx script (placed r.mid now.position so.shown) ≡ made_by ad.stop at_end) (r.file ∙ so.file)
+          (subst (λ amx. move amx script (placed r.mid now.position so.shown) ≡ moved m.amx script (placed m.state now.position so.shown) (turned_by e m.state)) (sym r.file)
+          (move_is now.machine.amx script e (bound - done) r.mid r.passed count m.state now.position so.shown steps r.last
+          ∙ ap (λ amx. moved amx script (placed m.state now.position so.shown) (turned_by e m.state)) (sym r.file))
+          ∙ ad.moved so.shown)
+
+      from_there : (k : ℕ) → segment_of script old (before + suc k) ≡ behind go ad.stop k (before + 1) at_end
+      from_there k = up_to (suc k) ∙ one_move go ad.stop k before (placed r.mid now.position so.shown) at_end last_move
+
+      count_is : count ≡ r.passed + 1
+      count_is = (counted e now.machine.amx (bound - done) r.mid r.passed count m.state steps r.last).0
+
+      passed_is : r.passed < bound - done
+      passed_is = (counted e now.machine.amx (bound - done) r.mid r.passed count m.state steps r.last).1
+
+      is_within : done + count ≤ bound
+      is_within = omega (arith, count_is, passed_is)
+
+      total : before + 1 ≡ done + count
+      total = omega (arith, count_is)
+
+      -- the segment of so many steps
+      so_many : segment_of script old (done + count) ≡ record { stop = ad.stop; config = at_end; steps = done + count }
+      so_many =
+          let n : done + count ≡ before + suc 0 = omega (arith, count_is) in
+          ap (segment_of script old) n ∙ from_there 0 ∙ at_once go ad.stop (before + 1) at_end
+          ∙ ap (λ i. record { stop = ad.stop; config = at_end; steps = i }) total
+
+      all_of : bound ≡ before + suc (bound - (before + 1))
+      all_of = omega (arith, passed_is)
+
+      -- that of the bound
+      whole : segment_of script old bound ≡ behind go ad.stop (bound - (before + 1)) (done + count) at_end
+      whole = ap (segment_of script old) all_of ∙ from_there (bound - (before + 1)) ∙ ap (λ i. behind go ad.stop (bound - (before + 1)) i at_end) total
+
+      stands_by : (n : ℕ) → segment_of script old n ≡ record { stop = ad.stop; config = at_end; steps = done + count }
+          → Stands old (segment_of script old n) (done + count) new
+      stands_by n is = record {
+        file = file ∙ r.file ∙ so.file;
+        state = sym (ap (λ it. it.config.state) is);
+        position = sym (ap (λ it. it.config.position) is);
+        steps = sym (ap (λ it. it.steps) is);
+        still = λ none. absurd (omega (arith, none, count_is));
+        mode = λ some. subst (λ stop. IsLeft stop new.machine.mode) (sym (ap (λ it. it.stop) is)) ad.mode;
+      }
+
+      text_then : lines_of (so.shown ++ ad.shown) ++ stop_text ad.stop ≡ lines_of so.shown ++ (lines_of ad.shown ++ stop_text ad.stop)
+      text_then =
+          ap (λ text. text ++ stop_text ad.stop) (flat_map-append event_text so.shown ad.shown)
+          ∙ append_assoc (lines_of so.shown) (lines_of ad.shown) (stop_text ad.stop)
+
+      text_before : text_of (segment_of script old before) ≡ lines_of so.shown
+      text_before =
+          let n : before ≡ before + 0 = omega arith in
+          ap (λ k. text_of (segment_of script old k)) n
+          ∙ ap text_of (up_to 0 ∙ segment-zero go before (placed r.mid now.position so.shown))
+          ∙ append-nil (lines_of so.shown)
+
+      text_behind : text_of (segment_of script old (done + count)) ≡ text_of (segment_of script old before) ++ (lines_of ad.shown ++ stop_text ad.stop)
+      text_behind = ap text_of so_many ∙ text_then ∙ ap (λ text. text ++ (lines_of ad.shown ++ stop_text ad.stop)) (sym text_before)
+
+      -- more may follow it
+      text_whole : (more : List ℕ) × (text_of (segment_of script old bound) ≡ (lines_of so.shown ++ (lines_of ad.shown ++ stop_text ad.stop)) ++ more)
+      text_whole =
+          let rest = text_grows go (move_grows old.machine.amx script) ad.stop (bound - (before + 1)) (done + count) at_end in
+          (rest.0, ap text_of whole ∙ rest.1 ∙ ap (λ text. text ++ rest.0) text_then)
+
+      -- it stops there
+      stopped : (ad.stop ≡ Steps → ⊥) → segment_of script old bound ≡ record { stop = ad.stop; config = at_end; steps = done + count }
+      stopped goes = whole ∙ by ad.stop goes where
+        by : (stop : Stop End) → (stop ≡ Steps → ⊥)
+            → behind go stop (bound - (before + 1)) (done + count) at_end ≡ record { stop = stop; config = at_end; steps = done + count }
+        by Steps h = absurd (h refl)
+        by Asleep h = refl
+        by (Over_by x) h = refl
+
+    -- ---- it goes on
+
+    module _ (on : given ≡ None) where
+      stop_is : ad.stop ≡ Steps
+      stop_is = subst (IsGiven ad.stop new.machine.state) on ad.gives
+
+      lines : Said taken faults has_room begun out (lines_of (so.shown ++ ad.shown)) (Ok tt)
+      lines =
+          let none : lines_of ad.shown ++ stop_text ad.stop ≡ lines_of ad.shown =
+          ap (λ stop. lines_of ad.shown ++ stop_text stop) stop_is ∙ append-nil (lines_of ad.shown) in
+          let more : Said taken faults has_room mid out (lines_of ad.shown ++ stop_text ad.stop) (Ok tt) =
+          subst (λ it. Said taken faults has_room mid out (lines_of ad.shown ++ stop_text ad.stop) (told_of it)) on ad.said in
+          said_as (sym (flat_map-append event_text so.shown ad.shown)) (said_then so.said (said_as none more))
+
+      runs_on : new.machine.mode ≡ mode.Running
+      runs_on = subst (λ stop. IsLeft stop new.machine.mode) stop_is ad.mode
+
+      by_leads : done + count ≤ bound → 1 ≤ count
+          → ((k : ℕ) → segment_of script old ((done + count) + k) ≡ segment go k (done + count) at_end)
+          → SoFar script old bound (done + count) new (λ text. Said taken faults has_room begun out text (Ok tt))
+      by_leads within some leads = record {
+        within = within;
+        file = file ∙ r.file ∙ so.file;
+        awake = subst IsAwake (sym runs_on) tt;
+        still = λ none. absurd (omega (arith, none, some));
+        running = λ h. runs_on;
+        shown = so.shown ++ ad.shown;
+        said = lines;
+        leads = leads;
+      }
+
+      by_step : IsStep e → SoFar script old bound (done + count) new (λ text. Said taken faults has_room begun out text (Ok tt))
+      by_step steps =
+          by_leads (is_within steps) (omega (arith, count_is steps))
+          (λ k.
+          let n : (done + count) + k ≡ before + suc k = omega (arith, count_is steps) in
+          ap (segment_of script old) n ∙ from_there steps k ∙ ap (λ stop. behind go stop k (before + 1) at_end) stop_is
+          ∙ ap (λ i. segment go k i at_end) (total steps))
+
+      -- all of the bound was done without an event
+      by_going : (count ≡ r.passed) × (r.passed ≡ bound - done) × (m.state ≡ r.mid)
+          → ((events : List Shown) → run.Goes (placed m.state now.position events) ≡ made_by ad.stop (placed new.machine.state new.position (events ++ ad.shown)))
+          → SoFar script old bound (done + count) new (λ text. Said taken faults has_room begun out text (Ok tt))
+      by_going last moves =
+          by_leads (omega (arith, last.0, last.1, within_bound)) (omega (arith, last.0, last.1, within_bound))
+          (λ k.
+          let n : (done + count) + k ≡ before + k = omega (arith, last.0) in
+          let t : before ≡ done + count = omega (arith, last.0) in
+          let c = moves so.shown ∙ ap (λ stop. made_by stop at_end) stop_is in
+          ap (segment_of script old) n ∙ up_to k
+          ∙ ap (λ s. segment go k before (placed s now.position so.shown)) (sym last.2)
+          ∙ ap (segment go k before) (ap config_of c)
+          ∙ ap (λ i. segment go k i at_end) t)
+
+    -- ---- it ends
+
+    module _ (g : SessionEnd) (on : given ≡ Some g) (steps : IsStep e) where
+      gives : IsGiven ad.stop new.machine.state (Some g)
+      gives = subst (IsGiven ad.stop new.machine.state) on ad.gives
+
+      told_so : Said taken faults has_room mid out (lines_of ad.shown ++ stop_text ad.stop) (told g)
+      told_so = subst (λ it. Said taken faults has_room mid out (lines_of ad.shown ++ stop_text ad.stop) (told_of it)) on ad.said
+
+      concludes : (ad.stop ≡ Steps → ⊥) → IsAnswer (record { stop = ad.stop; config = at_end; steps = done + count }) g
+          → Concludes (segment_of script old) bound old (done + count) g new
+      concludes goes is = record {
+        answer = subst (λ made. IsAnswer made g) (sym (stopped steps goes)) is;
+        stands = stands_by steps bound (stopped steps goes);
+      }
+
+      all_said : (ad.stop ≡ Steps → ⊥) → Said taken faults has_room begun out (text_of (segment_of script old bound)) (told g)
+      all_said goes = said_as (sym (ap text_of (stopped steps goes) ∙ text_then steps)) (said_then so.said told_so)
+
+    not_steps : (stop : Stop End) (x : End) → stop ≡ Over_by x → stop ≡ Steps → ⊥
+    not_steps stop x e f = absurd (cc (e, f))
+
+    not_awake : (stop : Stop End) → stop ≡ Asleep → stop ≡ Steps → ⊥
+    not_awake stop e f = absurd (cc (e, f))
+
+    -- the sink failed at the last line
+    cut_off : given ≡ Some answer.SinkFault → IsStep e
+        → IsCutOff (segment_of script old) (taken begun) (taken out) (done + count)
+    cut_off on steps = record {
+      before = before;
+      last = omega (arith, count_is steps);
+      line = lines_of ad.shown ++ stop_text ad.stop;
+      shows = text_behind steps;
+      some = ad.some on;
+      front = subst (λ front. WroteFront front (taken out) (lines_of ad.shown ++ stop_text ad.stop))
+          (so.said.whole ∙ ap (with_more (taken begun)) (sym (text_before steps))) ad.said.front;
+    }
+
+    pub session_ends : (g : SessionEnd) → given ≡ Some g → IsStep e
+        → Sessions (segment_of script old) (taken begun) (taken out) bound old (done + count) g new
+    session_ends (answer.Done value) on steps =
+        let is = gives (answer.Done value) on steps in concludes (answer.Done value) on steps (not_steps ad.stop _ is) is
+    session_ends (answer.Exit value tag) on steps =
+        let is = gives (answer.Exit value tag) on steps in concludes (answer.Exit value tag) on steps (not_steps ad.stop _ is) is
+    session_ends (answer.Error code) on steps =
+        let is = gives (answer.Error code) on steps in concludes (answer.Error code) on steps (not_steps ad.stop _ is) is
+    session_ends (answer.Asleep value tag) on steps =
+        let is = gives (answer.Asleep value tag) on steps in concludes (answer.Asleep value tag) on steps (not_awake ad.stop is.0) is
+    session_ends answer.Steps on steps = absurd (gives answer.Steps on steps)
+    session_ends answer.SinkFault on steps = record {
+      within = is_within steps;
+      stands = stands_by steps (done + count) (so_many steps);
+      cut = cut_off on steps;
+    }
+
+    pub text_ends : (g : SessionEnd) → given ≡ Some g → IsStep e
+        → Said taken faults has_room begun out (text_of (segment_of script old bound)) (told g)
+    text_ends (answer.Done value) on steps = all_said (answer.Done value) on steps (not_steps ad.stop _ (gives (answer.Done value) on steps))
+    text_ends (answer.Exit value tag) on steps = all_said (answer.Exit value tag) on steps (not_steps ad.stop _ (gives (answer.Exit value tag) on steps))
+    text_ends (answer.Error code) on steps = all_said (answer.Error code) on steps (not_steps ad.stop _ (gives (answer.Error code) on steps))
+    text_ends (answer.Asleep value tag) on steps = all_said (answer.Asleep value tag) on steps (not_awake ad.stop (gives (answer.Asleep value tag) on steps).0)
+    text_ends answer.Steps on steps = absurd (gives answer.Steps on steps)
+    text_ends answer.SinkFault on steps =
+        let more = text_whole steps in
+        said_as (sym more.1) (said_cut more.0 (Err (record {})) refl (said_then so.said (told_so answer.SinkFault on steps)))
+
+-- ---- all steps are done
+
+module _ {S : Type 0} (taken : S → Option (List ℕ)) (faults : S → ℕ) (has_room : S → ℕ → Type 0) (begun out : S)
+    (script : Script) (old now : Place) (bound done : ℕ)
+    (so : SoFar script old bound done now (λ text. Said taken faults has_room begun out text (Ok tt))) (all : bound ≤ done) where
+  all_done : segment_of script old bound ≡ record { stop = Steps; config = placed now.machine.state now.position so.shown; steps = done }
+  all_done =
+      let n : bound ≡ done + 0 = omega (arith, so.within, all) in
+      ap (segment_of script old) n ∙ so.leads 0 ∙ segment-zero (move old.machine.amx script) done (placed now.machine.state now.position so.shown)
+
+  pub session_done : Sessions (segment_of script old) (taken begun) (taken out) bound old done answer.Steps now
+  session_done = record {
+    answer = ap (λ it. it.stop) all_done;
+    stands = record {
+      file = so.file;
+      state = sym (ap (λ it. it.config.state) all_done);
+      position = sym (ap (λ it. it.config.position) all_done);
+      steps = sym (ap (λ it. it.steps) all_done);
+      still = so.still;
+      mode = λ some. subst (λ stop. IsLeft stop now.machine.mode) (sym (ap (λ it. it.stop) all_done)) (so.running some);
+    };
+  }
+
+  pub text_done : Said taken faults has_room begun out (text_of (segment_of script old bound)) (told answer.Steps)
+  text_done = said_as (sym (ap text_of all_done ∙ append-nil (lines_of so.shown))) so.said
+
+-- ---- nothing is done
+
+pub at_start : {S : Type 0} (taken : S → Option (List ℕ)) (faults : S → ℕ) (has_room : S → ℕ → Type 0) (out : S) (script : Script) (old : Place) (bound : ℕ)
+    → IsAwake old.machine.mode → SoFar script old bound 0 old (λ text. Said taken faults has_room out out text (Ok tt))
+at_start taken faults has_room out script old bound awake = record {
+  within = omega arith;
+  file = refl;
+  awake = awake;
+  still = λ h. refl;
+  running = λ h. absurd (omega (arith, h));
+  shown = [];
+  said = said_nothing out;
+  leads = λ k. let n : 0 + k ≡ k = omega arith in ap (segment_of script old) n;
+}
+
+-- ---- from event to event
+
+-- so many steps were counted, within the bound
+pub counts : (e : Event) (amx : Amx) (bound : ℕ) (mid : State) (passed count : ℕ) (s : State) → 1 ≤ bound → IsLast e amx bound mid passed count s
+    → (1 ≤ count) × (count ≤ bound)
+counts event.Going amx bound mid passed count s some last = (omega (arith, some, last.0, last.1), omega (arith, last.0, last.1))
+counts (event.Native number) amx bound mid passed count s some last = (omega (arith, last.0), omega (arith, last.0, last.1))
+counts (event.Halt code pri alt) amx bound mid passed count s some last = (omega (arith, last.0), omega (arith, last.0, last.1))
+counts (event.Error code) amx bound mid passed count s some last = (omega (arith, last.0), omega (arith, last.0, last.1))
+
+-- behind an event that didn't end it
+pub session_goes : {S : Type 0} (taken : S → Option (List ℕ)) (faults : S → ℕ) (has_room : S → ℕ → Type 0) (begun mid out : S)
+    (script : Script) (old now new : Place) (bound done count : ℕ) (e : Event) (m : Machine)
+    (so : SoFar script old bound done now (λ text. Said taken faults has_room begun mid text (Ok tt)))
+    (r : Reached (bound - done) now.machine count e m) (within_bound : done < bound) (given : Option SessionEnd) (file : new.machine.amx ≡ m.amx)
+    (ad : Advanced (move_by m.amx script e (place_behind m now)) new given (λ text. Said taken faults has_room mid out text (told_of given)))
+    → given ≡ None → SoFar script old bound (done + count) new (λ text. Said taken faults has_room begun out text (Ok tt))
+session_goes taken faults has_room begun mid out script old now new bound done count event.Going m so r within_bound given file ad on =
+    by_going taken faults has_room begun mid out script old now new bound done count event.Going m so r within_bound given file ad on r.last ad.moved
+session_goes taken faults has_room begun mid out script old now new bound done count (event.Native number) m so r within_bound given file ad on =
+    by_step taken faults has_room begun mid out script old now new bound done count (event.Native number) m so r within_bound given file ad on tt
+session_goes taken faults has_room begun mid out script old now new bound done count (event.Halt code pri alt) m so r within_bound given file ad on =
+    by_step taken faults has_room begun mid out script old now new bound done count (event.Halt code pri alt) m so r within_bound given file ad on tt
+session_goes taken faults has_room begun mid out script old now new bound done count (event.Error code) m so r within_bound given file ad on =
+    by_step taken faults has_room begun mid out script old now new bound done count (event.Error code) m so r within_bound given file ad on tt

@@ -1,0 +1,76 @@
+ghost use Rattle.std.specs.Prelude.{◌≡◌, ◌++◌, codes, length, map, option_map, Some, true};
+ghost use Rattle.std.specs.Fmt.{signed_decimal};
+ghost use Rattle.pawn_outside.specs.Said.{Said};
+ghost use Rattle.host_script.specs.Text.{argument_text, arguments_text, event_text};
+ghost use Rattle.host_script.specs.declared.event.Event.TheVariants as event;
+ghost use Rattle.amx_ops.specs.Moves.{arguments, look};
+ghost use Rattle.host_run.specs.Guest.{form_at};
+ghost use Rattle.host_run.specs.Sights.{arguments_of, is_sight, sought_in, sought, all_seen};
+
+use super::guest::Guest;
+use amx_machine::Machine;
+use host_script::{Form, say_answer, say_cell, say_cells, say_name, say_reference, say_text};
+use pawn_outside::{Sink, SinkFault};
+
+/// Writes the line of a native that sees its arguments and answers a result.
+pub fn say_call<S: Sink>(
+    out: &mut S,
+    machine: &Machine<'_>,
+    name: &[u8],
+    guest: &Guest<'_>,
+    count: u32,
+    answer: i32,
+) -> Result<(), SinkFault>
+    requires counted { option_map length (arguments machine.now.state) ≡ Some count }
+    requires visible { all_seen machine.now.state
+        (form_at guest.now.forms.now guest.now.rest) 0 (arguments_of machine.now.state) ≡ true }
+    ensures { let form = form_at guest.now.forms.now guest.now.rest in
+        let values = arguments_of machine.now.state in
+        let seen = map (λ it. it.seen) (sought machine.now.state form 0 values) in
+        Said S.taken S.faults S.has_room out.old out.new
+        (event_text (event.Native name.now seen answer)) result }
+{
+    say_name(out, name)?;
+    say_arguments(out, machine, guest, count)?;
+    say_answer(out, answer)
+}
+
+/// Writes each argument after one blank.
+fn say_arguments<S: Sink>(
+    out: &mut S,
+    machine: &Machine<'_>,
+    guest: &Guest<'_>,
+    count: u32,
+) -> Result<(), SinkFault>
+    requires counted { option_map length (arguments machine.now.state) ≡ Some count }
+    requires visible { all_seen machine.now.state
+        (form_at guest.now.forms.now guest.now.rest) 0 (arguments_of machine.now.state) ≡ true }
+    ensures { let form = form_at guest.now.forms.now guest.now.rest in
+        let values = arguments_of machine.now.state in
+        let seen = map (λ it. it.seen) (sought machine.now.state form 0 values) in
+        Said S.taken S.faults S.has_room out.old out.new (arguments_text seen) result }
+{
+    for index in 0..count {
+        say_argument(out, machine, guest.form(index), machine.native_arg(index))?;
+    }
+    Ok(())
+}
+
+/// Writes an argument as a native sees it.
+fn say_argument<S: Sink>(
+    out: &mut S,
+    machine: &Machine<'_>,
+    form: Form,
+    value: i32,
+) -> Result<(), SinkFault>
+    requires { is_sight (look machine.now.state value form) ≡ true }
+    ensures { let text = argument_text (sought_in (look machine.now.state value form)).seen in
+        Said S.taken S.faults S.has_room out.old out.new text result }
+{
+    match form {
+        Form::Cell => say_cell(out, value),
+        Form::Ref => say_reference(out, machine.live_from(value)[0]),
+        Form::Text => say_text(out, machine.live_from(value)),
+        Form::Cells(count) => say_cells(out, &machine.live_from(value)[..count as usize]),
+    }
+}
