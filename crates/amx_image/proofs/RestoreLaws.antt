@@ -1,0 +1,269 @@
+-- The state that live cells written over zeros leave is the one whose image was read.
+use Rattle.std.proofs.Common.{◌≡◌, ◌+◌, ◌-◌, ◌*◌, ◌/◌, ◌≤◌, ◌++◌, inl, inr, ℕ, ℤ, pos, List, true, All, None, Some, length, take, drop, replicate, refl, sym, ap, ◌∙◌, subst, arith}
+use Rattle.std.proofs.lemmas.Int.{to_z-of_z}
+use Rattle.std.specs.Int.{w32}
+use Rattle.std.proofs.lemmas.List.{length-append, length-drop, length-replicate}
+use Rattle.std.proofs.lemmas.List.Elements.{All-append, All-replicate}
+use Rattle.pawn_cells.specs.Cells.{IsCell, bits_of, cell_of}
+use Rattle.amx_ops.specs.declared.amx.Amx.{Amx}
+use Rattle.amx_ops.specs.State.{State, swept}
+use Rattle.amx_ops.specs.States.{IsRestorable}
+use Rattle.amx_ops.specs.Writable.{memory_limit}
+use Rattle.amx_ops.proofs.CellLaws.{bits_fit, cell_of_cell, small_cell}
+use Rattle.amx_effects.specs.declared.host.Registers.{Registers}
+use Rattle.amx_effects.specs.Hosting.{AreInOrder, registers_of, cleared}
+use Rattle.amx_format.specs.Numbers.{word_at, cells_at}
+use Rattle.amx_machine.specs.declared.mode.Mode.{Mode}
+use Rattle.amx_machine.specs.Machine.{Machine}
+use Rattle.amx_image.specs.declared.fault.ImageFault.{ImageFault}
+use Rattle.amx_image.specs.declared.version.Version.{Version}
+use Rattle.amx_image.specs.declared.version.Version.TheVariants.{Whole, Live}
+use Rattle.amx_image.specs.declared.place.TheConstants.{POSITION, CELLS}
+use Rattle.amx_image.specs.Image.{stored, registers_at, IsImage}
+use Rattle.amx_image.specs.Faults.{are_zero, version_in, first_fault}
+use Rattle.amx_image.specs.Examined.{stack_place}
+use Rattle.amx_image.specs.Rows.{IsLiveRow, with_row}
+use Rattle.amx_image.specs.Restored.{IsImageFor, HasNoImage}
+use Rattle.amx_image.proofs.FaultLaws.{HasCells, IsSound, sound, image_has_no_fault}
+use Rattle.amx_image.proofs.RowLaws.{length-cells_at, cells_fit, cells_at-split, zeros_of, all_cells, both_written, size, below, above, parts}
+
+-- a register's bits as a cell, and back
+register_back : (n : ℕ) → cell_of (bits_of (cell_of n)) ≡ cell_of n
+register_back n = to_z-of_z w32 (cell_of n) (cell_of_cell n)
+
+module _ (amx : Amx) (old : State) (version : Version) (digest bytes : List ℕ) (i : IsSound amx (length old.cells) version digest bytes) where
+  abbrev n : ℕ
+  n = length old.cells
+
+  abbrev r : Registers
+  r = registers_at bytes
+
+  abbrev hea : ℕ
+  hea = bits_of r.hea
+
+  abbrev stk : ℕ
+  stk = bits_of r.stk
+
+  abbrev h : ℕ
+  h = hea / 4
+
+  abbrev k : ℕ
+  k = stk / 4
+
+  low : h ≤ k
+  low = omega (arith, i.stack.1)
+
+  high : k ≤ n
+  high = omega (arith, i.stack.2)
+
+  abbrev place : ℕ
+  place = stack_place version hea stk
+
+  abbrev heap : List ℤ
+  heap = cells_at bytes CELLS h
+
+  abbrev stack : List ℤ
+  stack = cells_at bytes place (n - k)
+
+  front : length heap ≡ h
+  front = length-cells_at bytes CELLS h
+
+  back : length stack ≡ n - k
+  back = length-cells_at bytes place (n - k)
+
+  -- ---- the conditions of the calls
+
+  pub in_order : AreInOrder amx (cleared r old)
+  in_order = record {
+    whole = (i.heap.0, i.stack.0);
+    order = (i.heap.1, i.stack.1, omega (arith, i.stack.2, length-replicate n (pos 0)));
+  }
+
+  pub heap_is_live : IsLiveRow (cleared r old) 0 h
+  heap_is_live = record { aligned = refl; below = omega (arith, low, high, length-replicate n (pos 0)); within = inl (omega arith) }
+
+  -- with the heap's cells written
+  abbrev pub first_state : State
+  first_state = with_row (cleared r old) 0 heap
+
+  first_size : length first_state.cells ≡ n
+  first_size =
+      omega (
+        arith,
+        front,
+        low,
+        high,
+        length-append heap (drop (0 + length heap) (replicate n (pos 0))),
+        length-drop (0 + length heap) (replicate n (pos 0)),
+        length-replicate n (pos 0),
+      )
+
+  pub stack_is_live : IsLiveRow first_state stk (n - k)
+  stack_is_live = record {
+    aligned = i.stack.0;
+    below = omega (arith, first_size, i.stack.0, i.stack.2);
+    within = inr (omega arith);
+  }
+
+  long_by : (v : Version) → HasCells v n hea stk bytes → (CELLS + 4 * h ≤ length bytes) × (stack_place v hea stk + 4 * (n - k) ≤ length bytes)
+  long_by Whole e = (omega (arith, e.0, low, high), omega (arith, e.0, i.stack.0, i.stack.2))
+  long_by Live e = (
+    omega (arith, e, i.heap.0, i.stack.1, i.stack.2),
+    omega (arith, e, i.heap.0, i.stack.0, i.stack.1, i.stack.2),
+  )
+
+  pub long_enough : (CELLS + 4 * h ≤ length bytes) × (place + 4 * (n - k) ≤ length bytes)
+  long_enough = long_by version i.cells
+
+  -- ---- the state
+
+  -- with those of the stack too
+  abbrev pub last_state : State
+  last_state = with_row first_state stk stack
+
+  abbrev whole_row : List ℤ
+  whole_row = all_cells heap stack h k n low high front back
+
+  cells_are : last_state.cells ≡ whole_row
+  cells_are = both_written heap stack h k n low high front back
+
+  row_size : length whole_row ≡ n
+  row_size = size heap stack h k n low high front back
+
+  below_hea : take h last_state.cells ≡ heap
+  below_hea = ap (take h) cells_are ∙ below heap stack h k n low high front back
+
+  from_stk : drop k last_state.cells ≡ stack
+  from_stk = ap (drop k) cells_are ∙ above heap stack h k n low high front back
+
+  pub state_size : length last_state.cells ≡ n
+  state_size = ap (λ (zs : List ℤ). length zs) cells_are ∙ row_size
+
+  all_fit : All IsCell last_state.cells
+  all_fit =
+      subst (λ zs. All IsCell zs) (sym cells_are)
+      (All-append IsCell heap (replicate (k - h) (pos 0) ++ stack) (cells_fit bytes CELLS h)
+      (All-append IsCell (replicate (k - h) (pos 0)) stack (All-replicate IsCell (k - h) (pos 0) (small_cell 0 (omega arith))) (cells_fit bytes place (n - k))))
+
+  clean : swept last_state ≡ last_state
+  clean =
+      ap (λ (zs : List ℤ). record last_state { cells = zs })
+      (ap (λ (zs : List ℤ). zs ++ (replicate (k - h) (pos 0) ++ drop k last_state.cells)) below_hea
+      ∙ ap (λ (zs : List ℤ). heap ++ (replicate (k - h) (pos 0) ++ zs)) from_stk ∙ sym cells_are)
+
+  pub restorable : 4 * n ≤ memory_limit → IsRestorable amx last_state
+  restorable small = record {
+    state = record {
+      pri = cell_of_cell _;
+      alt = cell_of_cell _;
+      frm = bits_fit r.frm (cell_of_cell _);
+      cip = bits_fit r.cip (cell_of_cell _);
+      cells = all_fit;
+      size = omega (arith, small, state_size);
+      whole = (i.heap.0, i.stack.0);
+      order = (i.heap.1, i.stack.1, omega (arith, i.stack.2, state_size));
+    };
+    starts = i.starts;
+    clean = clean;
+  }
+
+  -- ---- its image
+
+  live_cells : heap ++ cells_at bytes (CELLS + hea) (n - k) ≡ cells_at bytes CELLS (h + (n - k))
+  live_cells =
+      let at : CELLS + hea ≡ CELLS + 4 * h = omega (arith, i.heap.0) in
+      ap (λ q. heap ++ cells_at bytes q (n - k)) at ∙ sym (cells_at-split bytes CELLS h (n - k))
+
+  dead_cells : are_zero (cells_at bytes (CELLS + hea) ((stk - hea) / 4)) ≡ true → cells_at bytes (CELLS + 4 * h) (k - h) ≡ replicate (k - h) (pos 0)
+  dead_cells e =
+      let at : CELLS + hea ≡ CELLS + 4 * h = omega (arith, i.heap.0) in
+      let count : (stk - hea) / 4 ≡ k - h = omega (arith, i.heap.0, i.stack.0, i.stack.1) in
+      let zero : are_zero (cells_at bytes (CELLS + 4 * h) (k - h)) ≡ true =
+      sym (ap (λ q. are_zero (cells_at bytes q ((stk - hea) / 4))) at ∙ ap (λ m. are_zero (cells_at bytes (CELLS + 4 * h) m)) count) ∙ e in
+      zeros_of (cells_at bytes (CELLS + 4 * h) (k - h)) zero
+      ∙ ap (λ m. replicate m (pos 0)) (length-cells_at bytes (CELLS + 4 * h) (k - h))
+
+  whole_cells : are_zero (cells_at bytes (CELLS + hea) ((stk - hea) / 4)) ≡ true
+      → heap ++ (replicate (k - h) (pos 0) ++ cells_at bytes (CELLS + stk) (n - k)) ≡ cells_at bytes CELLS n
+  whole_cells e =
+      let at : CELLS + stk ≡ CELLS + 4 * k = omega (arith, i.stack.0) in
+      ap (λ q. heap ++ (replicate (k - h) (pos 0) ++ cells_at bytes q (n - k))) at
+      ∙ ap (λ zs. heap ++ (zs ++ cells_at bytes (CELLS + 4 * k) (n - k))) (sym (dead_cells e))
+      ∙ sym (parts bytes CELLS h k n low high)
+
+  -- the cells that a version stores, and how many they are
+  stored_by : (v : Version) → version ≡ v → HasCells v n hea stk bytes
+      → (m : ℕ) × (stored v last_state ≡ cells_at bytes CELLS m) × (length bytes ≡ CELLS + 4 * m)
+  stored_by Whole same e = (
+    n,
+    cells_are
+        ∙ ap (λ u. heap ++ (replicate (k - h) (pos 0) ++ cells_at bytes (stack_place u hea stk) (n - k))) same ∙ whole_cells e.1,
+    e.0,
+  )
+  stored_by Live same e = (
+    h + (n - k),
+    ap (λ (zs : List ℤ). zs ++ drop k last_state.cells) below_hea ∙ ap (λ (zs : List ℤ). heap ++ zs) from_stk
+        ∙ ap (λ u. heap ++ cells_at bytes (stack_place u hea stk) (n - k)) same ∙ live_cells,
+    omega (arith, e, i.heap.0, i.stack.0, i.stack.1, i.stack.2),
+  )
+
+  pub image : IsImage version last_state (word_at bytes POSITION) digest bytes
+  image =
+      let it = stored_by version refl i.cells in
+      let count : length (stored version last_state) ≡ it.0 = ap (λ (zs : List ℤ). length zs) it.1 ∙ length-cells_at bytes CELLS it.0 in
+      record {
+        length_is = omega (arith, it.2, count);
+        magic = i.magic;
+        version_is = i.version_is;
+        zero_is = i.zero_is;
+        digest_is = i.digest_is;
+        position_is = refl;
+        registers = registers_stay;
+        count = i.count_is ∙ sym state_size;
+        cells = ap (cells_at bytes CELLS) count ∙ sym it.1;
+      }
+    where
+      registers_stay : r ≡ registers_of last_state
+      registers_stay =
+          ap (λ x. record r { frm = x }) (sym (register_back _))
+          ∙ ap (λ x. record { pri = r.pri; alt = r.alt; frm = cell_of (bits_of r.frm); cip = x; stk = r.stk; hea = r.hea }) (sym (register_back _))
+          ∙ ap (λ x. record { pri = r.pri; alt = r.alt; frm = cell_of (bits_of r.frm); cip = cell_of (bits_of r.cip); stk = x; hea = r.hea }) (sym (register_back _))
+          ∙ ap (λ x. record { pri = r.pri; alt = r.alt; frm = cell_of (bits_of r.frm); cip = cell_of (bits_of r.cip); stk = cell_of (bits_of r.stk); hea = x }) (sym (register_back _))
+
+-- ---- machines
+
+pub is_image_for : (m : Machine) (version : Version) (digest bytes : List ℕ) (i : IsSound m.amx (length m.state.cells) version digest bytes)
+    → 4 * length m.state.cells ≤ memory_limit
+    → IsImageFor m digest bytes (last_state m.amx m.state version digest bytes i) (word_at bytes POSITION)
+is_image_for m version digest bytes i small = record {
+  version = version;
+  image = image m.amx m.state version digest bytes i;
+  restorable = restorable m.amx m.state version digest bytes i small;
+  count = state_size m.amx m.state version digest bytes i;
+}
+
+-- bytes with a fault are no image
+pub faulty : (m : Machine) (digest bytes : List ℕ) (fault : ImageFault) → first_fault m.amx (length m.state.cells) digest bytes ≡ Some fault
+    → HasNoImage m digest bytes
+faulty m digest bytes fault e s position it =
+    let none : first_fault m.amx (length m.state.cells) digest bytes ≡ None =
+    ap (λ c. first_fault m.amx c digest bytes) (sym it.count) ∙ image_has_no_fault m.amx it.version s position digest bytes it.image it.restorable in
+    let no : ⊥ = cc in no
+
+-- ---- what the tests told, of the machine
+
+module _ (m : Machine) (file : Amx) (count : ℕ) (digest bytes : List ℕ) (of : m.amx ≡ file) (many : count ≡ length m.state.cells) where
+  pub told : first_fault m.amx (length m.state.cells) digest bytes ≡ first_fault file count digest bytes
+  told = ap (λ a. first_fault a (length m.state.cells) digest bytes) of ∙ ap (λ c. first_fault file c digest bytes) (sym many)
+
+  pub sound_for : (version : Version) → first_fault file count digest bytes ≡ None → version_in bytes ≡ Some version
+      → IsSound m.amx (length m.state.cells) version digest bytes
+  sound_for version e v = sound m.amx (length m.state.cells) version digest bytes (told ∙ e) v
+
+abbrev machine_of : Amx → State → Mode → Machine
+machine_of a s d = record { amx = a; state = s; mode = d }
+
+pub same_machine : (x m : Machine) (d : Mode) → x.amx ≡ m.amx → x.mode ≡ d → x ≡ record m { state = x.state; mode = d }
+same_machine x m d a e =
+    let amx : x ≡ record { amx = m.amx; state = x.state; mode = x.mode } = ap (λ (b : Amx). machine_of b x.state x.mode) a in
+    amx ∙ ap (machine_of m.amx x.state) e

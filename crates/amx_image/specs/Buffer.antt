@@ -1,0 +1,6 @@
+-- What contracts see of a buffer: its bytes, and how many it has room for.
+use Rattle.std.specs.Prelude.{ℕ, List}
+
+pub record Buffer : Type 0 where
+  pub bytes : List ℕ
+  pub room : ℕ

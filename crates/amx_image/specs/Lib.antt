@@ -1,0 +1,9 @@
+pub mod Buffer
+pub mod Examined
+pub mod Faults
+pub mod Image
+pub mod Restored
+pub mod Resumed
+pub mod Rows
+pub mod Spelled
+pub mod Version

@@ -1,0 +1,60 @@
+ghost use Rattle.std.specs.Prelude.{◌≡◌, IsSome};
+ghost use Rattle.amx_machine.specs.declared.mode.Mode.TheVariants as mode;
+
+use amx_image::{ImageBuffer, restore_into, save_into};
+use amx_machine::Machine;
+use amx_verify::Verified;
+use std::alloc::Global;
+
+/// The digest that the images of these tests are for.
+pub const DIGEST: [u8; 32] = [7; 32];
+
+/// The number of four bytes, the lowest first; 0 where they aren't there.
+pub fn word(bytes: &[u8], place: u32) -> u32 {
+    let at = place as usize;
+    if at < bytes.len() && bytes.len() - at >= 4 {
+        u32::from_le_bytes([bytes[at], bytes[at + 1], bytes[at + 2], bytes[at + 3]])
+    } else {
+        0
+    }
+}
+
+/// The bytes with a number in the place of four of them.
+pub fn with_word(alloc: Global, bytes: &[u8], place: u32, number: u32) -> Option<Vec<u8>> {
+    let mut made = Vec::new(alloc);
+    if made.extend_from_slice(bytes).is_err() {
+        return None;
+    }
+    let parts = number.to_le_bytes();
+    let at = place as usize;
+    for index in 0..4usize {
+        if at + index < made.len() {
+            made[at + index] = parts[index];
+        }
+    }
+    Some(made)
+}
+
+/// The image of a machine at a sleep, at a position of the script.
+pub fn saved(alloc: Global, machine: &Machine<'_>, position: u32) -> Option<ImageBuffer>
+    requires { machine.now.mode ≡ mode.Asleep }
+{
+    match ImageBuffer::new(alloc, machine) {
+        Ok(mut buffer) => {
+            save_into(machine, position, &DIGEST, &mut buffer);
+            Some(buffer)
+        }
+        Err(_) => None,
+    }
+}
+
+/// Sets a machine to an image, and tells the position; none where it is refused.
+pub fn set_to(machine: &mut Machine<'_>, verified: &Verified, bytes: &[u8]) -> Option<u32>
+    requires { machine.old.amx ≡ verified.now }
+    ensures { IsSome result → machine.new.mode ≡ mode.Asleep }
+{
+    match restore_into(machine, verified, &DIGEST, bytes) {
+        Ok(position) => Some(position),
+        Err(_) => None,
+    }
+}
