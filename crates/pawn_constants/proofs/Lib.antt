@@ -1,0 +1,3 @@
+mod LinkLaws
+mod SizeLaws
+mod ConstantLaws

@@ -1,0 +1,7 @@
+mod NarrowLaws
+mod PathLaws
+mod StepLaws
+mod DeclareLaws
+mod BehindLaws
+mod WholeLaws
+mod MarksLaws

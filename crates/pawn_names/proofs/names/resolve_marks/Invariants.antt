@@ -1,0 +1,10 @@
+use Rattle.std.proofs.Common.{take}
+use Rattle.pawn_scopes.specs.Around.{Around}
+use Rattle.pawn_marks.specs.MarkView.{marks_view}
+use Rattle.pawn_names.specs.Whole.{Begins}
+use Rattle.pawn_names.specs.Behind.{IsBehind}
+use Rattle.pawn_names.proofs.names.resolve_marks.Given as goal
+
+abbrev pub invariant-loop-i : goal.invariant-loop-i
+invariant-loop-i l =
+    (around : Around) → Begins around l.fn.context → IsBehind around (marks_view (take l.i l.marks)) l.resolver

@@ -1,0 +1,4 @@
+pub mod Parts
+pub mod DeclaredKind
+pub mod Behind
+pub mod Whole

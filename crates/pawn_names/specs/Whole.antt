@@ -1,0 +1,51 @@
+-- What `resolve` answers.
+use Rattle.std.specs.Prelude.{◌≡◌, List, [], Result, Ok, Err}
+use Rattle.pawn_tree.specs.Declarations.{Tree}
+use Rattle.pawn_scopes.specs.Mark.{Mark}
+use Rattle.pawn_scopes.specs.Around.{Around, around_of}
+use Rattle.pawn_scopes.specs.FileNames.{file_names, twice_faults}
+use Rattle.pawn_scopes.specs.Faults.{faults, marks_faults}
+use Rattle.pawn_scopes.specs.Resolves as plain
+use Rattle.pawn_scopes.specs.Resolves.{Resolves}
+use Rattle.pawn_scopes.specs.Uses as u
+use Rattle.pawn_scopes.specs.Values as v
+use Rattle.pawn_sight.specs.declared.context.Context.{Context}
+use Rattle.pawn_names.specs.declared.names.Names.{Names}
+use Rattle.pawn_sight.specs.declared.fault.CheckFault.{CheckFault}
+use Rattle.pawn_sight.specs.Answers.{Fails}
+use Rattle.pawn_names.specs.Behind.{Knows}
+
+abbrev pub names_view : Names → plain.Names
+names_view x = record { uses = x.uses; values = x.values }
+
+-- the names of the tree, or a fault whose rule the node at its place breaks; so an answer is Ok
+-- exactly where no node breaks a rule of names, unless memory is short
+abbrev pub IsResolved : Tree → Result Names CheckFault → Type 0
+IsResolved tree (Ok names) = Resolves tree (names_view names)
+IsResolved tree (Err fault) = Fails (faults tree) fault
+
+-- ---- on the way
+
+-- what is known everywhere, before any mark
+pub record Begins (around : Around) (cx : Context) : Type 0 where
+  pub knows : Knows around cx
+  pub scopes : cx.scopes ≡ []
+  pub known : cx.known ≡ []
+
+pub record IsOnce (tree : Tree) (cx : Context) : Type 0 where
+  pub begins : Begins (around_of tree) cx
+  pub once : twice_faults (file_names tree) ≡ []
+
+abbrev pub IsContext : Tree → Result Context CheckFault → Type 0
+IsContext tree (Ok cx) = IsOnce tree cx
+IsContext tree (Err fault) = Fails (twice_faults (file_names tree)) fault
+
+-- all marks
+pub record ArePairs (around : Around) (marks : List Mark) (names : Names) : Type 0 where
+  pub whole : marks_faults around marks ≡ []
+  pub uses : names.uses ≡ u.uses around marks
+  pub values : names.values ≡ v.values around marks
+
+abbrev pub AreResolved : Around → List Mark → Result Names CheckFault → Type 0
+AreResolved around marks (Ok names) = ArePairs around marks names
+AreResolved around marks (Err fault) = Fails (marks_faults around marks) fault

@@ -1,0 +1,5 @@
+pub mod VerdictLaws
+mod IndexLaws
+pub mod FileLaws
+mod AddLaws
+mod OperatorLaws

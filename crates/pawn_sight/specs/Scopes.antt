@@ -1,0 +1,66 @@
+-- The declarations in sight as code holds them: each name with the number of its declaration, block
+-- by block with the innermost first, and in each block with the latest first.
+use Rattle.std.specs.Prelude.{◌≡◌, ℕ, suc, Bool, false, ◌||◌, if◌then◌else◌, List, [], ◌∷◌, Option, Some, None}
+use Rattle.std.specs.Str.{bytes_eq}
+use Rattle.pawn_sight.specs.declared.scopes.Declared.{Declared}
+use Rattle.pawn_sight.specs.declared.scopes.Hidden.{Hidden}
+
+abbrev pub Numbered : Type 0
+Numbered = List (List (List ℕ × ℕ))
+
+abbrev pub with_number : List ℕ → ℕ → Numbered → Numbered
+with_number name number [] = ((name, number) ∷ []) ∷ []
+with_number name number (block ∷ outer) = ((name, number) ∷ block) ∷ outer
+
+abbrev pub outer_of : Numbered → Numbered
+outer_of [] = []
+outer_of (block ∷ outer) = outer
+
+abbrev pub in_block : List (List ℕ × ℕ) → List ℕ → Option ℕ → Option ℕ
+in_block [] name elsewhere = elsewhere
+in_block (entry ∷ more) name elsewhere =
+    if bytes_eq entry.0 name then Some entry.1 else in_block more name elsewhere
+
+-- the number in the innermost block that has the name
+abbrev pub number_of : Numbered → List ℕ → Option ℕ
+number_of [] name = None
+number_of (block ∷ outer) name = in_block block name (number_of outer name)
+
+abbrev pub has_name : List (List ℕ × ℕ) → List ℕ → Bool
+has_name [] name = false
+has_name (entry ∷ more) name = bytes_eq entry.0 name || has_name more name
+
+-- the innermost block has the name
+abbrev pub innermost_has : Numbered → List ℕ → Bool
+innermost_has [] name = false
+innermost_has (block ∷ outer) name = has_name block name
+
+-- ---- as one list, the latest first, with None where a block begins
+
+abbrev pub Stack : Type 0
+Stack = List (Option Hidden)
+
+-- in how many blocks a declaration stands that is put on top
+abbrev pub depth_of : Stack → ℕ
+depth_of [] = 0
+depth_of (None ∷ more) = suc (depth_of more)
+depth_of (Some it ∷ more) = depth_of more
+
+abbrev pub blocks_of : Stack → Numbered
+blocks_of [] = []
+blocks_of (None ∷ more) = [] ∷ blocks_of more
+blocks_of (Some it ∷ more) = with_number it.name.now it.declared.number (blocks_of more)
+
+-- what a name means
+abbrev pub meant_by : Stack → List ℕ → Option Declared
+meant_by [] name = None
+meant_by (None ∷ more) name = meant_by more name
+meant_by (Some it ∷ more) name =
+    if bytes_eq it.name.now name then Some it.declared else meant_by more name
+
+-- each declaration keeps what its name meant before it, and in how many blocks it stands
+abbrev pub IsChain : Stack → Type 0
+IsChain [] = Unit {0}
+IsChain (None ∷ more) = IsChain more
+IsChain (Some it ∷ more) =
+    (it.before ≡ meant_by more it.name.now) × (it.declared.depth ≡ depth_of more) × IsChain more
