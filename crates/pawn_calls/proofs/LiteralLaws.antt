@@ -18,7 +18,7 @@ use Rattle.pawn_scopes.specs.Signs.{Between, Operates, Decides, Takes, Nothing, 
 use Rattle.pawn_typing.specs.Typed.{Typed, Form, Held, cell, array}
 use Rattle.pawn_typing.specs.Typed as typed
 use Rattle.pawn_typing.specs.Around.{Around}
-use Rattle.pawn_typing.specs.Scope.{Meaning, Constant, Variable, Function, Native, Taken, Unknown, Scope}
+use Rattle.pawn_typing.specs.Scope.{Meaning, Constant, Variable, Function, Native, Entering, Taken, Unknown, Scope}
 use Rattle.pawn_typing.specs.Scope as means
 use Rattle.pawn_typing.specs.Names.{text_rule, name_rule, sizeof_rule, tagof_rule, size_in, tag_in}
 use Rattle.pawn_typing.specs.Operators.{operate, operator_rule, logical_rule, comma_rule, between_rule, operate_one, not_rule, negate_rule, invert_rule, chosen, chosen_for_one, divides_by_zero}
@@ -34,10 +34,10 @@ use Rattle.pawn_typing.specs.Choices.{choice_rule}
 use Rattle.pawn_typing.specs.Assignments.{assign_rule, set_rule}
 use Rattle.pawn_typing.specs.Signs.{updater_of}
 use Rattle.pawn_calls.specs.Given.{given_rule}
-use Rattle.pawn_calls.specs.Filling.{Offer, Positional, Skipped, Filling, Argument, Default, nothing_filled, put, for_param, for_rest, positional, skipped_rest, skipped, named_param, named, number_of_param, offer_step}
+use Rattle.pawn_calls.specs.Filling.{Offer, Positional, Skipped, Filling, Argument, Default, in_slot, nothing_filled, put, for_param, for_rest, positional, skipped_rest, skipped, named_param, named, number_of_param, offer_step}
 use Rattle.pawn_calls.specs.Filling as filling
 use Rattle.pawn_calls.specs.Defaults.{args_of}
-use Rattle.pawn_calls.specs.Calls.{Callee, callee_rule, args_in, call_rule}
+use Rattle.pawn_calls.specs.Calls.{Callee, callee_rule, args_in, judged, offer_literals, call_by, call_rule}
 use Rattle.pawn_calls.specs.Literals.{literals, link_literals, literals_of_link, arg_literals, literals_of_arg}
 use Rattle.pawn_calls.specs.Expressions.{expr, chain, linked, offers, offer}
 use Rattle.pawn_typing.specs.Indexes.{index_rule, character_in, character_rule}
@@ -73,6 +73,7 @@ name_made at (Some (Variable p tag constant)) = stands _ refl
 name_made at (Some (means.Array a extent tag constant)) = stands _ refl
 name_made at (Some (Function f tag)) = breaks_holds _ _
 name_made at (Some (Native n tag)) = breaks_holds _ _
+name_made at (Some (Entering tag)) = breaks_holds _ _
 name_made at (Some Taken) = breaks_holds _ _
 name_made at (Some Unknown) = breaks_holds _ _
 
@@ -242,11 +243,6 @@ chain_made cx at x links m n p q =
 
 -- ---- calls
 
-abbrev pub offer_literals : Offer → List StaticObject
-offer_literals (Positional x) = x.literals
-offer_literals Skipped = []
-offer_literals (filling.Named name x) = x.literals
-
 record OfferMade (n : ℕ) (it : Offer) : Type 0 where
   pub count : length (offer_literals it) ≡ n
 
@@ -265,7 +261,7 @@ module _ (cx : Around) (at : At) (head : Head) where
       → Holds (More done (length x.literals)) (for_param cx at head done i param x next)
   for_param_more done i param x next =
       holds_after (holds_all (given_rule cx at param x)) (λ given t.
-      holds_after (holds_all (put at i (Argument given) done.slots)) (λ slots u.
+      holds_after (holds_all (put at i (Argument (in_slot given)) done.slots)) (λ slots u.
       stands_itself _ _ (record { count = length-append done.literals x.literals })))
 
   for_rest_more : (done : Filling) (tags : Option (List ℕ)) (x : Typed)
@@ -333,14 +329,25 @@ module _ (cx : Around) (at : At) (head : Head) where
             };
       }
 
+judged_made : (cx : Around) (at : At) (callee : Callee) (offers : List Offer) (head : Head) (n : ℕ)
+    → OffersMade n offers
+    → Holds (Made n) (judged cx at callee offers head)
+judged_made cx at callee offers head n p =
+    holds_after (thread_more cx at head (nothing_filled head) offers) (λ it q.
+    holds_after (holds_all (args_of cx at head.params it.slots head.params it.slots (args_in it.rest))) (λ args t.
+    stands _ (omega (arith, q.count, p.count))))
+
+call_by_made : (cx : Around) (at : At) (callee : Callee) (offers : List Offer) (head : Option Head)
+    (n : ℕ) → OffersMade n offers
+    → Holds (Made n) (call_by cx at callee offers head)
+call_by_made cx at callee offers None n p = stands _ p.count
+call_by_made cx at callee offers (Some head) n p = judged_made cx at callee offers head n p
+
 call_made : (cx : Around) (at : At) (callee : Callee) (offers : List Offer) (n : ℕ)
     → OffersMade n offers
     → Holds (Made n) (call_rule cx at callee offers)
 unfolding call_rule
-call_made cx at callee offers n p =
-    holds_after (thread_more cx at callee.head (nothing_filled callee.head) offers) (λ it q.
-    holds_after (holds_all (args_of cx at callee.head.params it.slots callee.head.params it.slots (args_in it.rest))) (λ args t.
-    stands _ (omega (arith, q.count, p.count))))
+call_made cx at callee offers n p = call_by_made cx at callee offers callee.head n p
 
 -- both choices
 record Both (m n : ℕ) (parts : Typed × Typed) : Type 0 where

@@ -1,33 +1,30 @@
 -- Calls (Language Guide, "Functions").
-use Rattle.std.specs.Prelude.{ℕ, List, [], ◌∷◌, Bool, true, false, Option, None, Some, slice_get}
+use Rattle.std.specs.Prelude.{ℕ, pos, List, [], ◌∷◌, flat_map, Bool, true, false, Option, None, Some, slice_get}
 use Rattle.pawn_tree.specs.declared.name.At.{At}
-use Rattle.pawn_program.specs.Program.{Expr, Call, Native, Arg, Args, no_args, then_arg}
+use Rattle.pawn_program.specs.Program.{StaticObject, Expr, Const, Call, Native, Arg, Args, no_args, then_arg}
 use Rattle.pawn_typing.specs.declared.fault.TheConstants.{UNDEFINED}
 use Rattle.pawn_scopes.specs.Verdict.{Verdict, Stands, after}
 use Rattle.pawn_typing.specs.Rule.{broken, fallen}
 use Rattle.pawn_typing.specs.Typed.{Typed, Value}
 use Rattle.pawn_typing.specs.Around.{Around, Callable, Head}
-use Rattle.pawn_typing.specs.Scope.{Meaning, Constant, Variable, Array, Function, Taken, Unknown}
+use Rattle.pawn_typing.specs.Scope.{Meaning, Constant, Variable, Array, Function, Entering, Taken, Unknown}
 use Rattle.pawn_typing.specs.Scope as means
-use Rattle.pawn_calls.specs.Filling.{Offer, Filling, fill}
+use Rattle.pawn_calls.specs.Filling.{Offer, Positional, Skipped, Filling, fill}
+use Rattle.pawn_calls.specs.Filling as filling
 use Rattle.pawn_calls.specs.Defaults.{args_of}
 
--- what is called: whether it is a native, its number, the tag of what it gives, and its head
+-- what is called: whether it is a native, its number, the tag of what it gives, and its head, unless
+-- that is broken or isn't known yet
 pub record Callee : Type 0 where
   pub is_native : Bool
   pub number : ℕ
   pub tag : ℕ
-  pub head : Head
+  pub head : Option Head
 
--- arguments for a head that doesn't stand aren't judged
-abbrev pub headed : Bool → ℕ → ℕ → Option Head → Verdict Callee
-headed is_native number tag None = fallen
-headed is_native number tag (Some head) =
-    Stands (record { is_native = is_native; number = number; tag = tag; head = head })
-
-abbrev pub callable : Bool → Option Callable → Verdict Callee
-callable is_native None = fallen
-callable is_native (Some it) = headed is_native it.number it.tag it.head
+abbrev pub callable : At → Bool → Option Callable → Verdict Callee
+callable at is_native None = broken UNDEFINED at
+callable at is_native (Some it) =
+    Stands (record { is_native = is_native; number = it.number; tag = it.tag; head = it.head })
 
 -- only a function or a native is called by its name
 abbrev pub callee_rule : Around → At → Option Meaning → Verdict Callee
@@ -35,8 +32,9 @@ callee_rule cx at None = broken UNDEFINED at
 callee_rule cx at (Some (Constant v tag)) = broken UNDEFINED at
 callee_rule cx at (Some (Variable p tag constant)) = broken UNDEFINED at
 callee_rule cx at (Some (Array a extent tag constant)) = broken UNDEFINED at
-callee_rule cx at (Some (Function f tag)) = callable false (slice_get cx.functions f)
-callee_rule cx at (Some (means.Native n tag)) = callable true (slice_get cx.natives n)
+callee_rule cx at (Some (Function f tag)) = callable at false (slice_get cx.functions f)
+callee_rule cx at (Some (means.Native n tag)) = callable at true (slice_get cx.natives n)
+callee_rule cx at (Some (Entering tag)) = broken UNDEFINED at
 callee_rule cx at (Some Taken) = broken UNDEFINED at
 callee_rule cx at (Some Unknown) = fallen
 
@@ -59,10 +57,44 @@ called at callee filling args = record {
   warned = filling.warned;
 }
 
--- a call with what is offered to it
-unfoldable pub call_rule : Around → At → Callee → List Offer → Verdict Typed
-call_rule cx at callee offers =
-    after (fill cx at callee.head offers) (λ filling.
-    after (args_of cx at callee.head.params filling.slots callee.head.params filling.slots
+-- by the head of what is called
+abbrev pub judged : Around → At → Callee → List Offer → Head → Verdict Typed
+judged cx at callee offers head =
+    after (fill cx at head offers) (λ filling.
+    after (args_of cx at head.params filling.slots head.params filling.slots
     (args_in filling.rest)) (λ args.
     Stands (called at callee filling args)))
+
+-- ---- without a head
+
+abbrev pub offer_literals : Offer → List StaticObject
+offer_literals (Positional x) = x.literals
+offer_literals Skipped = []
+offer_literals (filling.Named name x) = x.literals
+
+abbrev pub offer_warned : Offer → List At
+offer_warned (Positional x) = x.warned
+offer_warned Skipped = []
+offer_warned (filling.Named name x) = x.warned
+
+-- arguments for a head that is broken or isn't known yet aren't judged: what is known of the call is
+-- its tag, and that it isn't constant. No program has it, since the declaration of such a head is
+-- judged where all heads are known
+abbrev pub unjudged : At → ℕ → List Offer → Typed
+unjudged at tag offers = record {
+  at = at;
+  form = Value (Const (pos 0));
+  tag = tag;
+  value = None;
+  literals = flat_map offer_literals offers;
+  warned = flat_map offer_warned offers;
+}
+
+-- ---- a call with what is offered to it
+
+abbrev pub call_by : Around → At → Callee → List Offer → Option Head → Verdict Typed
+call_by cx at callee offers None = Stands (unjudged at callee.tag offers)
+call_by cx at callee offers (Some head) = judged cx at callee offers head
+
+unfoldable pub call_rule : Around → At → Callee → List Offer → Verdict Typed
+call_rule cx at callee offers = call_by cx at callee offers callee.head

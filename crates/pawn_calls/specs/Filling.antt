@@ -17,9 +17,18 @@ pub data Offer : Type 0 where
   Skipped : Offer
   Named : List ℕ → Typed → Offer
 
+-- an argument in its slot: in the program, and what `sizeof` and `tagof` of the parameter are with it
+pub record Argued : Type 0 where
+  pub code : Arg
+  pub size : ℕ
+  pub tag : ℕ
+
+abbrev pub in_slot : Given → Argued
+in_slot given = record { code = given.code; size = given.size; tag = given.tag }
+
 -- what a parameter got: an argument, or `_`
 pub data Filled : Type 0 where
-  Argument : Given → Filled
+  Argument : Argued → Filled
   Default : Filled
 
 -- the arguments so far: how many were positional, what each parameter got, those of `...`, and the
@@ -70,7 +79,7 @@ module _ (cx : Around) (at : At) (head : Head) where
   abbrev pub for_param : Filling → ℕ → Param → Typed → ℕ → Verdict Filling
   for_param done i param x next =
       after (given_rule cx at param x) (λ given.
-      after (put at i (Argument given) done.slots)
+      after (put at i (Argument (in_slot given)) done.slots)
       (λ slots. Stands (argued done x given slots next)))
 
   -- behind all parameters an argument belongs to `...`

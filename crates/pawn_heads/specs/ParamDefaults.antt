@@ -12,7 +12,7 @@ use Rattle.pawn_program.specs.Program.{Scalar, Global, Own, Through, Element, Ch
 use Rattle.pawn_scopes.specs.Verdict.{Verdict, Stands, after}
 use Rattle.pawn_typing.specs.Typed.{Typed}
 use Rattle.pawn_typing.specs.Around.{Around, Default, NoDefault, Always, SizeOf, TagOf}
-use Rattle.pawn_typing.specs.Scope.{Scope, Meaning, Constant, Variable, Function, Native, Taken, Unknown, found}
+use Rattle.pawn_typing.specs.Scope.{Scope, Meaning, Constant, Variable, Function, Native, Entering, Taken, Unknown, found}
 use Rattle.pawn_typing.specs.Scope as means
 use Rattle.pawn_typing.specs.Tests.{tested, converter_to}
 use Rattle.pawn_calls.specs.Expressions.{expr}
@@ -40,6 +40,7 @@ param_meant (Variable p tag constant) = param_of_place p
 param_meant (means.Array a extent tag constant) = param_of_array a
 param_meant (Function f tag) = None
 param_meant (Native n tag) = None
+param_meant (Entering tag) = None
 param_meant Taken = None
 param_meant Unknown = None
 

@@ -16,7 +16,7 @@ use Rattle.pawn_scopes.specs.Verdict.{Stands}
 use Rattle.pawn_typing.specs.Typed.{Typed, Form, Held, cell_in, cell, array_in, array_or_broken, array, line}
 use Rattle.pawn_typing.specs.Typed as typed
 use Rattle.pawn_typing.specs.Around.{Around}
-use Rattle.pawn_typing.specs.Scope.{Meaning, Constant, Variable, Function, Native, Taken, Unknown, Scope, found}
+use Rattle.pawn_typing.specs.Scope.{Meaning, Constant, Variable, Function, Native, Entering, Taken, Unknown, Scope, found}
 use Rattle.pawn_typing.specs.Scope as means
 use Rattle.pawn_typing.specs.Texts.{text_cells, text_object}
 use Rattle.pawn_typing.specs.Names.{text_rule, name_rule, first_size, size_at, size_or_broken, size_of_cell, size_of, size_in, sizeof_rule, tag_in, tagof_rule}
@@ -74,6 +74,7 @@ module _ (scope : program.Scope) where
       size_at_sound at reach dimension (k (means.Array a reach tag constant) refl).cells
   size_of_sound at dimension (Some (Function f tag)) k = breaks_holds _ _
   size_of_sound at dimension (Some (Native n tag)) k = breaks_holds _ _
+  size_of_sound at dimension (Some (Entering tag)) k = breaks_holds _ _
   size_of_sound at dimension (Some Taken) k = breaks_holds _ _
   size_of_sound at dimension (Some Unknown) k = breaks_holds _ _
 
@@ -135,6 +136,7 @@ module _ (scope : program.Scope) where
       stands _ (k (means.Array a reach tag constant) refl)
   name_sound at (Some (Function f tag)) k = breaks_holds _ _
   name_sound at (Some (Native n tag)) k = breaks_holds _ _
+  name_sound at (Some (Entering tag)) k = breaks_holds _ _
   name_sound at (Some Taken) k = breaks_holds _ _
   name_sound at (Some Unknown) k = breaks_holds _ _
 

@@ -10,13 +10,13 @@ use Rattle.pawn_program.specs.Scope as program
 use Rattle.pawn_program.specs.ValidExprs.{IsOperator, ArgAgrees, ArgsAgree, IsValidExpr, IsValidArg, AreValidArgs}
 use Rattle.pawn_typing.specs.Around.{Around, Callable, Head, Param, NoDefault, Always, SizeOf, TagOf}
 use Rattle.pawn_typing.specs.Around as around
-use Rattle.pawn_typing.specs.Scope.{Meaning, Constant, Variable, Function, Taken, Unknown, Scope, found}
+use Rattle.pawn_typing.specs.Scope.{Meaning, Constant, Variable, Function, Entering, Taken, Unknown, Scope, found}
 use Rattle.pawn_typing.specs.Scope as means
 use Rattle.pawn_typing.specs.Tests.{converter_to}
 use Rattle.pawn_typing.proofs.VerdictLaws.{Holds, stands_itself, breaks_holds, holds_after, holds_both}
 use Rattle.pawn_calls.specs.Filling.{Offer, Filled, Argument, Default}
 use Rattle.pawn_calls.specs.Defaults.{size_given, tag_given, own_tag, converted, default_arg, default_of, arg_of, args_of}
-use Rattle.pawn_calls.specs.Calls.{Callee, headed, callable, callee_rule, call_code, args_in, call_rule}
+use Rattle.pawn_calls.specs.Calls.{Callee, callable, callee_rule, call_code, args_in, judged, call_by, call_rule}
 use Rattle.pawn_sound.specs.Known.{slot_by, slot_of, IsDefault, HasDefaults, KnowsAround}
 use Rattle.pawn_sound.specs.Placed.{IsNumbered}
 use Rattle.pawn_sound.proofs.CellLaws.{cell_of_cell, small_cell}
@@ -33,46 +33,56 @@ record SoundArgs (scope : program.Scope) (params : List Param) (others args : Ar
   pub agrees : others ≡ no_args → ArgsAgree scope (map slot_of params) args
 
 -- what is called takes arguments that agree with its parameters
-pub record SoundCallee (scope : program.Scope) (it : Callee) : Type 0 where
-  pub defaults : HasDefaults it.head
+pub record SoundHead (scope : program.Scope) (it : Callee) (head : Head) : Type 0 where
+  pub defaults : HasDefaults head
   pub takes : (args : Args) → AreValidArgs scope args
-      → (it.head.rest ≡ None → ArgsAgree scope (map slot_of it.head.params) args)
+      → (head.rest ≡ None → ArgsAgree scope (map slot_of head.params) args)
       → IsValidExpr scope (call_code it.is_native it.number args)
+
+-- where its head is known
+pub record SoundCallee (scope : program.Scope) (it : Callee) : Type 0 where
+  pub sound : (head : Head) → it.head ≡ Some head → SoundHead scope it head
 
 -- ---- what is called
 
+abbrev callee_of : Bool → Callable → Callee
+callee_of is_native it =
+    record { is_native = is_native; number = it.number; tag = it.tag; head = it.head }
+
 module _ (scope : program.Scope) (cx : Around) (known : KnowsAround scope.program cx) where
-  function_headed : (f : ℕ) (it : Callable) (head : Option Head) → slice_get cx.functions f ≡ Some it
-      → it.head ≡ head → Holds (SoundCallee scope) (headed false it.number it.tag head)
-  function_headed f it None e same = breaks_holds _ _
-  function_headed f it (Some head) e same =
+  function_headed : (f : ℕ) (it : Callable) (head : Head) → slice_get cx.functions f ≡ Some it
+      → it.head ≡ Some head → SoundHead scope (callee_of false it) head
+  function_headed f it head e same =
       let facts = known.functions f it head e same in
-      stands_itself _ _ (record {
+      record {
         defaults = facts.0;
         takes = λ args valid agrees.
             (map slot_of head.params, facts.1.takes, agrees facts.1.no_rest, valid);
-      })
+      }
 
-  function_sound : (f : ℕ) (it : Option Callable) → slice_get cx.functions f ≡ it
-      → Holds (SoundCallee scope) (callable false it)
-  function_sound f None e = breaks_holds _ _
-  function_sound f (Some it) e = function_headed f it it.head e refl
+  function_sound : (at : At) (f : ℕ) (it : Option Callable) → slice_get cx.functions f ≡ it
+      → Holds (SoundCallee scope) (callable at false it)
+  function_sound at f None e = breaks_holds _ _
+  function_sound at f (Some it) e =
+      stands_itself _ (callee_of false it)
+      (record { sound = λ head same. function_headed f it head e same })
 
-  native_headed : (n : ℕ) (it : Callable) (head : Option Head) → slice_get cx.natives n ≡ Some it
-      → it.number < length scope.program.natives → it.head ≡ head
-      → Holds (SoundCallee scope) (headed true it.number it.tag head)
-  native_headed n it None e lt same = breaks_holds _ _
-  native_headed n it (Some head) e lt same =
-      stands_itself _ _ (record {
+  native_headed : (n : ℕ) (it : Callable) (head : Head) → slice_get cx.natives n ≡ Some it
+      → it.number < length scope.program.natives → it.head ≡ Some head
+      → SoundHead scope (callee_of true it) head
+  native_headed n it head e lt same =
+      record {
         defaults = known.natives n it head e same;
         takes = λ args valid agrees. (lt, valid);
-      })
+      }
 
-  native_sound : (n : ℕ) (it : Option Callable) → slice_get cx.natives n ≡ it
+  native_sound : (at : At) (n : ℕ) (it : Option Callable) → slice_get cx.natives n ≡ it
       → ((x : Callable) → it ≡ Some x → x.number < length scope.program.natives)
-      → Holds (SoundCallee scope) (callable true it)
-  native_sound n None e k = breaks_holds _ _
-  native_sound n (Some it) e k = native_headed n it it.head e (k it refl) refl
+      → Holds (SoundCallee scope) (callable at true it)
+  native_sound at n None e k = breaks_holds _ _
+  native_sound at n (Some it) e k =
+      stands_itself _ (callee_of true it)
+      (record { sound = λ head same. native_headed n it head e (k it refl) same })
 
   means_sound : (at : At) (path : Scope) (name : List ℕ) (it : Option Meaning)
       → found path name ≡ it → IsNumbered scope.program cx path name
@@ -82,9 +92,10 @@ module _ (scope : program.Scope) (cx : Around) (known : KnowsAround scope.progra
   means_sound at path name (Some (Variable p tag constant)) e n = breaks_holds _ _
   means_sound at path name (Some (means.Array a reach tag constant)) e n = breaks_holds _ _
   means_sound at path name (Some (Function f tag)) e n =
-      function_sound f (slice_get cx.functions f) refl
+      function_sound at f (slice_get cx.functions f) refl
   means_sound at path name (Some (means.Native k tag)) e n =
-      native_sound k (slice_get cx.natives k) refl (λ x same. n.number_in k tag x e same)
+      native_sound at k (slice_get cx.natives k) refl (λ x same. n.number_in k tag x e same)
+  means_sound at path name (Some (Entering tag)) e n = breaks_holds _ _
   means_sound at path name (Some Taken) e n = breaks_holds _ _
   means_sound at path name (Some Unknown) e n = breaks_holds _ _
 
@@ -178,13 +189,25 @@ module _ (scope : program.Scope) (cx : Around) (known : KnowsAround scope.progra
 
   -- ---- calls
 
-  pub call_sound : (at : At) (callee : Callee) (offers : List Offer) → SoundCallee scope callee
-      → AreSoundOffers scope offers → Holds (Sound scope) (call_rule cx at callee offers)
-  unfolding call_rule
-  call_sound at callee offers c o =
-      holds_after (fill_sound scope cx known at callee.head offers o) (λ done f.
-      holds_after (args_sound at callee.head.params done.slots f.slots callee.head.params
+  judged_sound : (at : At) (callee : Callee) (offers : List Offer) (head : Head)
+      → SoundHead scope callee head → AreSoundOffers scope offers
+      → Holds (Sound scope) (judged cx at callee offers head)
+  judged_sound at callee offers head c o =
+      holds_after (fill_sound scope cx known at head offers o) (λ done f.
+      holds_after (args_sound at head.params done.slots f.slots head.params
       done.slots (args_in done.rest) c.defaults.defaults f.slots (rest_args done.rest f.rest))
       (λ args t.
       stands scope _ (c.takes args t.valid (λ none.
       t.agrees (ap args_in (f.no_rest none))))))
+
+  call_by_sound : (at : At) (callee : Callee) (offers : List Offer) (head : Option Head)
+      → callee.head ≡ head → SoundCallee scope callee → AreSoundOffers scope offers
+      → Holds (Sound scope) (call_by cx at callee offers head)
+  call_by_sound at callee offers None same c o = stands scope _ (small_cell 0 (omega arith))
+  call_by_sound at callee offers (Some head) same c o =
+      judged_sound at callee offers head (c.sound head same) o
+
+  pub call_sound : (at : At) (callee : Callee) (offers : List Offer) → SoundCallee scope callee
+      → AreSoundOffers scope offers → Holds (Sound scope) (call_rule cx at callee offers)
+  unfolding call_rule
+  call_sound at callee offers c o = call_by_sound at callee offers callee.head refl c o

@@ -1,24 +1,35 @@
 -- The arguments of a call, each at its parameter, are valid and of the parameters' kinds.
 use Rattle.std.proofs.Common.{◌≡◌, ◌+◌, ℕ, zero, suc, List, [], ◌∷◌, ◌++◌, Option, None, Some, refl, sym, subst}
-use Rattle.std.specs.Prelude.{map, slice_get, slice_set}
+use Rattle.std.specs.Prelude.{pos, map, slice_get, slice_set}
 use Rattle.pawn_tree.specs.declared.name.At.{At}
-use Rattle.pawn_program.specs.Program.{Arg}
+use Rattle.pawn_cells.specs.Cells.{IsCell}
+use Rattle.pawn_program.specs.Program.{Arg, Slot}
 use Rattle.pawn_program.specs.Scope as program
-use Rattle.pawn_program.specs.ValidExprs.{IsValidArg}
+use Rattle.pawn_program.specs.ValidExprs.{ArgAgrees, IsValidArg}
 use Rattle.pawn_typing.specs.Rule.{thread}
 use Rattle.pawn_typing.specs.Typed.{Typed}
 use Rattle.pawn_typing.specs.Around.{Around, Head, Param}
 use Rattle.pawn_typing.proofs.VerdictLaws.{Holds, stands_itself, breaks_holds, holds_after}
-use Rattle.pawn_calls.specs.Given.{rest_rule}
-use Rattle.pawn_calls.specs.Filling.{Offer, Positional, Skipped, Filling, Filled, Argument, Default, nothing_filled, put_in, put, for_param, for_rest, positional, skipped_rest, skipped, named_param, named, number_of_param, offer_step, fill}
+use Rattle.pawn_calls.specs.Given.{Given, rest_rule}
+use Rattle.pawn_calls.specs.Filling.{Offer, Positional, Skipped, Filling, Filled, Argument, Default, nothing_filled, put_in, put, for_param, for_rest, positional, skipped_rest, skipped, named_param, named, number_of_param, offer_step, fill, Argued, in_slot}
 use Rattle.pawn_calls.specs.Filling as filling
 use Rattle.pawn_sound.specs.Known.{slot_of, KnowsAround}
 use Rattle.pawn_sound.proofs.BasicLaws.{Sound}
 use Rattle.pawn_sound.proofs.GivenLaws.{SoundGiven, given_sound, rest_valid}
 
+-- an argument in its slot
+pub record SoundArgued (scope : program.Scope) (slot : Slot) (it : Argued) : Type 0 where
+  pub valid : IsValidArg scope it.code
+  pub agrees : ArgAgrees scope slot it.code
+  pub size : IsCell (pos it.size)
+
+sound_in_slot : (scope : program.Scope) (slot : Slot) (given : Given) → SoundGiven scope slot given
+    → SoundArgued scope slot (in_slot given)
+sound_in_slot scope slot given g = record { valid = g.valid; agrees = g.agrees; size = g.size }
+
 abbrev pub IsFilled : program.Scope → Param → Option Filled → Type 0
 IsFilled scope param None = Unit {0}
-IsFilled scope param (Some (Argument given)) = SoundGiven scope (slot_of param) given
+IsFilled scope param (Some (Argument it)) = SoundArgued scope (slot_of param) it
 IsFilled scope param (Some Default) = Unit {0}
 
 abbrev pub AreFilled : program.Scope → List Param → List (Option Filled) → Type 0
@@ -98,7 +109,8 @@ module _ (scope : program.Scope) (cx : Around) (known : KnowsAround scope.progra
       → Holds (SoundFilling scope head) (for_param cx at head done i param x next)
   for_param_sound done i param x next e p h =
       holds_after (given_sound scope cx known at param x p) (λ given g.
-      holds_after (put_sound i (Argument given) param done.slots e g h.slots) (λ slots s.
+      holds_after (put_sound i (Argument (in_slot given)) param done.slots e
+      (sound_in_slot scope (slot_of param) given g) h.slots) (λ slots s.
       stands_itself _ _ (record { slots = s.filled; rest = h.rest; no_rest = h.no_rest })))
 
   for_rest_sound : (done : Filling) (tags : Option (List ℕ)) (x : Typed) → head.rest ≡ tags

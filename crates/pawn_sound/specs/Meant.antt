@@ -6,7 +6,7 @@ use Rattle.pawn_program.specs.Program as code
 use Rattle.pawn_program.specs.Scope.{Extent, extent}
 use Rattle.pawn_program.specs.Scope as program
 use Rattle.pawn_program.specs.ValidExprs.{IsValidScalar, IsValidArray}
-use Rattle.pawn_typing.specs.Scope.{Meaning, Constant, Variable, Array, Function, Native, Taken, Unknown, Scope, found}
+use Rattle.pawn_typing.specs.Scope.{Meaning, Constant, Variable, Array, Function, Native, Entering, Taken, Unknown, Scope, found}
 
 -- sizes that are known are cells
 pub record AreCells (reach : Extent) : Type 0 where
@@ -26,6 +26,7 @@ module _ (scope : program.Scope) where
   IsMeant (Array a reach tag constant) = IsReached a reach
   IsMeant (Function f tag) = Unit {0}
   IsMeant (Native n tag) = Unit {0}
+  IsMeant (Entering tag) = Unit {0}
   IsMeant Taken = Unit {0}
   IsMeant Unknown = Unit {0}
 

@@ -224,8 +224,11 @@ routes : dispatch_in states
 unfolding found thread constant_rule sizeof_rule behind_vars locals vars_parts params_parts params behind_params grouped classified entered heads functions_from natives_from operators_from function_entries native_entries globals declarations behind_items items_rule items_parts sorted publics_from programs.functions_from programs.tags_from sent sign_spelling call_rule args_of plain_given rest_rule cells.binary operator_rule int_wrap
 routes = refl
 
+abbrev sized : ℕ → List ℕ → Expr
+sized token bytes = e.Sizeof (at token) (size_operand.Name (name token bytes) 0)
+
 -- `f() <a, a> { }`; `f() <a:s, b:s> { }`; `f() <> { } f() <> { }`; `f() <a> { } main() f();` with
--- `entry();`
+-- `entry();`, `sizeof entry;`
 classifiers : map faults (
     (in_states 2 (codes "f") (codes "a" ∷ codes "a" ∷ []) nothing ∷ main nothing ∷ [])
     ∷ (function_with 2 None (called.Name (name 2 (codes "f"))) []
@@ -234,15 +237,14 @@ classifiers : map faults (
     ∷ main nothing ∷ [])
     ∷ (in_states 2 (codes "f") [] nothing ∷ in_states 3 (codes "f") [] nothing ∷ main nothing ∷ [])
     ∷ (in_states 2 (codes "entry") (codes "a" ∷ []) nothing
-    ∷ main (does (call 9 (codes "entry") [])) ∷ []) ∷ [])
-    ≡ ((42, 2) ∷ []) ∷ ((44, 2) ∷ []) ∷ ((43, 3) ∷ []) ∷ ((50, 9) ∷ []) ∷ []
+    ∷ main (does (call 9 (codes "entry") [])) ∷ [])
+    ∷ (in_states 2 (codes "entry") (codes "a" ∷ []) nothing
+    ∷ main (does (sized 9 (codes "entry"))) ∷ []) ∷ [])
+    ≡ ((42, 2) ∷ []) ∷ ((44, 2) ∷ []) ∷ ((43, 3) ∷ []) ∷ ((50, 9) ∷ []) ∷ ((53, 9) ∷ []) ∷ []
 unfolding found thread constant_rule sizeof_rule behind_vars locals vars_parts params_parts params behind_params grouped classified entered heads functions_from natives_from operators_from function_entries native_entries globals declarations behind_items items_rule items_parts sorted publics_from programs.functions_from programs.tags_from sent sign_spelling call_rule args_of plain_given rest_rule cells.binary operator_rule int_wrap
 classifiers = refl
 
 -- ---- a node that breaks a rule, by which a part of it falls
-
-abbrev sized : ℕ → List ℕ → Expr
-sized token bytes = e.Sizeof (at token) (size_operand.Name (name token bytes) 0)
 
 abbrev array : List ℕ → Expr → Var
 array bytes size =
@@ -254,7 +256,8 @@ rows bytes = d.Plain false false [] (name 0 bytes) (v.Open ∷ v.Open ∷ []) No
 abbrev two_arrays : List Var
 two_arrays = array (codes "a") (var 5 (codes "x")) ∷ array (codes "b") (sized 5 (codes "a")) ∷ []
 
--- `f(p[][]) { f(1); } main() { }`; `f(p[][], k = sizeof p) { } main() { }`; and behind `new x;`:
+-- `f(p[][]) { f(1); } main() { }`; `f(p[][], k = sizeof p) { } main() { }`; `f(k = f(1)) { } main()
+-- { }`, whose call isn't judged; and behind `new x;`:
 -- `new a[x], b[sizeof a]; main() { }`, the same in a block, `enum T { a = x, b = a } main() { }`,
 -- `main() for (new a[x]; a[0]; ) ;`
 by_themselves : map faults (
@@ -262,6 +265,9 @@ by_themselves : map faults (
     (does (call 9 (codes "f") (e.Value (number 9 1) ∷ []))) ∷ main nothing ∷ [])
     ∷ (function 2 (codes "f")
     (rows (codes "p") ∷ param [] (codes "k") (Some (sized 3 (codes "p"))) ∷ []) nothing
+    ∷ main nothing ∷ [])
+    ∷ (function 2 (codes "f")
+    (param [] (codes "k") (Some (call 3 (codes "f") (e.Value (number 3 1) ∷ []))) ∷ []) nothing
     ∷ main nothing ∷ [])
     ∷ (global 2 (variable None (codes "x") None ∷ []) ∷ global 4 two_arrays ∷ main nothing ∷ [])
     ∷ (global 2 (variable None (codes "x") None ∷ []) ∷ main (block (new 4 two_arrays ∷ [])) ∷ [])
@@ -273,7 +279,7 @@ by_themselves : map faults (
     ∷ main (s.For (at 4) (s.New (array (codes "a") (var 5 (codes "x")) ∷ []))
     (Some (e.Index (at 6) (var 6 (codes "a")) (number 7 0))) None (s.Empty (at 8))) ∷ [])
     ∷ [])
-    ≡ ((57, 2) ∷ []) ∷ ((57, 2) ∷ []) ∷ ((57, 4) ∷ []) ∷ ((57, 4) ∷ []) ∷ ((57, 3) ∷ [])
+    ≡ ((57, 2) ∷ []) ∷ ((57, 2) ∷ []) ∷ ((57, 2) ∷ []) ∷ ((57, 4) ∷ []) ∷ ((57, 4) ∷ []) ∷ ((57, 3) ∷ [])
     ∷ ((57, 4) ∷ []) ∷ []
 unfolding found thread constant_rule sizeof_rule behind_vars locals vars_parts params_parts params behind_params grouped classified entered heads functions_from natives_from operators_from function_entries native_entries globals declarations behind_items items_rule items_parts sorted publics_from programs.functions_from programs.tags_from sent sign_spelling call_rule args_of plain_given rest_rule cells.binary operator_rule int_wrap
 by_themselves = refl

@@ -15,7 +15,7 @@ use Rattle.pawn_scopes.specs.TreeMarks.{tree_marks}
 use Rattle.pawn_scopes.specs.Around.{tags_of}
 use Rattle.pawn_scopes.specs.Overloads.{tag_number}
 use Rattle.pawn_typing.specs.Around.{Around, Callable, Head}
-use Rattle.pawn_typing.specs.Scope.{Meaning, Function, Native, Taken, Entry}
+use Rattle.pawn_typing.specs.Scope.{Meaning, Function, Native, Entering, Taken, Entry}
 use Rattle.pawn_bodies.specs.CalledIn.{called_in}
 use Rattle.pawn_bodies.specs.Points.{Point}
 use Rattle.pawn_automata.specs.Keys.{Key, Named, Operates, Enters, Misshapen, entry_name}
@@ -144,7 +144,7 @@ module _ (source : Source) where
   abbrev pub function_entry : ℕ → ℕ → Key → List Entry
   function_entry number tag (Named name) = entry_for name (Function number tag)
   function_entry number tag (Operates it) = []
-  function_entry number tag (Enters name) = entry_for entry_name Taken
+  function_entry number tag (Enters name) = entry_for entry_name (Entering tag)
   function_entry number tag Misshapen = []
 
   unfoldable pub function_entries : ℕ → List Stated → List Group → List Entry

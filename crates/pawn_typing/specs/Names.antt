@@ -15,7 +15,7 @@ use Rattle.pawn_scopes.specs.Verdict.{Verdict, Stands, after}
 use Rattle.pawn_typing.specs.Rule.{broken, fallen}
 use Rattle.pawn_typing.specs.Typed.{Typed, Form, Place, Whole, Literal, plain_value}
 use Rattle.pawn_typing.specs.Around.{Around, tag_number}
-use Rattle.pawn_typing.specs.Scope.{Meaning, Constant, Variable, Array, Function, Native, Taken, Unknown, Scope, found}
+use Rattle.pawn_typing.specs.Scope.{Meaning, Constant, Variable, Array, Function, Native, Entering, Taken, Unknown, Scope, found}
 use Rattle.pawn_typing.specs.Texts.{text_object, text_cells}
 
 -- a constant with its tag
@@ -65,6 +65,7 @@ name_rule at (Some (Array a extent tag constant)) =
     Stands (held at (Whole a extent constant) tag)
 name_rule at (Some (Function f tag)) = broken UNDEFINED at
 name_rule at (Some (Native n tag)) = broken UNDEFINED at
+name_rule at (Some (Entering tag)) = broken UNDEFINED at
 name_rule at (Some Taken) = broken UNDEFINED at
 name_rule at (Some Unknown) = fallen
 
@@ -96,6 +97,7 @@ size_of at dimension (Some (Array a extent tag constant)) =
     size_or_broken at (size_at extent dimension)
 size_of at dimension (Some (Function f tag)) = broken NOT_AN_ARRAY at
 size_of at dimension (Some (Native n tag)) = broken NOT_AN_ARRAY at
+size_of at dimension (Some (Entering tag)) = broken NOT_AN_ARRAY at
 size_of at dimension (Some Taken) = broken UNDEFINED at
 size_of at dimension (Some Unknown) = fallen
 
@@ -123,6 +125,7 @@ tag_of at (Some (Variable p tag constant)) = Stands tag
 tag_of at (Some (Array a extent tag constant)) = Stands tag
 tag_of at (Some (Function f tag)) = Stands tag
 tag_of at (Some (Native n tag)) = Stands tag
+tag_of at (Some (Entering tag)) = Stands tag
 tag_of at (Some Taken) = broken UNDEFINED at
 tag_of at (Some Unknown) = fallen
 

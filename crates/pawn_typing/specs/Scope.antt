@@ -22,7 +22,9 @@ pub data Meaning : Type 0 where
   Function : ℕ → ℕ → Meaning
   -- the same of a native
   Native : ℕ → ℕ → Meaning
-  -- a name that is taken and means nothing: that of a forward without a function, and `entry`
+  -- an entry function, which no name calls, by the tag of what it gives
+  Entering : ℕ → Meaning
+  -- a name that is taken and means nothing: that of a forward without a function
   Taken : Meaning
   -- a declaration that doesn't stand
   Unknown : Meaning
