@@ -1,0 +1,7 @@
+-- How far an array reaches, as the rules of typing see it.
+use Rattle.pawn_arrays.specs.Sizes.{inner_sizes}
+use Rattle.pawn_program.specs.Scope as plain
+use Rattle.check_types.specs.declared.extent.Extent.{Extent}
+
+abbrev pub extent_view : Extent → plain.Extent
+extent_view it = record { first = it.first; inner = inner_sizes it.second it.third }

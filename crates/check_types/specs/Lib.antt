@@ -1,0 +1,4 @@
+pub mod ExtentView
+pub mod MeaningView
+pub mod TypedView
+pub mod ContextView

@@ -1,0 +1,25 @@
+-- A typed expression, as the rules of typing see it.
+use Rattle.std.specs.Prelude.{map}
+use Rattle.pawn_program.specs.View.{scalar_view, array_view, expr_view, object_view}
+use Rattle.pawn_typing.specs.Typed as plain
+use Rattle.check_types.specs.declared.typed.Form.{Form}
+use Rattle.check_types.specs.declared.typed.Form.TheVariants as form
+use Rattle.check_types.specs.declared.typed.Typed.{Typed}
+use Rattle.check_types.specs.ExtentView.{extent_view}
+
+abbrev pub form_view : Form → plain.Form
+form_view (form.Value e) = plain.Value (expr_view e)
+form_view (form.Place place constant) = plain.Place (scalar_view place) constant
+form_view (form.Whole whole extent constant) =
+    plain.Whole (array_view whole) (extent_view extent) constant
+form_view (form.Literal object cells) = plain.Literal object cells
+
+abbrev pub typed_view : Typed → plain.Typed
+typed_view x = record {
+  at = x.at;
+  form = form_view x.form;
+  tag = x.tag;
+  value = x.value;
+  literals = map object_view x.made.literals;
+  warned = x.made.warned;
+}
