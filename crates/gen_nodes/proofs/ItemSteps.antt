@@ -1,5 +1,5 @@
 -- The code of a node cut into its parts, and each instruction as the first of the items that lie there.
-use Rattle.std.proofs.Common.{◌≡◌, ◌+◌, ◌*◌, ◌≤◌, ℕ, ℤ, pos, List, [], ◌∷◌, ◌++◌, Some, length, sum, refl, subst, arith, length-append}
+use Rattle.std.proofs.Common.{◌≡◌, ◌+◌, ◌*◌, ◌≤◌, ℕ, ℤ, pos, List, [], ◌∷◌, ◌++◌, length, sum, refl, subst, arith, length-append}
 use Rattle.pawn_cells.specs.Cells.{IsCell}
 use Rattle.pawn_meaning.specs.World.{World}
 use Rattle.pawn_meaning.specs.Run.{Outcome}
@@ -62,7 +62,7 @@ by_operand operand.NativeNumber n v = omega arith
 by_operand operand.CaseTable n v = omega arith
 by_operand operand.Cases n v = omega arith
 
-some_cells : (it : Written) → 1 ≤ length (cells_of it)
+pub some_cells : (it : Written) → 1 ≤ length (cells_of it)
 some_cells it =
     omega (arith, length-append (cells_by (number_of it.op) it.operand (operand_of it.op)) it.table, by_operand (operand_of it.op) (number_of it.op) it.operand)
 

@@ -1,6 +1,5 @@
 -- Which places are cells, and which are characters.
-use Rattle.std.proofs.Common.{◌≡◌, ◌+◌, ◌*◌, inl, inr, ℕ, length, refl}
-use Rattle.host_script.specs.declared.event.End.{End}
+use Rattle.std.proofs.Common.{◌*◌, inl, inr, ℕ, length}
 use Rattle.pawn_program.specs.Program.{Scalar, Global, Own, Element, Char}
 use Rattle.pawn_program.specs.Program as node
 use Rattle.pawn_meaning.specs.Memory.{Place, Cell, Character, through}
@@ -9,7 +8,7 @@ use Rattle.pawn_meaning.specs.Run.{Outcome, Gives, Stops, More, Run, ◌>>=◌, 
 use Rattle.pawn_meaning.specs.References.{is_known, index, first_size, cell_at, character_at}
 use Rattle.pawn_meaning.specs.Meaning.{Scene, Fewer, place, array, value}
 use Rattle.amx_ops.specs.Moves.{Config, move}
-use Rattle.gen_sim.specs.Does.{Reach, Then, Does}
+use Rattle.gen_sim.specs.Does.{Then}
 use Rattle.gen_steps.specs.Site.{Site, DoesAt}
 
 abbrev pub IsCellPlace : Place → Type 0

@@ -1,5 +1,10 @@
+pub mod AccessLaws
+pub mod AccessNodes
 pub mod ItemSteps
+pub mod JumpNodes
+pub mod JumpSteps
 pub mod KindLaws
 pub mod OperatorLaws
 pub mod PartLaws
 pub mod SimpleNodes
+pub mod StepNodes

@@ -1,14 +1,12 @@
 -- What the instructions of operators do.
-use Rattle.std.proofs.Common.{◌≡◌, ◌+◌, ◌*◌, ℕ, ℤ, pos, List, [], ◌∷◌, Bool, true, false, not as no, length, refl, ap, sym, ◌∙◌, arith}
+use Rattle.std.proofs.Common.{◌≡◌, ◌+◌, ◌*◌, ℕ, ℤ, pos, List, [], ◌∷◌, Bool, true, false, not as no, length, refl, ap, ◌∙◌, arith}
 use Rattle.std.proofs.Math.IntN.{*ℤ_comm, +ℤ_comm}
 use Rattle.std.proofs.lemmas.Nat.{and_comm, or_comm, xor_comm}
-use Rattle.std.proofs.lemmas.Cmp.{int_eq_equiv}
 use Rattle.pawn_cells.specs.declared.operator.Prefix.{Prefix}
 use Rattle.pawn_cells.specs.declared.operator.Prefix.TheVariants as before
 use Rattle.pawn_cells.specs.declared.operator.Operator.{Operator}
 use Rattle.pawn_cells.specs.declared.operator.Operator.TheVariants as between
-use Rattle.pawn_cells.specs.Cells.{IsCell, bits_of, cell_of, wrap, add, sub, mul, neg, and, or, xor, invert, shl, shr, ushr, floor_div, floor_rem, equal, is_zero, truth}
-use Rattle.pawn_cells.specs.Cells as cells
+use Rattle.pawn_cells.specs.Cells.{IsCell, bits_of, cell_of, wrap, add, sub, mul, and, or, xor, shl, shr, ushr, floor_div, floor_rem, equal, is_zero, truth}
 use Rattle.pawn_cells.specs.Operators.{prefix, binary}
 use Rattle.host_script.specs.declared.event.End.TheVariants as end
 use Rattle.pawn_meaning.specs.World.{World}
@@ -17,7 +15,7 @@ use Rattle.amx_ops.specs.declared.amx.Amx.{Amx}
 use Rattle.amx_ops.specs.declared.op.Op.{Op}
 use Rattle.amx_ops.specs.declared.op.Op.TheVariants as op
 use Rattle.amx_ops.specs.Written.{cells_of}
-use Rattle.amx_ops.specs.State.{State, Turned, Goes, Errs}
+use Rattle.amx_ops.specs.State.{State, Goes}
 use Rattle.amx_ops.specs.Step.{act}
 use Rattle.amx_ops.specs.Moves.{Config}
 use Rattle.amx_ops.proofs.CellLaws.{cell_of_cell, wrap_cell, shr_cell, truth_cell, floor_rem_cell}

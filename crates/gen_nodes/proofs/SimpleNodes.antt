@@ -1,5 +1,5 @@
 -- Constants, operators and commas: a node's code does what it means, where those of its parts do.
-use Rattle.std.proofs.Common.{◌≡◌, ◌+◌, ◌*◌, ◌≤◌, ℕ, ℤ, pos, List, [], ◌∷◌, ◌++◌, length, sum, refl, ap, sym, subst, ◌∙◌, arith}
+use Rattle.std.proofs.Common.{◌≡◌, ◌+◌, ◌*◌, ℕ, ℤ, pos, List, [], ◌∷◌, length, ap, sym, subst, ◌∙◌, arith}
 use Rattle.pawn_cells.specs.declared.operator.Prefix.{Prefix}
 use Rattle.pawn_cells.specs.declared.operator.Operator.{Operator}
 use Rattle.pawn_cells.specs.Cells.{IsCell}

@@ -1,2 +1,4 @@
+pub mod AccessCode
+pub mod JumpCode
 pub mod Lies
 pub mod SimpleCode

@@ -1,6 +1,6 @@
 -- The code of nodes without a jump, of which each is its own step between the codes of its parts. A value comes in
 -- PRI; while a second part runs, what the first one gave waits on the stack, and then goes to ALT.
-use Rattle.std.specs.Prelude.{ℕ, ℤ, pos, List, [], ◌∷◌, ◌++◌}
+use Rattle.std.specs.Prelude.{ℤ, pos, List, [], ◌∷◌, ◌++◌}
 use Rattle.pawn_cells.specs.declared.operator.Prefix.{Prefix}
 use Rattle.pawn_cells.specs.declared.operator.Prefix.TheVariants as before
 use Rattle.pawn_cells.specs.declared.operator.Operator.{Operator}
@@ -47,9 +47,13 @@ const_code v = taking op.ConstPri v ∷ []
 abbrev pub unary_code : Prefix → List Item → List Item
 unary_code o e = e ++ alone (prefix_op o) ∷ []
 
--- two parts, and what is done with the value of the first in ALT and that of the second in PRI
+-- two parts, and what is done while the cell that the first one gave waits, with the second one's in PRI
+abbrev pub waiting_code : (first second tail : List Item) → List Item
+waiting_code first second tail = first ++ (alone op.PushPri ∷ (second ++ tail))
+
+-- or with it in ALT
 abbrev pub both_code : (first second last : List Item) → List Item
-both_code first second last = first ++ (alone op.PushPri ∷ (second ++ (alone op.PopAlt ∷ last)))
+both_code first second last = waiting_code first second (alone op.PopAlt ∷ last)
 
 abbrev pub binary_code : Operator → (left right : List Item) → List Item
 binary_code o left right = both_code left right (operator_code o)

@@ -51,9 +51,9 @@ byte_is y k = refl
 
 module _ (x : Site) {A : Type 0} {d : ℕ} {Q : A → World → Config → Type 0} {v : View} {pending : List ℤ} {p : ℕ} {w : World} {c : Config}
     (a : Stands x.program x.room v pending p w c) {name : Name} {i cell : ℕ} (at : CellAt x.program x.room v name i cell) (k : ℕ) (below : k < 4) where
-  -- LODB.I 1: a character is read at its byte's address in PRI
+  -- LODB.I 1: a character is read at its byte's address in PRI, and ALT stays
   pub load_character_does : c.state.pri ≡ pos (4 * cell + (3 - k)) → fetched x.amx.code p ≡ Some (read_as (with op.LodbI (pos 1))) → (go : ℤ → Run A)
-      → ((y : ℤ) (t : Config) → With x.program x.room v pending (p + 8) y w t → DoesAt x d w t (go y w) Q)
+      → ((y : ℤ) (t : Config) → With x.program x.room v pending (p + 8) y w t → t.state.alt ≡ c.state.alt → DoesAt x d w t (go y w) Q)
       → DoesAt x (1 + d) w c (then_do (or_stop (read (Character name i k) w.memory) end.Stray w) go) Q
   load_character_does e f go next = by_value (read_cell name i w.memory) refl
     where
@@ -75,7 +75,7 @@ module _ (x : Site) {A : Type 0} {d : ℕ} {Q : A → World → Config → Type 
             stands = stands_on x.program x.room a (p + 8) t refl refl refl refl refl;
             value = refl;
             fits = small_fits (char_at y k) (omega (arith, small));
-          }))
+          }) refl)
 
   -- STRB.I 1: the low byte of PRI becomes the character whose byte's address is in ALT
   pub store_character_does : (y : ℤ) → c.state.pri ≡ y → IsCell y → c.state.alt ≡ pos (4 * cell + (3 - k))

@@ -1,7 +1,7 @@
 -- What a generator knows of the view in which a node runs: the slots in sight stand where its scope says.
 use Rattle.std.specs.Prelude.{◌≡◌, ◌+◌, ◌*◌, ◌<◌, ◌≤◌, ℕ, List, [], ◌∷◌, ◌++◌, Option, None, Some, Any, slice_get}
 use Rattle.pawn_program.specs.Program.{Slot, ScalarSlot, ReferenceSlot, ArraySlot, OpenSlot, Program}
-use Rattle.pawn_program.specs.Scope.{Scope}
+use Rattle.pawn_program.specs.Scope.{Scope, IsMade}
 use Rattle.pawn_meaning.specs.Memory.{Local, Reference}
 use Rattle.gen_memory.specs.Pieces.{Piece, Thing, Each, total}
 use Rattle.gen_memory.specs.Places.{Apart}
@@ -45,6 +45,8 @@ module _ (program : Program) (room : ℕ) where
     pub rest : List Piece
     pub locals : v.high ≡ locals_of (innermost v) scope.slots scope.made ++ rest
     pub once : AreOnce scope.made
+    -- no parameter is one of them
+    pub behind_params : (s : ℕ) → IsMade scope s → scope.params ≤ s
     pub frame : v.frm + 4 * total rest ≡ 4 * all_cells program room
     pub params : (s : ℕ) (kind : Slot) → s < scope.params → slice_get scope.slots s ≡ Some kind → ParamFits v s kind
     -- a slot that is no parameter stands nowhere but among these locals, and refers to nothing

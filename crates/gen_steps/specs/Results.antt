@@ -4,6 +4,7 @@ use Rattle.pawn_program.specs.Program.{Slot, ScalarSlot, Arg, Value, Ref, Whole,
 use Rattle.pawn_program.specs.Scope.{Extent}
 use Rattle.pawn_meaning.specs.Memory.{Reference, Place, Cell, Character}
 use Rattle.pawn_meaning.specs.World.{World}
+use Rattle.pawn_meaning.specs.References.{to_cell}
 use Rattle.pawn_meaning.specs.Natives as natives
 use Rattle.pawn_meaning.specs.Natives.{Held}
 use Rattle.amx_ops.specs.Moves.{Config}
@@ -47,9 +48,10 @@ with_temporaries zero v = v
 with_temporaries (suc n) v = with_temporary (with_temporaries n v)
 
 module _ (program : Program) (room : ℕ) where
-  -- PRI is the address of a place: of a cell, or of a character's byte in memory
+  -- PRI is the address of a place: of a cell, which a reference may name, or of a character's byte in memory
   abbrev pub IsAddress : View → Place → ℤ → Type 0
-  IsAddress v (Cell name i) x = (cell : ℕ) × CellAt program room v name i cell × (x ≡ pos (4 * cell))
+  IsAddress v (Cell name i) x =
+      (cell : ℕ) × CellAt program room v name i cell × (x ≡ pos (4 * cell)) × RefersTo program room v (to_cell name i) cell
   IsAddress v (Character name i k) x =
       (cell : ℕ) × CellAt program room v name i cell × (k < 4) × (x ≡ pos (4 * cell + (3 - k)))
 

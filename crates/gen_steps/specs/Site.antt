@@ -1,5 +1,5 @@
 -- A file in which code runs, and all else that is the same for each node of a program.
-use Rattle.std.specs.Prelude.{◌≡◌, ◌*◌, ◌^◌, ◌<◌, ℕ, true, length}
+use Rattle.std.specs.Prelude.{◌≡◌, ◌*◌, ◌^◌, ◌<◌, ◌≤◌, ℕ, true, length}
 use Rattle.host_script.specs.declared.script.Script.{Script}
 use Rattle.host_script.specs.Ranges.{IsScript}
 use Rattle.pawn_program.specs.Program.{Program}
@@ -26,11 +26,12 @@ pub record Site : Type 0 where
   pub entry : ℕ → ℕ
 
 -- the program is valid, and the file has as many cells of data as the program's objects and automata, its natives,
--- and code that a cell can address; the script keeps its ranges
+-- which cells can number, and code that a cell can address; the script keeps its ranges
 pub record IsSite (x : Site) : Type 0 where
   pub valid : IsValid x.program
   pub data_is : length x.amx.store ≡ kept x.program x.room
   pub natives : (n : ℕ) → machine.name_of x.amx.natives n ≡ name_of x.program n
+  pub numbered : length x.program.natives ≤ 2 ^ 31
   pub small : 4 * length x.amx.code < 2 ^ 31
   pub script_keeps : IsScript x.script
 

@@ -1,0 +1,5 @@
+pub mod AddressLaws
+pub mod CopyNodes
+pub mod ElementNodes
+pub mod IndexLaws
+pub mod IndexNodes

@@ -1,0 +1,2 @@
+pub mod ArgumentCode
+pub mod CallCode

@@ -1,0 +1,2 @@
+//! The code of chains of comparisons, and that it does what they mean.
+#![tactic(auto)]

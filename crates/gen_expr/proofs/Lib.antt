@@ -1,0 +1,2 @@
+pub mod ExprNodes
+pub mod Extents

@@ -1,0 +1,2 @@
+pub mod CodeMeans
+pub mod Fine

@@ -1,0 +1,5 @@
+pub mod ArrayNodes
+pub mod FrameAddresses
+pub mod LocalLaws
+pub mod PlaceNodes
+pub mod SlotLaws
