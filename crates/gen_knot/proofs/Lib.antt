@@ -1,0 +1,2 @@
+pub mod KnotLaws
+pub mod SingleLaws

@@ -1,0 +1,2 @@
+//! What instructions of statements do: locals are made and left, and a run ends.
+#![tactic(auto)]

@@ -1,0 +1,2 @@
+pub mod CalledScopes
+pub mod LocalScopes
