@@ -1,0 +1,5 @@
+pub mod Command
+pub mod Options
+pub mod Reading
+pub mod Status
+pub mod Stop
