@@ -1,7 +1,7 @@
 ghost use Rattle.std.specs.Prelude.{◌≡◌, IsSome};
 ghost use Rattle.amx_machine.specs.declared.mode.Mode.TheVariants as mode;
 
-use amx_image::{ImageBuffer, restore_into, save_into};
+use amx_image::{ImageBuffer, ImageFault, restore_into, save_into};
 use amx_machine::Machine;
 use amx_verify::Verified;
 use std::alloc::Global;
@@ -33,6 +33,19 @@ pub fn with_word(alloc: Global, bytes: &[u8], place: u32, number: u32) -> Option
         }
     }
     Some(made)
+}
+
+/// What a machine of the file answers to bytes: the position, or the number of the refusal and 10
+/// times more, with the register's number added, below 0.
+pub fn answer(alloc: Global, verified: &Verified, bytes: &[u8]) -> i64 {
+    let Ok(mut machine) = Machine::load(alloc, verified) else {
+        return -1;
+    };
+    match restore_into(&mut machine, verified, &DIGEST, bytes) {
+        Ok(position) => i64::from(position),
+        Err(ImageFault::Register(number)) => -1250 - i64::from(number),
+        Err(fault) => -10 * i64::from(fault.number()),
+    }
 }
 
 /// The image of a machine at a sleep, at a position of the script.

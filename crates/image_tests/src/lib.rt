@@ -6,4 +6,6 @@ mod bytes;
 #[cfg(test)]
 mod files;
 #[cfg(test)]
+mod refused;
+#[cfg(test)]
 mod saved;
