@@ -1,34 +1,75 @@
--- The pairs of a tree that spells tokens rise.
-use Rattle.std.proofs.Common.{◌<◌, ◌≤◌, ℕ, suc, List, [], ◌∷◌, ◌++◌, Option, Some, None, sym, subst, append-nil, arith}
+-- The pairs of occurrences and declarations of a tree that spells tokens rise.
+use Rattle.std.proofs.Common.{◌<◌, ◌≤◌, ℕ, suc, Bool, List, [], ◌∷◌, ◌++◌, Option, Some, None, sym, subst, append-nil, arith}
+use Rattle.pawn_token.specs.declared.sign.Sign.TheVariants as sign
+use Rattle.pawn_cells.specs.declared.place.Place.{Place}
 use Rattle.pawn_lex.specs.declared.token.Token.{Token}
-use Rattle.pawn_tree.specs.Declarations.{Tree}
+use Rattle.pawn_tree.specs.declared.name.Name as n
+use Rattle.pawn_tree.specs.Statements.{ConstantOf}
+use Rattle.pawn_tree.specs.Declarations.{Item, Tree}
+use Rattle.pawn_grammar.specs.Tokens.{tag_at, behind_sign}
+use Rattle.pawn_grammar.specs.Lists.{Many, no_more, one_more, Behind, Several, several}
+use Rattle.pawn_grammar.specs.Variables.{IsConstant, constant}
+use Rattle.pawn_grammar.specs.Declarations.{IsItem, item_of, IsEnum, enum_of}
 use Rattle.pawn_grammar.specs.Spells.{Spells}
 use Rattle.pawn_scopes.specs.Mark.{Mark, Opens, Closes, Mentions, Uses, Declares, Use}
-use Rattle.pawn_scopes.specs.TreeMarks.{tree_marks}
+use Rattle.pawn_scopes.specs.Lists.{maybe_marks}
+use Rattle.pawn_scopes.specs.VariableMarks.{tag_marks}
+use Rattle.pawn_scopes.specs.StatementMarks.{constant_marks}
+use Rattle.pawn_scopes.specs.TreeMarks.{label_marks, item_marks, items_marks, tree_marks}
 use Rattle.pawn_scopes.specs.Known.{Known}
 use Rattle.pawn_scopes.specs.Around.{Around}
 use Rattle.pawn_scopes.specs.Found.{meaning}
 use Rattle.pawn_scopes.specs.Uses.{uses, pair_of, declared_at}
 use Rattle.pawn_uses.specs.Rising.{AreRising}
-use Rattle.pawn_uses.proofs.Rises.{Below, none_rise, many_order}
-use Rattle.pawn_uses.proofs.Nodes.{decl_orders}
+use Rattle.pawn_uses.proofs.Up.{Up, none_up, up_on, up_more, rising}
+use Rattle.pawn_uses.proofs.Grows.{Spans, many_order, led_orders, maybe_tag_rises, end_on, tag_on, sign_on, name_on}
+use Rattle.pawn_uses.proofs.Rises.{Below, Rises, on, none_rise, opens_rise, closes_rise, declares_rise, rises_grow}
+use Rattle.pawn_uses.proofs.Nodes.{expr_rises, whole_orders, decl_orders}
 
--- pairs that rise from a token up to another
-data Up : ℕ → List (ℕ × ℕ) → ℕ → Type 0 where
-  none_up : {least end : ℕ} → least ≤ end → Up least [] end
-  one_up : {least end : ℕ} {more : List (ℕ × ℕ)} (pair : ℕ × ℕ) → least ≤ pair.0 → Up (suc pair.0) more end → Up least (pair ∷ more) end
+-- ---- constants and enumerations
 
-up_on : {least m k : ℕ} {pairs : List (ℕ × ℕ)} → Up least pairs m → m ≤ k → Up least pairs k
-up_on (none_up l) le = none_up (omega arith)
-up_on (one_up pair l x) le = one_up pair l (up_on x le)
+module _ (ts : List Token) where
+  constant_rises : (place : Place) (outside : Bool) {h i j : ℕ} {x : ConstantOf} → IsConstant ts h x i j → (before : List Mark) → Rises before i → Rises (constant_marks place outside x before) j
+  constant_rises place outside {i = i} (constant c c2 x e) before r =
+      declares_rise _ (end_on rises_grow ts (expr_rises ts rises_grow x.is_expr _ (on (tag_on rises_grow ts (maybe_tag_rises rises_grow (tag_at ts i) r)) (omega arith))) e)
 
-up_more : {least m : ℕ} {pairs : List (ℕ × ℕ)} (pair : ℕ × ℕ) → Up least pairs m → m ≤ pair.0 → Up least (pairs ++ pair ∷ []) (suc pair.0)
-up_more pair (none_up l) le = one_up pair (omega arith) (none_up (omega arith))
-up_more pair (one_up first l x) le = one_up first l (up_more pair x le)
+  item_rises : (place : Place) (tag last : Option n.Name) {h i j : ℕ} {x : Item} → IsItem ts h x i j → (before : List Mark) → Rises before i → Rises (item_marks place tag last x before) j
+  item_rises place tag last (item_of c x) before r = declares_rise _ (led_orders rises_grow (whole_orders ts rises_grow) x before (on r (omega arith)))
 
-rising : {least end : ℕ} {pairs : List (ℕ × ℕ)} → Up least pairs end → AreRising least pairs
-rising (none_up l) = tt
-rising (one_up pair l x) = (l, rising x)
+  label_rises : (place : Place) (tag last : Option n.Name) (count : ℕ) {m : ℕ} (before : List Mark) → Rises before m → Rises (label_marks place tag last count before) m
+  label_rises place None last count before r = r
+  label_rises place (Some tag) None count before r = r
+  label_rises place (Some tag) (Some last) count before r = declares_rise _ r
+
+  more_items_rise : (place : Place) (tag : Option n.Name) {more : ℕ → Bool} {h i j : ℕ} {xs : List Item} (last : Option n.Name) (count : ℕ)
+      → Many more (Behind (IsItem ts)) h xs i j → (before : List Mark) → Rises before i → Rises (items_marks place tag last count xs before) j
+  more_items_rise place tag last count (no_more f) before r = label_rises place tag last count before r
+  more_items_rise place tag last count (one_more {x = x} t it m) before r =
+      more_items_rise place tag (Some x.name) (suc count) m _ (item_rises place tag last it before (on r (omega arith)))
+
+  items_rise : (place : Place) (tag : Option n.Name) {more : ℕ → Bool} {h i j : ℕ} {xs : List Item}
+      → Several more (IsItem ts) (Behind (IsItem ts)) h xs i j → (before : List Mark) → Rises before i → Rises (items_marks place tag None 0 xs before) j
+  items_rise place tag (several x m) before r = more_items_rise place tag _ _ m _ (item_rises place tag None x before r)
+
+  enum_rises : (place : Place) {h i j : ℕ} {name : Option n.Name} {xs : List Item} → IsEnum ts h name xs i j → (before : List Mark) → Rises before i
+      → Rises (items_marks place name None 0 xs (maybe_marks tag_marks name before)) j
+  enum_rises place {i = i} (enum_of {k = k} c m c2) before r =
+      let a = name_on ts i in
+      let b : k ≤ behind_sign ts sign.Comma k = sign_on ts sign.Comma k in
+      let d : suc (behind_sign ts sign.Comma k) ≤ behind_sign ts sign.Semicolon (suc (behind_sign ts sign.Comma k)) = sign_on ts sign.Semicolon (suc (behind_sign ts sign.Comma k)) in
+      on (items_rise place _ m _ (on (maybe_tag_rises rises_grow _ r) (omega arith))) (omega arith)
+
+  rises_span : Spans ts Rises
+  rises_span = record {
+    opens = opens_rise;
+    closes = closes_rise;
+    variable = λ place outside x before r. declares_rise _ r;
+    parameter = λ place constant reference tags name dims value before r. declares_rise _ r;
+    constant = constant_rises;
+    enum = enum_rises;
+  }
+
+-- ---- pairs
 
 declared_up : {pairs : List (ℕ × ℕ)} (token : ℕ) (declared : Option ℕ) → Up 0 pairs token → Up 0 (pairs ++ declared_at token declared) (suc token)
 declared_up {pairs} token None x = subst (λ all. Up 0 all (suc token)) (sym (append-nil pairs)) (up_on x (omega arith))
@@ -50,5 +91,5 @@ uses_up around (Declares it ∷ before) end x = uses_up around before end x
 
 pub uses_rise : (ts : List Token) (tree : Tree) (around : Around) → Spells ts tree → AreRising 0 (uses around (tree_marks tree))
 uses_rise ts tree around spells =
-    let all = many_order (decl_orders ts) spells.decls [] none_rise in
+    let all = many_order rises_grow (decl_orders ts rises_grow (rises_span ts)) spells.decls [] none_rise in
     rising (uses_up around (tree_marks tree) _ all.rises)

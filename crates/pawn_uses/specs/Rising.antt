@@ -9,7 +9,7 @@ use Rattle.pawn_scopes.specs.Around.{Around}
 use Rattle.pawn_scopes.specs.Uses.{uses}
 
 -- each first number is greater than those before it, and the first one isn't below a bound
-abbrev pub AreRising : ℕ → List (ℕ × ℕ) → Type 0
+abbrev pub AreRising : {A : Type 0} → ℕ → List (ℕ × A) → Type 0
 AreRising least [] = Unit {0}
 AreRising least (pair ∷ more) = (least ≤ pair.0) × AreRising (suc pair.0) more
 
