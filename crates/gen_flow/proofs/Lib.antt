@@ -1,0 +1,4 @@
+pub mod FlowNodes
+pub mod LeaveNodes
+pub mod MadeViews
+pub mod WayLaws

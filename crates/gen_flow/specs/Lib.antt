@@ -1,0 +1,4 @@
+pub mod Flow
+pub mod FlowCode
+pub mod Here
+pub mod Ways

@@ -1,0 +1,4 @@
+pub mod LoopLaws
+pub mod LoopNodes
+pub mod LoopSteps
+pub mod UntilNodes

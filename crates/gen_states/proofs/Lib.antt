@@ -1,0 +1,2 @@
+pub mod SleepNodes
+pub mod StateNodes
