@@ -1,0 +1,36 @@
+-- A call that only reads goes on by what another answered.
+use Rattle.std.proofs.Common.{◌≡◌, ◌≤◌, ℕ, Option, inl, inr}
+use Rattle.pawn_outside.specs.Held.{Held}
+use Rattle.pawn_outside.specs.Rose.{Rose}
+use Rattle.pawn_outside.specs.OnlyRead.{OnlyRead}
+use Rattle.pawn_words.specs.declared.stop.Stop.{Stop}
+use Rattle.pawn_words.specs.declared.stop.Stop.TheVariants.{NoFile, TooLarge, FileFault}
+use Rattle.pawn_files.specs.Unread.{IsStopOf}
+use Rattle.std.proofs.Common.{List}
+
+module _ {F : Type 0} {held : F → Option Held} {faults : F → ℕ} {never_fails : F → Type 0} {old new : F} where
+  pub only_read : {First Fails : Type 0} → held new ≡ held old → faults old ≤ faults new → (First → Rose (faults old) (faults new))
+      → (never_fails old → never_fails new × (First → ⊥)) → (Fails → First) → OnlyRead held faults never_fails old new Fails
+  only_read same later cause unfailing f = record {
+    same = same;
+    later = later;
+    cause = λ fails. cause (f fails);
+    unfailing = λ never. ((unfailing never).0, λ fails. (unfailing never).1 (f fails));
+  }
+
+  pub only_as : {First Fails : Type 0} → (Fails → First) → OnlyRead held faults never_fails old new First
+      → OnlyRead held faults never_fails old new Fails
+  only_as f it = only_read it.same it.later it.cause it.unfailing f
+
+  -- another answer, which is no fault
+  pub only_other : {First Fails : Type 0} → (Fails → ⊥) → OnlyRead held faults never_fails old new First
+      → OnlyRead held faults never_fails old new Fails
+  only_other never it = only_as (λ fails. absurd (never fails)) it
+
+pub missing_no_fault : (name : List ℕ) (stop : Stop) → IsStopOf (NoFile name) stop → stop ≡ FileFault → ⊥
+missing_no_fault name stop (inl e) f = absurd (cc (e, f))
+missing_no_fault name stop (inr e) f = absurd (cc (e, f))
+
+pub too_large_no_fault : (name : List ℕ) (stop : Stop) → IsStopOf (TooLarge name) stop → stop ≡ FileFault → ⊥
+too_large_no_fault name stop (inl e) f = absurd (cc (e, f))
+too_large_no_fault name stop (inr e) f = absurd (cc (e, f))
