@@ -21,16 +21,22 @@ use Rattle.gen_flow.specs.Flow.{Begins}
 pub total_locals : (k j : ℕ) (slots : List Slot) (made : List ℕ) → total (locals_of k slots made) ≡ total (locals_of j slots made)
 total_locals k j slots [] = refl
 total_locals k j slots (s ∷ made) =
-    omega (arith, total_locals k j slots made,
-    total-append (locals_of k slots made) (Thing (Local k s) (own_sizes (slice_get slots s)) ∷ []),
-    total-append (locals_of j slots made) (Thing (Local j s) (own_sizes (slice_get slots s)) ∷ []))
+    omega (
+      arith,
+      total_locals k j slots made,
+      total-append (locals_of k slots made) (Thing (Local k s) (own_sizes (slice_get slots s)) ∷ []),
+      total-append (locals_of j slots made) (Thing (Local j s) (own_sizes (slice_get slots s)) ∷ []),
+    )
 
 pub count_more : (slots : List Slot) (made more : List ℕ) → made_cells slots (made ++ more) ≡ made_cells slots made + made_cells slots more
 count_more slots [] more = omega arith
 count_more slots (s ∷ made) more =
-    omega (arith, count_more slots made more,
-    total-append (locals_of 0 slots (made ++ more)) (Thing (Local 0 s) (own_sizes (slice_get slots s)) ∷ []),
-    total-append (locals_of 0 slots made) (Thing (Local 0 s) (own_sizes (slice_get slots s)) ∷ []))
+    omega (
+      arith,
+      count_more slots made more,
+      total-append (locals_of 0 slots (made ++ more)) (Thing (Local 0 s) (own_sizes (slice_get slots s)) ∷ []),
+      total-append (locals_of 0 slots made) (Thing (Local 0 s) (own_sizes (slice_get slots s)) ∷ []),
+    )
 
 newest : (k : ℕ) (slots : List Slot) (made : List ℕ) (s : ℕ)
     → locals_of k slots (made ++ s ∷ []) ≡ Thing (Local k s) (own_sizes (slice_get slots s)) ∷ locals_of k slots made
@@ -62,8 +68,12 @@ module _ (x : Site) (slots : List Slot) where
   pub upon_used : (made : List ℕ) (v base : View) → Upon x slots made v base
       → used x.program x.room v [] ≡ used x.program x.room base [] + made_cells slots made
   upon_used made v base u =
-      omega (arith, ap (λ z. used x.program x.room z []) u.is, total-append (locals_of (innermost base) slots made) base.high,
-      total_locals (innermost base) 0 slots made)
+      omega (
+        arith,
+        ap (λ z. used x.program x.room z []) u.is,
+        total-append (locals_of (innermost base) slots made) base.high,
+        total_locals (innermost base) 0 slots made,
+      )
 
   pub upon_needs : (made : List ℕ) (v base : View) → Upon x slots made v base → sum v.needs ≡ sum base.needs
   upon_needs made v base u = ap (λ (z : View). sum z.needs) u.is

@@ -225,7 +225,7 @@ module _ (ts : List Token) {P : List Mark → ℕ → Type 0} (grows : Grows P) 
     param_rises place {i = i} (plain_param {j = j} {tags = tags} {dims = dims} {value = value} t c ds v) before r =
         let a = reference_on ts i in let b = tags_go t in
         spans.parameter place (sees_key ts key.Const i) (sees ts sign.Ampersand (behind_key ts key.Const i)) tags (name_at ts j) dims value before
-          (led_orders grows whole_orders v _ (dims_rise ds _ (on (tags_rise grows tags r) (omega arith))))
+        (led_orders grows whole_orders v _ (dims_rise ds _ (on (tags_rise grows tags r) (omega arith))))
     param_rises place (rest_param {tags = tags} same t c c2) before r = let a = tags_go t in on (tags_rise grows tags r) (omega arith)
 
     head_name_goes : {i j : ℕ} {x : HeadName} → IsHeadName ts x i j → i ≤ j
