@@ -34,6 +34,7 @@ pub record Used : Type 0 where
   pub objects : List code.StaticObject
   pub warned : List At
 
+-- a value as it is used by this code
 abbrev pub used : Typed → code.Expr → Used
 used x e = record { expr = e; tag = x.tag; at = x.at; objects = x.literals; warned = x.warned }
 
@@ -47,9 +48,11 @@ pub record Maybe : Type 0 where
   pub objects : List code.StaticObject
   pub warned : List At
 
+-- no value
 abbrev pub absent : Maybe
 absent = record { expr = Absent; objects = []; warned = [] }
 
+-- a value
 abbrev pub present : Used → Maybe
 present x = record { expr = Present x.expr; objects = x.objects; warned = x.warned }
 
@@ -71,6 +74,7 @@ pub record Cased : Type 0 where
   pub cases : code.Cases
   pub ranges : List (ℤ × ℤ)
 
+-- no case
 abbrev pub no_cased : Cased
 no_cased = record { stood = nothing_stood; cases = code.no_cases; ranges = [] }
 
@@ -87,20 +91,25 @@ case_before x s more = record {
   ranges = x.ranges ++ more.ranges;
 }
 
+-- an expression whose value isn't used
 abbrev pub do_rule : Used → Stood
 do_rule x = stood (code.Do x.expr ∷ []) x.objects x.warned
 
+-- a block of statements
 abbrev pub block_rule : Stood → Stood
 block_rule x = as_stmt (code.Block (stmts_in x.stmts)) x
 
+-- an `if` with its parts
 abbrev pub if_rule : Used → Stood → Other → Stood
 if_rule c s other =
     as_stmt (code.If c.expr (one_of s) other.other)
     (value_before c.objects c.warned (stood_behind s other.stood))
 
+-- a `while` with its parts
 abbrev pub while_rule : Used → Stood → Stood
 while_rule c s = as_stmt (code.While c.expr (one_of s)) (value_before c.objects c.warned s)
 
+-- a `do` with its parts
 abbrev pub do_while_rule : Stood → Used → Stood
 do_while_rule s c =
     as_stmt (code.DoWhile (one_of s) c.expr) (stood_behind s (stood [] c.objects c.warned))
@@ -111,6 +120,7 @@ for_rule first c step s =
     as_stmt (code.For (stmts_in first.stmts) c.expr step.expr (one_of s))
     (stood_behind first (value_before (c.objects ++ step.objects) (c.warned ++ step.warned) s))
 
+-- a `switch` with its parts
 abbrev pub switch_rule : Used → Cased → Other → Stood
 switch_rule e cased other =
     as_stmt (code.Switch e.expr cased.cases other.other)
@@ -122,9 +132,11 @@ return_rule at gives e objects warned =
     record (stood (code.Return e ∷ []) objects warned)
     { returns = record { at = at; gives = gives } ∷ [] }
 
+-- a `return` of a value that is sent to the function's result
 abbrev pub return_sent : At → Used → Sent → Stood
 return_sent at x it = return_rule at true it.code x.objects (it.warned ++ x.warned)
 
+-- a `state` that reaches a state of an automaton, under a condition
 abbrev pub state_rule : Reached → Maybe → Stood
 state_rule it c = stood (code.State it.automaton it.state c.expr ∷ []) c.objects c.warned
 
@@ -141,6 +153,7 @@ module _ (cx : Around) (automata : List Automaton) (result : ℕ) where
   abbrev pub part : Point → Expr → Verdict Typed
   part point e = expr cx point.scope point.objects e
 
+  -- a part that may be absent
   abbrev pub maybe_part : Point → Option Expr → Verdict (Option Typed)
   maybe_part point None = Stands None
   maybe_part point (Some e) = after (part point e) (λ x. Stands (Some x))
@@ -149,10 +162,12 @@ module _ (cx : Around) (automata : List Automaton) (result : ℕ) where
   abbrev pub use_at : At → Typed → Verdict Used
   use_at at x = after (cell at x) (λ c. Stands (used x c))
 
+  -- one cell, where there is a part
   abbrev pub maybe_use : At → Option Typed → Verdict Maybe
   maybe_use at None = Stands absent
   maybe_use at (Some x) = after (use_at at x) (λ it. Stands (present it))
 
+  -- a part that gives one cell
   abbrev pub value : Point → At → Expr → Verdict Used
   value point at e = after (part point e) (use_at at)
 
@@ -161,6 +176,7 @@ module _ (cx : Around) (automata : List Automaton) (result : ℕ) where
   value_or_zero point at None = Stands (zero_used at)
   value_or_zero point at (Some e) = value point at e
 
+  -- a value that may be absent
   abbrev pub perhaps : Point → At → Option Expr → Verdict Maybe
   perhaps point at None = Stands absent
   perhaps point at (Some e) = after (value point at e) (λ x. Stands (present x))
@@ -172,6 +188,7 @@ module _ (cx : Around) (automata : List Automaton) (result : ℕ) where
       after (value point at e)
       (λ x. Stands (return_sent at x (sent cx (result ∷ []) x.tag x.at x.expr)))
 
+  -- what a `for` does first
   abbrev pub first_done : Point → At → First → Verdict Stood
   first_done point at tree.Nothing = Stands nothing_stood
   first_done point at (tree.New vars) = locals cx point at storage.New false vars
@@ -183,6 +200,7 @@ module _ (cx : Around) (automata : List Automaton) (result : ℕ) where
   first_part point at (tree.New vars) = vars_parts cx point at storage.New false vars
   first_part point at (tree.Value e) = after (part point e) (λ x. Stands judged)
 
+  -- a `for` by its parts, whose values are one cell each
   abbrev pub for_by : At → Stood → Option Typed → Option Typed → Stood → Verdict Stood
   for_by at first c step s =
       both (maybe_use at c) (maybe_use at step) (λ c step. Stands (for_rule first c step s))
@@ -202,6 +220,7 @@ module _ (cx : Around) (automata : List Automaton) (result : ℕ) where
       both (labels cx at tag x.ends) (cased at tag more)
       (λ values rest. Stands (case_before values x.stood rest))
 
+  -- a `switch` by its parts, whose ranges don't touch
   abbrev pub switch_by : At → Typed → List CasePart → Other → Verdict Stood
   switch_by at x parts other =
       both (use_at at x) (cased at x.tag parts) (λ e it.
@@ -211,6 +230,7 @@ module _ (cx : Around) (automata : List Automaton) (result : ℕ) where
   abbrev pub past : Point → Expr → Point
   past point e = beyond point (literals e) 0
 
+  -- behind an expression that may be absent
   abbrev pub past_maybe : Point → Option Expr → Point
   past_maybe point e = beyond point (literals_of e) 0
 
@@ -271,6 +291,7 @@ module _ (cx : Around) (automata : List Automaton) (result : ℕ) where
         both (stmt point in_loop s) (block (behind cx point s) in_loop ss)
         (λ x more. Stands (stood_behind x more))
 
+    -- what stands behind `else` and `default`, or nothing
     pub otherwise : Point → Bool → MaybeStmt → Verdict Other
     otherwise point in_loop no_stmt =
         Stands (record { stood = nothing_stood; other = code.no_else })
@@ -286,6 +307,7 @@ module _ (cx : Around) (automata : List Automaton) (result : ℕ) where
         (cases (beyond point (objects_in_case x) (slots_in_case x)) in_loop xs)
         (λ it more. Stands (it ∷ more))
 
+    -- a case, with the ends of its ranges
     pub one_case : Point → Bool → Case → Verdict CasePart
     one_case point in_loop (Values case_at ranges s) =
         both (each (ends cx point.scope) ranges) (stmt point in_loop s)

@@ -22,11 +22,13 @@ use Rattle.pawn_heads.specs.ParamDefaults.{default_rule}
 -- what a list of parameters is: the parameters, their slots, the tags of `...`, and what they warn
 -- of
 pub record Headed : Type 0 where
+  -- parameters, of which the first has a number
   pub params : List Param
   pub slots : List Slot
   pub rest : Option (List ℕ)
   pub warned : List At
 
+-- no parameter
 abbrev pub no_params : Headed
 no_params = record { params = []; slots = []; rest = None; warned = [] }
 
@@ -50,25 +52,30 @@ reach_by at it (Some first) =
     after (within at (first ∷ it.inner)) (λ sizes.
     Stands (record { extent = record { first = Some first; inner = it.inner }; warned = it.warned }))
 
+-- how far an array of these dimensions reaches
 abbrev pub reach : Around → Scope → At → Dim → List Dim → Verdict Reach
 reach cx scope at dim dims = after (dimensions cx scope at dim dims) (λ it. reach_by at it it.first)
 
+-- the slot of an array, whose first size may be open
 abbrev pub array_slot : Extent → Option ℕ → Slot
 array_slot extent None = OpenSlot extent.inner
 array_slot extent (Some first) = ArraySlot (first ∷ extent.inner)
 
 -- ---- what a parameter means to those behind it, and to the body
 
+-- what an array as a parameter with a number means
 abbrev pub array_param_means : ℕ → ℕ → Bool → Verdict Reach → Meaning
 array_param_means i tag constant (Stands it) =
     means.Array (ParamArray i (is_some it.extent.first)) it.extent tag constant
 array_param_means i tag constant (Breaks found) = Unknown
 
+-- what a parameter of one cell with a number means
 abbrev pub cell_param_means : ℕ → ℕ → Bool → Bool → Meaning
 cell_param_means i tag constant true = Variable (Through i) tag constant
 cell_param_means i tag constant false = Variable (Own i) tag constant
 
 module _ (cx : Around) (at : At) where
+  -- what a parameter with a number means, by its dimensions
   abbrev pub param_by : Scope → ℕ → Bool → Bool → ℕ → List Dim → Meaning
   param_by scope i constant reference tag [] = cell_param_means i tag constant reference
   param_by scope i constant reference tag (dim ∷ dims) =
@@ -92,6 +99,7 @@ module _ (cx : Around) (at : At) where
 
   -- ---- what a parameter is
 
+  -- a list of one parameter
   abbrev pub one_param : n.Name → Bool → Bool → List ℕ → Option Extent → Default → Slot → List At
       → Headed
   one_param name constant reference tags extent default slot warned = record {
@@ -108,6 +116,7 @@ module _ (cx : Around) (at : At) where
     warned = warned;
   }
 
+  -- the slot of a parameter of one cell, by whether it is a reference
   abbrev pub cell_slot : Bool → Slot
   cell_slot true = ReferenceSlot
   cell_slot false = ScalarSlot
@@ -117,10 +126,12 @@ module _ (cx : Around) (at : At) where
   no_default None = Stands NoDefault
   no_default (Some e) = broken CONSTANT_NEEDED at
 
+  -- that it is none
   abbrev pub no_reference : Bool → Verdict Bool
   no_reference true = broken ARGUMENT_KIND at
   no_reference false = Stands false
 
+  -- a parameter by its dimensions: one cell, or an array
   abbrev pub param_of : Scope → n.Name → Bool → Bool → List ℕ → List Dim → Option Expr
       → Verdict Headed
   param_of scope name constant reference tags [] value =
@@ -133,6 +144,7 @@ module _ (cx : Around) (at : At) where
       Stands (one_param name constant false tags (Some it.extent) NoDefault
       (array_slot it.extent it.extent.first) it.warned))))
 
+  -- a parameter, or the tags of `...`
   abbrev pub param_rule : Scope → tree.Param → Verdict Headed
   param_rule scope (tree.Plain constant reference tags name dims value) =
       also (fresh_name scope at name.bytes)
@@ -142,10 +154,12 @@ module _ (cx : Around) (at : At) where
 
   -- ---- all parameters
 
+  -- the tags of `...`, of which there is one at most
   abbrev pub either : Option (List ℕ) → Option (List ℕ) → Option (List ℕ)
   either None rest = rest
   either (Some tags) rest = Some tags
 
+  -- parameters behind others
   abbrev pub headed_behind : Headed → Headed → Headed
   headed_behind x y = record {
     params = x.params ++ y.params;
@@ -167,12 +181,14 @@ module _ (cx : Around) (at : At) where
       with_part (all_parts (dim_part cx scope) dims) (maybe_judged (expr_part cx scope) value)
   param_part scope (tree.Rest rest_at tags) = Stands judged
 
+  -- the expressions in all parameters
   unfoldable pub params_parts : Scope → ℕ → List tree.Param → Verdict Judged
   params_parts scope i [] = Stands judged
   params_parts scope i (param ∷ more) =
       with_part (param_part scope param)
       (params_parts (with_entries scope (param_entries scope i param)) (i + 1) more)
 
+  -- the expressions in a head
   abbrev pub head_parts : Scope → tree.Head → Verdict Judged
   head_parts scope head = params_parts ([] ∷ scope) 0 head.params
 

@@ -25,12 +25,14 @@ use Rattle.pawn_typed.specs.Sources.{Source, Stated, stated_tag}
 abbrev pub fault : ℕ → At → Fault
 fault kind at = record { kind = kind; place = at.place }
 
+-- a broken rule, where a test says so
 abbrev pub fault_if : Bool → ℕ → At → List Fault
 fault_if false kind at = []
 fault_if true kind at = fault kind at ∷ []
 
 -- ---- classifiers
 
+-- whether a body has a classifier
 abbrev pub has_classifier : Written → Bool
 has_classifier it = is_some it.function.states
 
@@ -40,6 +42,7 @@ bare_faults group before it =
     fault_if (list_any has_classifier group.bodies || is_enters group.key) MIXED_AUTOMATA it.at
     ++ fault_if (list_any (λ other. not (has_classifier other)) before) REDEFINED it.at
 
+-- a body's faults by its classifier
 abbrev pub states_faults : Group → List Written → Written → Option (List StateName) → List Fault
 states_faults group before it None = bare_faults group before it
 states_faults group before it (Some states) = fault_if (is_mixed states) MIXED_AUTOMATA it.at
@@ -58,13 +61,16 @@ clause_of it = clause_in it.function.states
     clause_in None = None
     clause_in (Some states) = Some (clause states)
 
+-- all clauses of a function, in order
 abbrev pub clauses : Group → List Clause
 clauses group = filter_map clause_of group.bodies
 
+-- a broken rule at a body
 abbrev pub at_body : ℕ → Option Written → List Fault
 at_body kind None = []
 at_body kind (Some it) = fault kind it.at ∷ []
 
+-- the first fault of clauses, at the body that it names
 abbrev pub clause_faults : List Written → Option StateFault → List Fault
 clause_faults bodies None = []
 clause_faults bodies (Some (Twice i)) = at_body STATE_TWICE (slice_get bodies i)
@@ -80,20 +86,24 @@ has_mixed group = list_any (λ (it : Written). mixes_in it.function.states) grou
     mixes_in None = false
     mixes_in (Some states) = is_mixed states
 
+-- the faults among the clauses of a function
 abbrev pub clauses_faults : Group → List Fault
 clauses_faults group =
     if has_mixed group then []
     else clause_faults (filter has_classifier group.bodies) (first_fault [] (clauses group))
 
+-- all faults of a function's classifiers
 abbrev pub classifier_faults : Group → List Fault
 classifier_faults group = bodies_faults group [] group.bodies ++ clauses_faults group
 
 -- ---- heads
 
+-- whether there are parameters
 abbrev pub has_params : List tree.Param → Bool
 has_params [] = false
 has_params (param ∷ more) = true
 
+-- the name of the main function
 abbrev pub main_name : List ℕ
 main_name = codes "main"
 
@@ -104,9 +114,11 @@ has_no_params (key.Operates it) = false
 has_no_params (key.Enters name) = true
 has_no_params key.Misshapen = false
 
+-- whether a body has parameters that it must not have
 abbrev pub breaks_params : Group → Written → Bool
 breaks_params group it = has_no_params group.key && has_params it.function.head.params
 
+-- the bodies with parameters that they must not have
 abbrev pub param_faults : Group → List Fault
 param_faults group =
     flat_map (λ (it : Written). fault_if (breaks_params group it) HEAD_DIFFERS it.at)
@@ -120,6 +132,7 @@ module _ (source : Source) where
   differs x (Some head) y (Some other) =
       not (same_head (stated_tag source x) head (stated_tag source y) other)
 
+  -- a head that differs from the first one
   abbrev pub differing : Stated → Stated → List Fault
   differing first it = fault_if (differs first first.head it it.head) HEAD_DIFFERS it.heading.at
 
@@ -134,6 +147,7 @@ module _ (source : Source) where
   heads_of_group all group =
       filter (λ (it : Stated). belongs source.tags source.fallback group.key it.heading) all
 
+  -- all faults of a function's bodies together
   abbrev pub group_faults : List Stated → Group → List Fault
   group_faults all group =
       classifier_faults group ++ (param_faults group ++ head_faults (heads_of_group all group))

@@ -24,6 +24,7 @@ use Rattle.pawn_automata.specs.Automata.{automata}
 use Rattle.pawn_typed.specs.Headings.{Heading, Role, IsNative, IsForward, IsBody, headings, belongs}
 use Rattle.pawn_typed.specs.Paths.{heads}
 
+-- what is known of a source apart from its heads
 pub record Source : Type 0 where
   pub tags : List (List ℕ)
   -- the automaton of an entry function's fallback
@@ -39,6 +40,7 @@ pub record Stated : Type 0 where
   pub heading : Heading
   pub head : Option Head
 
+-- what is known of a tree
 abbrev pub source_of : Tree → Source
 source_of tree =
     let names : List (List ℕ) = tags_of (tree_marks tree) in
@@ -54,16 +56,19 @@ source_of tree =
 
 -- ---- natives
 
+-- whether a heading is a native's
 abbrev pub is_native : Role → Bool
 is_native IsNative = true
 is_native IsForward = false
 is_native IsBody = false
 
+-- the bytes of a name; an operator has none
 abbrev pub name_of : HeadName → List ℕ
 name_of (called.Name name) = name.bytes
 name_of (called.Operator at sign) = []
 
 module _ (source : Source) where
+  -- whether some body calls a name
   abbrev pub is_called : Heading → Bool
   is_called it = is_among (name_of it.head.name) source.called
 
@@ -73,6 +78,7 @@ module _ (source : Source) where
 
   -- ---- what can be called
 
+  -- headings, each with its head, where there is one
   abbrev pub stated : List Heading → List (Option Head) → List Stated
   stated [] heads = []
   stated (it ∷ more) [] = record { heading = it; head = None } ∷ stated more []
@@ -83,12 +89,15 @@ module _ (source : Source) where
   first_head all key =
       find (λ (it : Stated). belongs source.tags source.fallback key it.heading) all
 
+  -- the tag of what it gives
   abbrev pub stated_tag : Stated → ℕ
   stated_tag it = tag_of_head it.heading.head
 
+  -- the tag of what a function gives, by its first head
   abbrev pub group_tag : List Stated → Group → ℕ
   group_tag all group = unwrap_or (option_map stated_tag (first_head all group.key)) untagged
 
+  -- the head of a function that its calls see
   abbrev pub group_head : List Stated → Group → Option Head
   group_head all group = option_and_then (λ (it : Stated). it.head) (first_head all group.key)
 
@@ -106,17 +115,20 @@ module _ (source : Source) where
       record { number = number; tag = stated_tag it; head = it.head }
       ∷ natives_from (if is_called it.heading then suc number else number) more
 
+  -- the natives among headings
   abbrev pub natives_in : List Stated → List Stated
   natives_in all = filter (λ (it : Stated). is_native it.heading.role) all
 
   -- ---- user operators
 
+  -- a function with a number as a user operator, where it is one
   abbrev pub operator_of : ℕ → Key → Overloads
   operator_of number (Operates it) = (it, number) ∷ []
   operator_of number (Named name) = []
   operator_of number (Enters name) = []
   operator_of number Misshapen = []
 
+  -- user operators among functions, numbered from a first one on
   unfoldable pub operators_from : ℕ → List Group → Overloads
   operators_from number [] = []
   operators_from number (group ∷ more) =
@@ -124,6 +136,7 @@ module _ (source : Source) where
 
   -- ---- all of it
 
+  -- what is known around each expression, with these heads
   abbrev pub around_with : List Stated → Around
   around_with all = record {
     tags = source.tags;
@@ -138,21 +151,25 @@ module _ (source : Source) where
 
   -- ---- the names that are known everywhere
 
+  -- a name with what it means
   abbrev pub entry_for : List ℕ → Meaning → List Entry
   entry_for name means = record { name = name; means = means } ∷ []
 
+  -- the name of a function; an operator has none
   abbrev pub function_entry : ℕ → ℕ → Key → List Entry
   function_entry number tag (Named name) = entry_for name (Function number tag)
   function_entry number tag (Operates it) = []
   function_entry number tag (Enters name) = entry_for entry_name (Entering tag)
   function_entry number tag Misshapen = []
 
+  -- the names of functions, numbered from a first one on
   unfoldable pub function_entries : ℕ → List Stated → List Group → List Entry
   function_entries number all [] = []
   function_entries number all (group ∷ more) =
       function_entry number (group_tag all group) group.key
       ++ function_entries (number + 1) all more
 
+  -- the names of natives, numbered from a first one on
   unfoldable pub native_entries : ℕ → List Stated → List Entry
   native_entries number [] = []
   native_entries number (it ∷ more) =
@@ -165,6 +182,7 @@ module _ (source : Source) where
   forward_entry it IsForward = entry_for (name_of it.head.name) Taken
   forward_entry it IsBody = []
 
+  -- the names that forwards take
   abbrev pub forward_entries : List Entry
   forward_entries = flat_map (λ (it : Heading). forward_entry it it.role) source.headings
 
@@ -184,5 +202,6 @@ module _ (source : Source) where
   abbrev pub all_stated : Tree → List Stated
   all_stated tree = stated source.headings (heads without_heads beginning tree)
 
+  -- what is known around each expression of a tree
   abbrev pub around_of : Tree → Around
   around_of tree = around_with (all_stated tree)
