@@ -62,7 +62,8 @@ impl<'v> Core<'v> {
         self.block.copy(from, to, count);
     }
 
-    /// PRI = how so many bytes at an address stand to those at another: 0 where they are equal, else
+    /// PRI = how so many bytes at an address stand to those at another: 0 where they are equal,
+    /// else
     /// -1 or 1.
     pub fn compare(&mut self, at: u32, to: u32, count: u32, next: u32) -> Turn
         ensures { IsTurn (access.compare self.old.state at to count

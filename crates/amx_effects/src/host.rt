@@ -88,8 +88,8 @@ impl<'v> Core<'v> {
         self.pri = value;
     }
 
-    /// How many arguments lie above their count of bytes at STK; none where one of them or the count
-    /// isn't live, or the count is no multiple of 4.
+    /// How many arguments lie above their count of bytes at STK; none where one of them or the
+    /// count isn't live, or the count is no multiple of 4.
     pub fn native_args(&self) -> Option<u32>
         ensures value { result ≡ option_map length (moves.arguments self.now.state) }
         ensures order { AreInOrder self.now.amx self.now.state }

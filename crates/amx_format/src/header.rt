@@ -142,7 +142,8 @@ impl Header {
 
     /// Whether compact cells end behind their begin.
     fn has_row(&self) -> bool
-        ensures { IsTrue result ↔ (is_compact self.now.flags ≡ true → self.now.cod ≤ self.now.size) }
+        ensures { IsTrue result ↔ (is_compact self.now.flags ≡ true →
+            self.now.cod ≤ self.now.size) }
     {
         !self.is_compact() || self.cod <= self.size
     }

@@ -134,8 +134,8 @@ fn read_file(alloc: Global, bytes: &[u8]) -> Result<Amx, FormatFault>
     })
 }
 
-/// The Amx of a file (Implementer's Guide, "File format"). A refusal is the first fault of the bytes.
-/// `Memory` also comes where the names of one table take more than 64 MiB together.
+/// The Amx of a file (Implementer's Guide, "File format"). A refusal is the first fault of the
+/// bytes. `Memory` also comes where the names of one table take more than 64 MiB together.
 #[tactic(auto, using(crate::proofs::Determines::one_answer))]
 pub fn read(alloc: Global, bytes: &[u8]) -> Result<Amx, FormatFault>
     ensures answer { Answers bytes.now result }

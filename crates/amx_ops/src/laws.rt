@@ -10,7 +10,8 @@ pub fn trace_is_one_iteration()
     ensures { TraceIsOneIteration }
 {}
 
-/// What every state keeps is kept: by a load, a start, a step, a native's answer, and so by a trace.
+/// What every state keeps is kept: by a load, a start, a step, a native's answer, and so by a
+/// trace.
 #[tactic(auto, using(crate::proofs::KeepsLaws::keeps_states))]
 pub fn states_stay_states()
     ensures { KeepsStates }

@@ -1,5 +1,6 @@
 /// The operation of an instruction (Implementer's Guide, "Instruction reference"), in the order of
-/// [`TABLE`](super::TABLE). v is the operand, `[a]` the cell at an address; a push and a pop move STK.
+/// [`TABLE`](super::TABLE). v is the operand, `[a]` the cell at an address; a push and a pop move
+/// STK.
 #[derive(Clone, Copy, PartialEq, Eq)]
 pub enum Op {
     /// PRI = [v]

@@ -216,7 +216,8 @@ fn row_in(rows: &[Row], cell: i32) -> Option<&Row>
 /// numbers, which have three gaps.
 fn place_of(number: u32) -> usize
     ensures within { result < length spec.table }
-    ensures place { (k : ℕ) (row : spec.Row) → slice_get spec.table k ≡ Some row → row.number ≡ number → result ≡ k }
+    ensures place { (k : ℕ) (row : spec.Row) → slice_get spec.table k ≡ Some row →
+        row.number ≡ number → result ≡ k }
 {
     match number {
         0..=37 => number.saturating_sub(1) as usize,

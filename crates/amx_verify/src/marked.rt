@@ -59,7 +59,8 @@ impl Marked {
         ensures within { IsTrue result → (at % 4 ≡ 0) × (at / 4 < length self.now.code) }
 
         // It is the one that the cells from there on begin with.
-        ensures here { IsTrue result → fetched self.now.code at ≡ front (drop (at / 4) self.now.code) }
+        ensures here { IsTrue result → fetched self.now.code at ≡
+            front (drop (at / 4) self.now.code) }
     {
         let place = (at / 4) as usize;
         if at % 4 != 0 {

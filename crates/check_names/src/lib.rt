@@ -1,5 +1,5 @@
-//! What names, numbers, `sizeof` and `tagof` are, and where tags are tested: what every rule of expressions
-//! needs.
+//! What names, numbers, `sizeof` and `tagof` are, and where tags are tested: what every rule of
+//! expressions needs.
 #![tactic(auto)]
 
 mod cells;

@@ -132,7 +132,8 @@ pub fn tagof_name(alloc: Global, at: At, means: Option<Meaning>) -> Result<Typed
 /// `tagof` of a tag.
 pub fn tagof_tag(alloc: Global, cx: &Context, at: At, name: &[u8]) -> Typed
     ensures { typed_view result ≡
-        spec.constant_value at (cell_of (around.tag_number (around_view cx.now) name.now)) untagged }
+        spec.constant_value at (cell_of (around.tag_number (around_view cx.now) name.now))
+        untagged }
 {
     make_constant(alloc, at, tag_number(cx, name).cast_signed(), UNTAGGED)
 }

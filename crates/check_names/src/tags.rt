@@ -48,7 +48,8 @@ pub fn first_tag(tags: &[u32]) -> u32
 
 /// Whether one of two tags takes the other, as those of operands and choices have to.
 pub fn takes_either(cx: &Context, left: u32, right: u32) -> bool
-    ensures { result ≡ (is_match cx.now.tags (left ∷ []) right || is_match cx.now.tags (right ∷ []) left) }
+    ensures { result ≡ (is_match cx.now.tags (left ∷ []) right ||
+        is_match cx.now.tags (right ∷ []) left) }
 {
     matches(&cx.tags, &[left], right) || matches(&cx.tags, &[right], left)
 }

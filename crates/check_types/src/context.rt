@@ -14,8 +14,8 @@ pub enum ParamDefault {
     TagOf(u32),
 }
 
-/// A parameter: its name, whether it is constant and a reference, its tags, how far its array reaches
-/// where it is one, and its default.
+/// A parameter: its name, whether it is constant and a reference, its tags, how far its array
+/// reaches where it is one, and its default.
 #[derive(Drop)]
 pub struct Param {
     pub name: Bytes,
@@ -33,7 +33,8 @@ pub struct Head {
     pub rest: Option<List<u32>>,
 }
 
-/// What can be called: its number, the tag of its result, and its head, unless that isn't known yet.
+/// What can be called: its number, the tag of its result, and its head, unless that isn't known
+/// yet.
 #[derive(Drop)]
 pub struct Callable {
     pub number: u32,
@@ -41,8 +42,8 @@ pub struct Callable {
     pub head: Option<Head>,
 }
 
-/// What is known of the whole source: the names of tags, the user operators, the functions by number,
-/// and the natives in order of declaration.
+/// What is known of the whole source: the names of tags, the user operators, the functions by
+/// number, and the natives in order of declaration.
 #[derive(Drop)]
 pub struct Context {
     pub tags: TagTable,

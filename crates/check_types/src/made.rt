@@ -7,7 +7,8 @@ use pawn_program::Object;
 use pawn_tree::At;
 use std::alloc::Global;
 
-/// The literals in a part of the source, and the values whose tags don't match, both in token order.
+/// The literals in a part of the source, and the values whose tags don't match, both in token
+/// order.
 #[derive(Drop)]
 pub struct Made {
     pub literals: List<Object>,
@@ -43,7 +44,8 @@ impl Made {
     /// With a warning behind these where a test failed.
     pub fn then_tested(self, passed: bool, at: At) -> Result<Made, Memory>
         ensures literals { IfOk result (λ both. both.literals ≡ self.literals) }
-        ensures warned { IfOk result (λ both. both.warned ≡ self.warned ++ unless_passed passed at) }
+        ensures warned { IfOk result (λ both. both.warned ≡
+            self.warned ++ unless_passed passed at) }
     {
         let Made {
             literals,
@@ -58,7 +60,8 @@ impl Made {
     /// With a warning before these where a test failed.
     pub fn tested_first(self, alloc: Global, passed: bool, at: At) -> Result<Made, Memory>
         ensures literals { IfOk result (λ both. both.literals ≡ self.literals) }
-        ensures warned { IfOk result (λ both. both.warned ≡ unless_passed passed at ++ self.warned) }
+        ensures warned { IfOk result (λ both. both.warned ≡
+            unless_passed passed at ++ self.warned) }
     {
         let Made {
             literals,

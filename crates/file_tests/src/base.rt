@@ -42,8 +42,8 @@ pub fn two_natives() -> &'static [u8] {
     &TWO_NATIVES
 }
 
-/// A file with records in each table, a case table in its code, and nine cells of data. The library's
-/// name is empty, and a zero byte stands before the code.
+/// A file with records in each table, a case table in its code, and nine cells of data. The
+/// library's name is empty, and a zero byte stands before the code.
 const EVERY_TABLE: [u8; 192] = [
     192, 0, 0, 0, 0xE0, 0xF1, 8, 1, 0x79, 0x80, 8, 0, // size to record size, with other flags
     128, 0, 0, 0, 156, 0, 0, 0, 192, 0, 0, 0, 208, 0, 0, 0, 255, 255, 255, 255, // cod to stp, cip

@@ -17,10 +17,12 @@ const HEADERS: [Row; 33] = [
     (&[0, 81], 97),
     (&[0, 55], 97),
     (&[3, 0x80], 97),
-    // A size above the bytes isn't good where bytes may follow, nor is another hea in the plain form.
+    // A size above the bytes isn't good where bytes may follow, nor is another hea in the plain
+    // form.
     (&[0, 81, 8, 2], 97),
     (&[20, 84], 97),
-    // Tables that fall, have a part of a record, begin in the header, or leave no room for a number.
+    // Tables that fall, have a part of a record, begin in the header, or leave no room for a
+    // number.
     (&[52, 59], 94),
     (&[36, 64], 94),
     (&[36, 57], 94),
@@ -72,8 +74,8 @@ fn names() -> &'static [Row] {
     &NAMES
 }
 
-/// Changes of the file with compact cells: one cell more, an open one, five bytes that go on, a sixth,
-/// bytes behind the last cell, and code that begins behind the size.
+/// Changes of the file with compact cells: one cell more, an open one, five bytes that go on, a
+/// sixth, bytes behind the last cell, and code that begins behind the size.
 const CELLS: [Row; 7] = [
     (&[16, 84, 20, 84, 24, 0x54], 80),
     (&[66, 0xB0], 81),

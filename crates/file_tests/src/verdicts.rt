@@ -59,7 +59,8 @@ const CODES: [Code; 42] = [
     // A table's address that is no start, though no instruction names the table.
     (&[120, 0, 130, 0, 4], 103, 8),
     (&[120, 0, 130, 1, 0, 7, 4], 103, 8),
-    // A case table is named where it starts, and a cell of that number within an instruction is none.
+    // A case table is named where it starts, and a cell of that number within an instruction is
+    // none.
     (&[120, 0, 11, 130, 129, 12, 134], 103, 16),
     (&[120, 0, 129, 16, 130, 0, 0], 0, 0),
     // The first pass goes before the second, and each goes from address to address.

@@ -62,7 +62,8 @@ const TREES: [(&str, &str); 54] = [
     ("#pragma semicolon 1\nmain() { a; }", "tree 4 1"),
 ];
 
-/// Sources that a tree spells: of `sizeof` and `tagof`, of line ends, of bare calls, of tags and states.
+/// Sources that a tree spells: of `sizeof` and `tagof`, of line ends, of bare calls, of tags and
+/// states.
 const GOOD: [&str; 50] = [
     "main() tagof x",
     "main() tagof(x)",

@@ -1,5 +1,5 @@
-//! Array shapes: how many cells an array takes, and how an array of two or three dimensions stands in
-//! memory, as vectors of offsets with the rows behind them.
+//! Array shapes: how many cells an array takes, and how an array of two or three dimensions
+//! stands in memory, as vectors of offsets with the rows behind them.
 #![tactic(auto)]
 
 mod shape;

@@ -72,7 +72,8 @@ pub fn row(shape: &Shape, index: u32) -> u32
 
     // The parts fill what stands behind the vector: the last one ends where their level does.
     ensures last { index + 1 ≡ shape.now.first →
-        result + 4 * part_cells shape.now ≡ 4 * (shape.now.first + shape.now.first * part_cells shape.now) }
+        result + 4 * part_cells shape.now ≡
+        4 * (shape.now.first + shape.now.first * part_cells shape.now) }
 {
     CELL_BYTES * (shape.first + index * shape.second.unwrap())
 }

@@ -1,5 +1,5 @@
-//! Statements and the declarations of blocks as definitions. There is no code here; a law is the contract
-//! of a call that does nothing.
+//! Statements and the declarations of blocks as definitions. There is no code here; a law is the
+//! contract of a call that does nothing.
 #![tactic(auto)]
 
 mod laws;

@@ -14,10 +14,12 @@ use Rattle.pawn_condition.specs.declared.evaluate.Wait.TheVariants.{Mark, Pre, L
 use Rattle.pawn_condition.specs.Nested.{level, plain, grouped, before_value, choice, applied}
 use Rattle.pawn_condition.specs.Parts.{parts_from}
 
+-- what waits for operands, the innermost first, and the operand that is there
 pub record Held : Type 0 where
   pub waits : List Wait
   pub operand : Reading
 
+-- the two as one
 abbrev pub held : List Wait → Reading → Held
 held waits operand = record { waits = waits; operand = operand }
 
@@ -29,10 +31,12 @@ takes k (Left sign a) r = if nat_le (level sign) k then Some (applied sign a r) 
 takes k (Chooses c) r = None
 takes k (Second c a) r = if nat_le 13 k then Some (choice c a r) else None
 
+-- what goes on with an operand that was taken, else what stays
 abbrev pub settle_by : Option Reading → Held → (Reading → Held) → Held
 settle_by None rest go_on = rest
 settle_by (Some r) rest go_on = go_on r
 
+-- operators that bind as tightly as a level take the operand, one behind another
 unfoldable pub settle : ℕ → List Wait → Reading → Held
 settle k [] r = held [] r
 settle k (w ∷ ws) r = settle_by (takes k w r) (held (w ∷ ws) r) (λ r'. settle k ws r')
@@ -60,10 +64,12 @@ chosen_by (Left sign a ∷ ws) go_on = None
 chosen_by (Chooses c ∷ ws) go_on = go_on c ws
 chosen_by (Second c a ∷ ws) go_on = None
 
+-- whether an operator is `-`
 abbrev pub is_subtract : Operator → Bool
 is_subtract between.Subtract = true
 is_subtract _ = false
 
+-- whether a sign between operands is `-`, which may stand before one too
 abbrev pub is_minus : Infix → Bool
 is_minus (Cells op) = is_subtract op
 is_minus (Compare c) = false
@@ -110,9 +116,11 @@ abbrev pub value_by : Option Reading → Option ℤ
 value_by None = None
 value_by (Some r) = r.value
 
+-- the value that parts come to, if they are a condition and nothing divides by zero
 unfoldable pub value_of_parts : List Part → Option ℤ
 value_of_parts parts = value_by (operand parts [])
 
+-- the value of parts, if there are any
 abbrev pub value_if : Option (List Part) → Option ℤ
 value_if None = None
 value_if (Some parts) = value_of_parts parts

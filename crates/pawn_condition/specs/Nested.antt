@@ -14,6 +14,7 @@ use Rattle.pawn_condition.specs.declared.part.Part.TheVariants as part
 use Rattle.pawn_condition.specs.declared.reading.Reading.{Reading}
 use Rattle.pawn_condition.specs.Expression.{on_one, on_two, chosen}
 
+-- a condition as a tree of operators on one and on two operands
 pub data Nested : Type 0 where
   Number : ℤ → Nested
   Group : Nested → Nested
@@ -27,6 +28,7 @@ level (Cells op) = operators.level op
 level (Compare c) = 9
 level (Logic op) = logical_level op
 
+-- the part that an operator before an operand is
 abbrev pub prefix_part : Prefix → Part
 prefix_part before.Not = part.Not
 prefix_part before.Invert = part.Invert
@@ -54,12 +56,15 @@ Nests k (Choice c a b) = (13 ≤ k) × Nests 12 c × Nests 13 a × Nests 13 b
 abbrev pub plain : Option ℤ → Reading
 plain value = record { value = value; last = value; holds = true }
 
+-- an operand in parentheses: no comparison is open behind them
 abbrev pub grouped : Reading → Reading
 grouped r = plain r.value
 
+-- an operator before an operand, on its value
 abbrev pub before_value : Prefix → Reading → Reading
 before_value op r = plain (on_one (prefix op) r.value)
 
+-- the second operand or the third, by the first
 abbrev pub choice : Reading → Reading → Reading → Reading
 choice c a b = plain (chosen c.value a.value b.value)
 
@@ -73,6 +78,7 @@ holds_of c (Some x) (Some y) = compare c x y
 abbrev pub all_hold : Comparison → Reading → Reading → Bool
 all_hold c a b = a.holds && holds_of c a.last b.value
 
+-- a comparison: 1 where it and those before it hold, else 0; the next link takes up its right side
 abbrev pub compared : Comparison → Reading → Reading → Reading
 compared c a b = record {
   value = on_two (λ x y. Some (truth (all_hold c a b))) a.value b.value;
@@ -80,11 +86,13 @@ compared c a b = record {
   holds = all_hold c a b;
 }
 
+-- an operator between two operands, on their values
 unfoldable pub applied : Infix → Reading → Reading → Reading
 applied (Cells op) a b = plain (on_two (binary op) a.value b.value)
 applied (Compare c) a b = compared c a b
 applied (Logic op) a b = plain (on_two (λ x y. Some (logical op x y)) a.value b.value)
 
+-- what a tree comes to
 unfoldable pub reading : Nested → Reading
 reading (Number v) = plain (Some v)
 reading (Group e) = grouped (reading e)

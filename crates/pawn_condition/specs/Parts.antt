@@ -126,6 +126,7 @@ abbrev pub operator_or : Option Operator → Option Part → Option Part
 operator_or None other = other
 operator_or (Some op) other = Some (part.Two (Cells op))
 
+-- the part that a sign is, if it may stand in a condition
 abbrev pub sign_part : Sign → Option Part
 sign_part s = operator_or (operator_of s) (other_of s)
 
@@ -147,6 +148,7 @@ abbrev pub step_with : ℕ → List ℕ → Option Part → Option Step
 step_with n rest None = None
 step_with n rest (Some p) = Some (record { part = p; size = n - length rest })
 
+-- the part that a token is, and how many bytes it takes
 abbrev pub step_by : ℕ → Option Found → Option Step
 step_by n None = None
 step_by n (Some found) = step_with n found.1 (part_of found.0)
@@ -160,6 +162,7 @@ unfoldable pub with_parts : List Part → Option (List Part) → Option (List Pa
 with_parts front None = None
 with_parts front (Some parts) = Some (front ++ parts)
 
+-- a part, and those behind its bytes
 abbrev pub step_then : Option Step → (ℕ → Option (List Part)) → Option (List Part)
 step_then None go_on = None
 step_then (Some s) go_on = with_parts (s.part ∷ []) (go_on (s.size - 1))
@@ -172,6 +175,7 @@ parts_from control zero (b ∷ rest) =
     if is_in class.Blank b then parts_from control 0 rest
     else step_then (step_at control (b ∷ rest)) (λ left. parts_from control left rest)
 
+-- a part before others
 abbrev pub part_then : Option Part → Option (List Part) → Option (List Part)
 part_then None parts = None
 part_then (Some p) parts = with_parts (p ∷ []) parts

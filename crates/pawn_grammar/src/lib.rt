@@ -1,6 +1,6 @@
 //! The grammar of Pawn: which tree stands on which tokens, the parser as definitions, and the laws
-//! between them. There is no code here but the types that say what a token is; a law is the contract
-//! of a call that does nothing.
+//! between them. There is no code here but the types that say what a token is; a law is the
+//! contract of a call that does nothing.
 #![tactic(auto)]
 
 mod joint;

@@ -31,7 +31,8 @@ fn tagof_marks<'a>(at: At, x: &'a TagofOperand, out: &mut List<Mark<'a>>) -> Res
 /// The marks of an expression.
 #[cycle(expression)]
 pub fn expr_marks<'a>(x: &'a Expr, out: &mut List<Mark<'a>>) -> Result<(), Memory>
-    ensures { OnOk result (marks_view out.new ≡ spec.expr_marks (expr_view x.now) (marks_view out.old)) }
+    ensures { OnOk result (marks_view out.new ≡
+        spec.expr_marks (expr_view x.now) (marks_view out.old)) }
 {
     match x {
         Expr::Number(..) | Expr::Text(..) => Ok(()),
@@ -69,7 +70,8 @@ pub fn expr_marks<'a>(x: &'a Expr, out: &mut List<Mark<'a>>) -> Result<(), Memor
 
 #[cycle(expression)]
 fn arg_marks<'a>(x: &'a Arg, out: &mut List<Mark<'a>>) -> Result<(), Memory>
-    ensures { OnOk result (marks_view out.new ≡ spec.arg_marks (arg_view x.now) (marks_view out.old)) }
+    ensures { OnOk result (marks_view out.new ≡
+        spec.arg_marks (arg_view x.now) (marks_view out.old)) }
 {
     match x {
         Arg::Value(x) | Arg::Named(_, x) => expr_marks(x, out),
@@ -79,7 +81,8 @@ fn arg_marks<'a>(x: &'a Arg, out: &mut List<Mark<'a>>) -> Result<(), Memory>
 
 #[cycle(expression)]
 fn link_marks<'a>(x: &'a Link, out: &mut List<Mark<'a>>) -> Result<(), Memory>
-    ensures { OnOk result (marks_view out.new ≡ spec.link_marks (link_view x.now) (marks_view out.old)) }
+    ensures { OnOk result (marks_view out.new ≡
+        spec.link_marks (link_view x.now) (marks_view out.old)) }
 {
     match x {
         Link::Compare(_, x) => expr_marks(x, out),
@@ -88,7 +91,8 @@ fn link_marks<'a>(x: &'a Link, out: &mut List<Mark<'a>>) -> Result<(), Memory>
 
 #[cycle(expression)]
 fn args_marks<'a>(list: &'a List<Arg>, out: &mut List<Mark<'a>>) -> Result<(), Memory>
-    ensures { OnOk result (marks_view out.new ≡ spec.args_marks (args (map arg_view list.now)) (marks_view out.old)) }
+    ensures { OnOk result (marks_view out.new ≡
+        spec.args_marks (args (map arg_view list.now)) (marks_view out.old)) }
 {
     let items = list.as_slice();
     for i in 0..items.len() {
@@ -99,7 +103,8 @@ fn args_marks<'a>(list: &'a List<Arg>, out: &mut List<Mark<'a>>) -> Result<(), M
 
 #[cycle(expression)]
 fn links_marks<'a>(list: &'a List<Link>, out: &mut List<Mark<'a>>) -> Result<(), Memory>
-    ensures { OnOk result (marks_view out.new ≡ spec.links_marks (links (map link_view list.now)) (marks_view out.old)) }
+    ensures { OnOk result (marks_view out.new ≡
+        spec.links_marks (links (map link_view list.now)) (marks_view out.old)) }
 {
     let items = list.as_slice();
     for i in 0..items.len() {

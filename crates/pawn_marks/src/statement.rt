@@ -38,7 +38,8 @@ pub fn constant_marks<'a>(
 }
 
 fn first_marks<'a>(at: At, x: &'a First, out: &mut List<Mark<'a>>) -> Result<(), Memory>
-    ensures { OnOk result (marks_view out.new ≡ spec.first_marks at (first_view x.now) (marks_view out.old)) }
+    ensures { OnOk result (marks_view out.new ≡
+        spec.first_marks at (first_view x.now) (marks_view out.old)) }
 {
     match x {
         First::Nothing => Ok(()),
@@ -48,14 +49,16 @@ fn first_marks<'a>(at: At, x: &'a First, out: &mut List<Mark<'a>>) -> Result<(),
 }
 
 fn range_marks<'a>(x: &'a Range, out: &mut List<Mark<'a>>) -> Result<(), Memory>
-    ensures { OnOk result (marks_view out.new ≡ spec.range_marks (range_view x.now) (marks_view out.old)) }
+    ensures { OnOk result (marks_view out.new ≡
+        spec.range_marks (range_view x.now) (marks_view out.old)) }
 {
     expr_marks(&x.first, out)?;
     maybe_expr_marks(&x.last, out)
 }
 
 fn ranges_marks<'a>(list: &'a List<Range>, out: &mut List<Mark<'a>>) -> Result<(), Memory>
-    ensures { OnOk result (marks_view out.new ≡ all_marks spec.range_marks (map range_view list.now) (marks_view out.old)) }
+    ensures { OnOk result (marks_view out.new ≡
+        all_marks spec.range_marks (map range_view list.now) (marks_view out.old)) }
 {
     let items = list.as_slice();
     for i in 0..items.len() {
@@ -67,7 +70,8 @@ fn ranges_marks<'a>(list: &'a List<Range>, out: &mut List<Mark<'a>>) -> Result<(
 /// The marks of a statement.
 #[cycle(statement)]
 pub fn stmt_marks<'a>(x: &'a Stmt, out: &mut List<Mark<'a>>) -> Result<(), Memory>
-    ensures { OnOk result (marks_view out.new ≡ spec.stmt_marks (stmt_view x.now) (marks_view out.old)) }
+    ensures { OnOk result (marks_view out.new ≡
+        spec.stmt_marks (stmt_view x.now) (marks_view out.old)) }
 {
     match x {
         Stmt::Empty(_) | Stmt::Break(_) | Stmt::Continue(_) => Ok(()),
@@ -112,7 +116,8 @@ pub fn stmt_marks<'a>(x: &'a Stmt, out: &mut List<Mark<'a>>) -> Result<(), Memor
 
 #[cycle(statement)]
 fn stmts_marks<'a>(list: &'a List<Stmt>, out: &mut List<Mark<'a>>) -> Result<(), Memory>
-    ensures { OnOk result (marks_view out.new ≡ spec.stmts_marks (stmts (map stmt_view list.now)) (marks_view out.old)) }
+    ensures { OnOk result (marks_view out.new ≡
+        spec.stmts_marks (stmts (map stmt_view list.now)) (marks_view out.old)) }
 {
     let items = list.as_slice();
     for i in 0..items.len() {
@@ -123,7 +128,8 @@ fn stmts_marks<'a>(list: &'a List<Stmt>, out: &mut List<Mark<'a>>) -> Result<(),
 
 #[cycle(statement)]
 fn case_marks<'a>(x: &'a Case, out: &mut List<Mark<'a>>) -> Result<(), Memory>
-    ensures { OnOk result (marks_view out.new ≡ spec.case_marks (case_view x.now) (marks_view out.old)) }
+    ensures { OnOk result (marks_view out.new ≡
+        spec.case_marks (case_view x.now) (marks_view out.old)) }
 {
     match x {
         Case::Values(_, ranges, body) => {
@@ -135,7 +141,8 @@ fn case_marks<'a>(x: &'a Case, out: &mut List<Mark<'a>>) -> Result<(), Memory>
 
 #[cycle(statement)]
 fn cases_marks<'a>(list: &'a List<Case>, out: &mut List<Mark<'a>>) -> Result<(), Memory>
-    ensures { OnOk result (marks_view out.new ≡ spec.cases_marks (cases (map case_view list.now)) (marks_view out.old)) }
+    ensures { OnOk result (marks_view out.new ≡
+        spec.cases_marks (cases (map case_view list.now)) (marks_view out.old)) }
 {
     let items = list.as_slice();
     for i in 0..items.len() {
@@ -147,7 +154,8 @@ fn cases_marks<'a>(list: &'a List<Case>, out: &mut List<Mark<'a>>) -> Result<(),
 #[cycle(statement)]
 fn other_marks<'a>(x: &'a Option<Box<Stmt>>, out: &mut List<Mark<'a>>) -> Result<(), Memory>
     ensures { OnOk result (marks_view out.new ≡
-        spec.other_marks (maybe_stmt (option_map (λ x. stmt_view x.value) x.now)) (marks_view out.old)) }
+        spec.other_marks (maybe_stmt (option_map (λ x. stmt_view x.value) x.now))
+        (marks_view out.old)) }
 {
     match x {
         None => Ok(()),

@@ -113,7 +113,8 @@ fn tags_marks<'a>(list: &'a List<Name>, out: &mut List<Mark<'a>>) -> Result<(), 
 }
 
 fn param_marks<'a>(place: Place, x: &'a Param, out: &mut List<Mark<'a>>) -> Result<(), Memory>
-    ensures { OnOk result (marks_view out.new ≡ spec.param_marks place (param_view x.now) (marks_view out.old)) }
+    ensures { OnOk result (marks_view out.new ≡
+        spec.param_marks place (param_view x.now) (marks_view out.old)) }
 {
     match x {
         Param::Rest(_, tags) => tags_marks(tags, out),
@@ -157,7 +158,8 @@ fn params_marks<'a>(
 }
 
 fn head_marks<'a>(place: Place, x: &'a Head, out: &mut List<Mark<'a>>) -> Result<(), Memory>
-    ensures { OnOk result (marks_view out.new ≡ spec.head_marks place (head_view x.now) (marks_view out.old)) }
+    ensures { OnOk result (marks_view out.new ≡
+        spec.head_marks place (head_view x.now) (marks_view out.old)) }
 {
     maybe_tag_marks(&x.tag, out)?;
     opens(out)?;
@@ -167,7 +169,8 @@ fn head_marks<'a>(place: Place, x: &'a Head, out: &mut List<Mark<'a>>) -> Result
 // ---- the whole
 
 fn decl_marks<'a>(x: &'a Decl, out: &mut List<Mark<'a>>) -> Result<(), Memory>
-    ensures { OnOk result (marks_view out.new ≡ spec.decl_marks (decl_view x.now) (marks_view out.old)) }
+    ensures { OnOk result (marks_view out.new ≡
+        spec.decl_marks (decl_view x.now) (marks_view out.old)) }
 {
     match x {
         Decl::Variables(at, x) => vars_marks(at.place, true, &x.vars, out),

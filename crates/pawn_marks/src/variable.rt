@@ -14,7 +14,8 @@ use pawn_tree::{Dim, Init, Name, Var};
 
 /// The marks of a tag that may be left out.
 pub fn maybe_tag_marks<'a>(tag: &'a Option<Name>, out: &mut List<Mark<'a>>) -> Result<(), Memory>
-    ensures { OnOk result (marks_view out.new ≡ maybe_marks spec.tag_marks tag.now (marks_view out.old)) }
+    ensures { OnOk result (marks_view out.new ≡
+        maybe_marks spec.tag_marks tag.now (marks_view out.old)) }
 {
     match tag {
         None => Ok(()),
@@ -23,7 +24,8 @@ pub fn maybe_tag_marks<'a>(tag: &'a Option<Name>, out: &mut List<Mark<'a>>) -> R
 }
 
 fn dim_marks<'a>(x: &'a Dim, out: &mut List<Mark<'a>>) -> Result<(), Memory>
-    ensures { OnOk result (marks_view out.new ≡ spec.dim_marks (dim_view x.now) (marks_view out.old)) }
+    ensures { OnOk result (marks_view out.new ≡
+        spec.dim_marks (dim_view x.now) (marks_view out.old)) }
 {
     match x {
         Dim::Open => Ok(()),
@@ -33,7 +35,8 @@ fn dim_marks<'a>(x: &'a Dim, out: &mut List<Mark<'a>>) -> Result<(), Memory>
 
 /// The marks of dimensions.
 pub fn dims_marks<'a>(list: &'a List<Dim>, out: &mut List<Mark<'a>>) -> Result<(), Memory>
-    ensures { OnOk result (marks_view out.new ≡ all_marks spec.dim_marks (map dim_view list.now) (marks_view out.old)) }
+    ensures { OnOk result (marks_view out.new ≡
+        all_marks spec.dim_marks (map dim_view list.now) (marks_view out.old)) }
 {
     let items = list.as_slice();
     for i in 0..items.len() {
@@ -44,7 +47,8 @@ pub fn dims_marks<'a>(list: &'a List<Dim>, out: &mut List<Mark<'a>>) -> Result<(
 
 #[cycle(init)]
 fn init_marks<'a>(x: &'a Init, out: &mut List<Mark<'a>>) -> Result<(), Memory>
-    ensures { OnOk result (marks_view out.new ≡ spec.init_marks (init_view x.now) (marks_view out.old)) }
+    ensures { OnOk result (marks_view out.new ≡
+        spec.init_marks (init_view x.now) (marks_view out.old)) }
 {
     match x {
         Init::Value(x) => expr_marks(x, out),
@@ -54,7 +58,8 @@ fn init_marks<'a>(x: &'a Init, out: &mut List<Mark<'a>>) -> Result<(), Memory>
 
 #[cycle(init)]
 fn inits_marks<'a>(list: &'a List<Init>, out: &mut List<Mark<'a>>) -> Result<(), Memory>
-    ensures { OnOk result (marks_view out.new ≡ spec.inits_marks (inits (map init_view list.now)) (marks_view out.old)) }
+    ensures { OnOk result (marks_view out.new ≡
+        spec.inits_marks (inits (map init_view list.now)) (marks_view out.old)) }
 {
     let items = list.as_slice();
     for i in 0..items.len() {
@@ -79,7 +84,8 @@ fn var_marks<'a>(
     x: &'a Var,
     out: &mut List<Mark<'a>>,
 ) -> Result<(), Memory>
-    ensures { OnOk result (marks_view out.new ≡ spec.var_marks place outside (var_view x.now) (marks_view out.old)) }
+    ensures { OnOk result (marks_view out.new ≡
+        spec.var_marks place outside (var_view x.now) (marks_view out.old)) }
 {
     maybe_tag_marks(&x.tag, out)?;
     dims_marks(&x.dims, out)?;

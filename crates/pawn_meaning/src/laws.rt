@@ -34,8 +34,8 @@ pub fn runs_grow()
     ensures { RunsGrow }
 {}
 
-/// In a program within the limits the need of a function is its number of parameters, 3, and at most
-/// the limits on locals and on the weight.
+/// In a program within the limits the need of a function is its number of parameters, 3, and at
+/// most the limits on locals and on the weight.
 pub fn need_is_small()
     ensures { NeedIsSmall }
 {}

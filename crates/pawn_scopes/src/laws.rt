@@ -35,8 +35,8 @@ pub fn fault_kinds()
     ensures { FaultKinds }
 {}
 
-/// In a tree whose names are resolved each occurrence has its declaration, no name stands twice in one
-/// block, and each constant has its value.
+/// In a tree whose names are resolved each occurrence has its declaration, no name stands twice
+/// in one block, and each constant has its value.
 pub fn resolved_means()
     ensures { ResolvedMeans }
 {}

@@ -1,6 +1,6 @@
-//! Names as definitions: what stands in a tree that names matter to, which declaration an occurrence
-//! means, what a constant is worth, and when a tree's names are resolved. A law is the contract of a
-//! call that does nothing.
+//! Names as definitions: what stands in a tree that names matter to, which declaration an
+//! occurrence means, what a constant is worth, and when a tree's names are resolved. A law is the
+//! contract of a call that does nothing.
 #![tactic(auto)]
 
 mod laws;

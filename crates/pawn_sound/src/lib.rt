@@ -1,5 +1,5 @@
-//! What stands is valid: laws that tie the definitions of types to those of programs. There is no code
-//! here; a law is the contract of a call that does nothing.
+//! What stands is valid: laws that tie the definitions of types to those of programs. There is no
+//! code here; a law is the contract of a call that does nothing.
 #![tactic(auto)]
 
 mod laws;

@@ -11,7 +11,8 @@ use pawn_expressions::{Got, Parser, ReadFault};
 use pawn_tree::Stmt;
 use std::alloc::AllocError;
 
-/// The rules of statements. Those in them are read by `next`, so that each rule is proved by itself.
+/// The rules of statements. Those in them are read by `next`, so that each rule is proved by
+/// itself.
 #[derive(Clone, Copy)]
 pub(crate) struct Statements<'a, G> {
     /// How many levels may stand below a node, among the rest.
@@ -33,7 +34,8 @@ impl<'a, G: Fn(Parser<'a>, u16, bool, usize) -> Result<Got<Box<Stmt>>, ReadFault
         (self.next)(self.reader.parser, self.reader.height, declares, start)
     }
 
-    /// A node, if no more than so many levels stand below it. Else no tree goes on at its token `at`.
+    /// A node, if no more than so many levels stand below it. Else no tree goes on at its token
+    /// `at`.
     pub(crate) fn node(
         &self,
         at: usize,

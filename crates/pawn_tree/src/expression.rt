@@ -26,7 +26,8 @@ pub enum Expr {
     Character(At, Box<Expr>, Box<Expr>),
     /// An operator of two operands that groups to the left, `,` among them.
     Binary(At, Sign, Box<Expr>, Box<Expr>),
-    /// Comparisons by `<`, `<=`, `>` and `>=`, one behind another: the first operand, and the links.
+    /// Comparisons by `<`, `<=`, `>` and `>=`, one behind another: the first operand, and the
+    /// links.
     Chain(At, Box<Expr>, List<Link>),
     /// `? :`
     Choice(At, Box<Expr>, Box<Expr>, Box<Expr>),

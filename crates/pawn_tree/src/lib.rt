@@ -1,6 +1,6 @@
 //! Trees: what the parser gives, and what names and types are looked up in. Every definition speaks
-//! of their plain view (`specs/Tree.antt`), in which no pointer and no capacity is seen, so that two
-//! trees with the same parts are equal.
+//! of their plain view (`specs/Tree.antt`), in which no pointer and no capacity is seen, so that
+//! two trees with the same parts are equal.
 #![tactic(auto)]
 
 mod declaration;

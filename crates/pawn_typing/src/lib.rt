@@ -1,5 +1,5 @@
-//! The rules of typing as definitions: what each expression is to its surroundings, by its typed parts,
-//! or which rules it breaks. There is no code here but the numbers of the faults.
+//! The rules of typing as definitions: what each expression is to its surroundings, by its typed
+//! parts, or which rules it breaks. There is no code here but the numbers of the faults.
 #![tactic(auto)]
 
 mod fault;

@@ -1,5 +1,5 @@
-//! How code answers a verdict, and which operators signs stand for: what the rules of names and of types
-//! have in common.
+//! How code answers a verdict, and which operators signs stand for: what the rules of names and
+//! of types have in common.
 #![tactic(auto)]
 
 mod fault;

@@ -129,8 +129,8 @@ const CALLS: [((i32, &str, &str), &str, (u64, SessionEnd, u32)); 21] = [
         "native p \"\\4276803;\" -> 0\ndone 7\n",
         (5, SessionEnd::Done(7), 0),
     ),
-    // What isn't seen goes before a script's error: a text without an end, more cells than are live,
-    // no multiple of 4, and dead memory.
+    // What isn't seen goes before a script's error: a text without an end, more cells than are
+    // live, no multiple of 4, and dead memory.
     (
         (28, "text", "{\"error\": 3}"),
         "error 10\n",

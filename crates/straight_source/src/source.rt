@@ -16,8 +16,8 @@ pub enum SourceFault {
 }
 
 /// The straight program that a source is (Language Guide, "Functions", "Statements"): natives are
-/// declared, each by a line `native NAME(v);`, then main, in lines that begin with two blanks, calls
-/// them with a number each, and may end with an exit.
+/// declared, each by a line `native NAME(v);`, then main, in lines that begin with two blanks,
+/// calls them with a number each, and may end with an exit.
 pub fn read_straight(alloc: Global, source: &[u8]) -> Result<Program, SourceFault>
     requires { length source.now ≤ 2 ^ 30 }
     ensures { IsRead source.now result }

@@ -142,8 +142,8 @@ const CALLS: &str =
 
 const END: &str = "}\n";
 
-/// Sources at the limits, and large ones: 70,000 lines, two megabytes, a name of 32 bytes that isn't
-/// declared.
+/// Sources at the limits, and large ones: 70,000 lines, two megabytes, a name of 32 bytes that
+/// isn't declared.
 const LARGE: [Large; 6] = [
     (NATIVE, CALLS, END, 1000, Status::Ok),
     (NATIVE, CALLS, "  p(1);\n}\n", 1000, Status::Refused),
