@@ -1,11 +1,12 @@
 -- A copy byte by byte, upwards and downwards.
-use Rattle.std.proofs.Common.{◌≡◌, ◌≢◌, ◌+◌, ◌-◌, ◌/◌, ◌%◌, ◌<◌, ◌≤◌, ◌⊎◌, inl, inr, ℕ, zero, suc, ℤ, pos, false, List, length, get_or, refl, sym, ap, ◌∙◌, arith, get_or-set_same, get_or-set_other, subst, w32, FitsSigned}
+use Rattle.std.proofs.Common.{◌≡◌, ◌≢◌, ◌+◌, ◌-◌, ◌*◌, ◌/◌, ◌%◌, ◌<◌, ◌≤◌, ◌⊎◌, inl, inr, ℕ, zero, suc, ℤ, pos, false, List, length, get_or, refl, sym, ap, ◌∙◌, arith, get_or-set_same, get_or-set_other, length-set, take, subst, w32, FitsSigned}
 use Rattle.std.specs.Prelude.{nat_le, slice_set}
+use Rattle.std.proofs.lemmas.List.{get_or-take, take-set-le}
 use Rattle.std.proofs.lemmas.Bool.{le-leb, lt-ltb}
 use Rattle.std.proofs.lemmas.Bool.Decides.{leb_tells}
 use Rattle.pawn_cells.specs.Cells.{char_at}
-use Rattle.amx_block.specs.Contents.{cell_at, with_cell, byte_at}
-use Rattle.amx_block.specs.Copied.{copied_byte}
+use Rattle.amx_block.specs.Contents.{Contents, cell_at, with_cell, byte_at}
+use Rattle.amx_block.specs.Copied.{copied_byte, IsRun}
 
 same_or_not : (a b : ℕ) → (a ≡ b) ⊎ (a ≢ b)
 same_or_not zero zero = inl refl
@@ -91,3 +92,81 @@ module _ (old : List ℤ) (from to : ℕ) where
         let next : n - (i + 1) ≡ n - 1 - i = omega (arith, less) in
         down (n - 1 - i) n h (omega (arith, less)) (λ k. so_far k ∙ ap (λ low. copied_byte old from to low n k) first) read same others k
         ∙ ap (λ low. copied_byte old from to low n k) (sym next)
+
+-- ---- whole cells at once
+
+module _ (old new : Contents) (from to count : ℕ) (whole : (from % 4 ≡ 0) × ((to % 4 ≡ 0) × (count % 4 ≡ 0)))
+    (copied : (i : ℕ) → to / 4 ≤ i → i < to / 4 + count / 4 → get_or new.memory i (pos 0) ≡ get_or old.memory (from / 4 + (i - to / 4)) (pos 0))
+    (below : (i : ℕ) → i < to / 4 → get_or new.memory i (pos 0) ≡ get_or old.memory i (pos 0))
+    (behind : (i : ℕ) → to / 4 + count / 4 ≤ i → get_or new.memory i (pos 0) ≡ get_or old.memory i (pos 0)) where
+  same_byte : (k : ℕ) → get_or new.memory (k / 4) (pos 0) ≡ get_or old.memory (k / 4) (pos 0) → byte_at new.memory k ≡ byte_at old.memory k
+  same_byte k e = ap (λ cell. char_at cell (3 - k % 4)) e
+
+  moved_byte : (k : ℕ) → to ≤ k → k < to + count → byte_at new.memory k ≡ byte_at old.memory (from + (k - to))
+  moved_byte k l h =
+      let cell : (from + (k - to)) / 4 ≡ from / 4 + (k / 4 - to / 4) = omega (arith, whole.0, whole.1.0, l) in
+      let rest : (from + (k - to)) % 4 ≡ k % 4 = omega (arith, whole.0, whole.1.0, l) in
+      ap (λ c. char_at c (3 - k % 4)) (copied (k / 4) (omega (arith, whole.1.0, l)) (omega (arith, whole.1.0, whole.1.1, h)))
+      ∙ ap (λ i. char_at (get_or old.memory i (pos 0)) (3 - k % 4)) (sym cell)
+      ∙ ap (λ r. char_at (cell_at old.memory (from + (k - to))) (3 - r)) (sym rest)
+
+  pub bytes_of_cells : (k : ℕ) → byte_at new.memory k ≡ copied_byte old.memory from to 0 count k
+  bytes_of_cells k =
+      elim (leb_tells (to + 0) k) [
+        | inl l ↦ elim (leb_tells (to + count) k) [
+          | inl h ↦ same_byte k (behind (k / 4) (omega (arith, whole.1.0, whole.1.1, h.1))) ∙ sym (over old.memory from to 0 count k l.1 h.1)
+          | inr h ↦ moved_byte k (omega (arith, l.1)) h.1 ∙ sym (inside old.memory from to 0 count k l.1 h.1)
+        ]
+        | inr l ↦ same_byte k (below (k / 4) (omega (arith, whole.1.0, l.1))) ∙ sym (under old.memory from to 0 count k l.1)
+      ]
+
+  pub other_cells : (i : ℕ) → ((k : ℕ) → to + 0 ≤ k → k < to + count → k / 4 ≢ i) → get_or new.memory i (pos 0) ≡ get_or old.memory i (pos 0)
+  other_cells i apart =
+      elim (leb_tells (to / 4) i) [
+        | inl l ↦ elim (leb_tells (to / 4 + count / 4) i) [
+          | inl h ↦ behind i h.1
+          | inr h ↦ absurd (apart (4 * i) (omega (arith, whole.1.0, l.1)) (omega (arith, whole.1.0, whole.1.1, h.1)) (omega arith))
+        ]
+        | inr l ↦ below i l.1
+      ]
+
+-- ---- one cell more in a run
+
+-- the cells in front of a run are as they were
+pub in_front : (to i : ℕ) (old new : List ℤ) → take to new ≡ take to old → i < to → get_or new i (pos 0) ≡ get_or old i (pos 0)
+in_front to i old new e h = sym (get_or-take to new i (pos 0) h) ∙ ap (λ cells. get_or cells i (pos 0)) e ∙ get_or-take to old i (pos 0) h
+
+module _ (from to count i : ℕ) (old now : List ℤ) (v : ℤ) (is : v ≡ get_or now (from + i) (pos 0)) (fit : FitsSigned w32 v)
+    (apart : (to ≤ from) ⊎ (from + count ≤ to)) (less : i < count) (within : to + count ≤ length old) (r : IsRun from to i old now) where
+  abbrev new : List ℤ
+  new = slice_set now (to + i) v
+
+  abbrev there : to + i < length now
+  there = omega (arith, less, within, r.size)
+
+  unread : (to ≤ from) ⊎ (from + count ≤ to) → get_or now (from + i) (pos 0) ≡ get_or old (from + i) (pos 0)
+  unread (inl h) = r.behind (from + i) (omega (arith, h))
+  unread (inr h) = in_front to (from + i) old now r.front (omega (arith, h, less))
+
+  copied_more : (j : ℕ) → to ≤ j → j < to + (i + 1) → get_or new j (pos 0) ≡ get_or old (from + (j - to)) (pos 0)
+  copied_more j l h = elim (same_or_not j (to + i)) [
+    | inl e ↦
+        let place : from + i ≡ from + (j - to) = omega (arith, e) in
+        ap (λ k. get_or new k (pos 0)) e ∙ get_or-set_same now (to + i) v (pos 0) there ∙ is ∙ unread apart ∙ ap (λ k. get_or old k (pos 0)) place
+    | inr ne ↦ get_or-set_other now (to + i) j v (pos 0) ne ∙ r.copied j l (omega (arith, h, ne))
+  ]
+
+  fits_more : (j : ℕ) → to ≤ j → j < to + (i + 1) → FitsSigned w32 (get_or new j (pos 0))
+  fits_more j l h = elim (same_or_not j (to + i)) [
+    | inl e ↦ subst (FitsSigned w32) (sym (ap (λ k. get_or new k (pos 0)) e ∙ get_or-set_same now (to + i) v (pos 0) there)) fit
+    | inr ne ↦ subst (FitsSigned w32) (sym (get_or-set_other now (to + i) j v (pos 0) ne)) (r.fits j l (omega (arith, h, ne)))
+  ]
+
+  pub run_more : IsRun from to (i + 1) old new
+  run_more = record {
+    copied = copied_more;
+    fits = fits_more;
+    behind = λ j h. get_or-set_other now (to + i) j v (pos 0) (λ e. omega (arith, e, h)) ∙ r.behind j (omega (arith, h));
+    front = take-set-le to now (to + i) v (omega arith) ∙ r.front;
+    size = length-set now (to + i) v ∙ r.size;
+  }

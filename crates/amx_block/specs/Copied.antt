@@ -1,5 +1,5 @@
 -- A copy of bytes within a block's memory, as if all were read before any is written.
-use Rattle.std.specs.Prelude.{◌≡◌, ◌≢◌, ◌+◌, ◌-◌, ◌/◌, ◌<◌, ◌≤◌, ℕ, ℤ, pos, FitsSigned, List, length, ◌&&◌, nat_le, nat_lt, if◌then◌else◌}
+use Rattle.std.specs.Prelude.{◌≡◌, ◌≢◌, ◌+◌, ◌-◌, ◌/◌, ◌<◌, ◌≤◌, ℕ, ℤ, pos, FitsSigned, List, length, take, ◌&&◌, nat_le, nat_lt, if◌then◌else◌}
 use Rattle.std.specs.Int.{w32}
 use Rattle.std.specs.List.{slice_index_or}
 use Rattle.amx_block.specs.Contents.{Contents, cell_at, byte_at}
@@ -18,3 +18,11 @@ pub record IsCopied (from to low high : ℕ) (old new : Contents) : Type 0 where
   pub fits : (k : ℕ) → to + low ≤ k → k < to + high → FitsSigned w32 (cell_at new.memory k)
   pub code : new.code ≡ old.code
   pub store : new.store ≡ old.store
+
+-- count cells from one number on stand from another one on, and all others are as they were
+pub record IsRun (from to count : ℕ) (old new : List ℤ) : Type 0 where
+  pub copied : (i : ℕ) → to ≤ i → i < to + count → slice_index_or new i (pos 0) ≡ slice_index_or old (from + (i - to)) (pos 0)
+  pub fits : (i : ℕ) → to ≤ i → i < to + count → FitsSigned w32 (slice_index_or new i (pos 0))
+  pub behind : (i : ℕ) → to + count ≤ i → slice_index_or new i (pos 0) ≡ slice_index_or old i (pos 0)
+  pub front : take to new ≡ take to old
+  pub size : length new ≡ length old

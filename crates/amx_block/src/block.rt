@@ -1,8 +1,10 @@
-ghost use Rattle.std.specs.Prelude.{◌≡◌, ◌≢◌, ℕ, ◌+◌, ◌*◌, ◌%◌, ◌<◌, ◌≤◌, ◌++◌, length, take, drop, replicate, IfOk, FitsSigned};
+ghost use Rattle.std.specs.Prelude.{◌≡◌, ◌≢◌, ◌+◌, ◌*◌, ◌%◌, ◌<◌, ◌≤◌, ◌++◌};
+ghost use Rattle.std.specs.Prelude.{ℕ, IfOk, FitsSigned, length, take, drop, replicate};
 ghost use Rattle.std.specs.Int.{w32};
 ghost use Rattle.std.specs.Borrow.{sem};
 ghost use Rattle.amx_block.specs.Lending.{LendsPart};
-ghost use Rattle.amx_block.specs.Contents.{cell_at, with_cell, byte_at, with_byte, part_at, with_part, zeros};
+ghost use Rattle.amx_block.specs.Contents.{cell_at, with_cell, byte_at, with_byte};
+ghost use Rattle.amx_block.specs.Contents.{part_at, with_part, zeros};
 
 use pawn_base::Memory;
 use pawn_cells::Cell;
@@ -10,16 +12,16 @@ use std::alloc::Global;
 use std::marker::Model;
 
 /// The bytes of a cell.
-const CELL_BYTES: u32 = 4;
+pub(crate) const CELL_BYTES: u32 = 4;
 
 /// One allocation for code, data, heap and stack (Implementer's Guide, "Memory layout"). Addresses
 /// are in bytes, from the code's first cell for `code` and `set_code` and else from the data's
 /// first cell; cells stand at multiples of 4.
 #[derive(Drop)]
 pub struct Block {
-    cells: Vec<i32>,
+    pub(crate) cells: Vec<i32>,
     /// The cells of the code, and those of the data behind it.
-    code: u32,
+    pub(crate) code: u32,
     store: u32,
 }
 
@@ -100,7 +102,9 @@ impl Block {
 
     pub fn write_byte(&mut self, at: u32, byte: u8)
         requires within { at < 4 * length self.old.memory }
-        ensures value { self.new ≡ record self.old { memory = with_byte self.old.memory at byte } }
+        ensures value { self.new ≡ record self.old {
+          memory = with_byte self.old.memory at byte;
+        } }
 
         // It is read back, and all others are as they were.
         ensures same { byte_at self.new.memory at ≡ byte }

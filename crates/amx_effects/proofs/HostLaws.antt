@@ -44,3 +44,6 @@ cleared_cells cells top e =
     ∙ ap (λ zs. replicate (top / 4) (pos 0) ++ zs) (drop_all (length cells) cells (omega arith))
     ∙ append-nil (replicate (top / 4) (pos 0))
     ∙ ap (λ k. replicate k (pos 0)) n
+
+-- the ways in which a part is live
+pub ruleset parts = (part_below, part_above, no_part)

@@ -1,5 +1,5 @@
 -- Numbers with some of their bytes changed.
-use Rattle.std.proofs.Common.{◌≡◌, inl, inr, ◌+◌, ◌-◌, ◌*◌, ◌/◌, ◌%◌, ◌^◌, ◌<◌, ℕ, zero, suc, arith, subst, sym}
+use Rattle.std.proofs.Common.{◌≡◌, inl, inr, ◌+◌, ◌-◌, ◌*◌, ◌/◌, ◌%◌, ◌^◌, ◌<◌, ◌≤◌, ℕ, zero, suc, arith, refl, subst, sym}
 use Rattle.amx_effects.specs.Parts.{IsCount, IsPart}
 
 abbrev pub changed : (bits from count n : ℕ) → ℕ
@@ -36,3 +36,24 @@ changed_fits bits from count n h p = changed_by bits from count n h p.is_count p
 
 pub moved_fits : (bits from count n : ℕ) → bits < 2 ^ 32 → IsPart from count → n % 256 ^ count * 256 ^ from < 2 ^ 32
 moved_fits bits from count n h p = omega (arith, changed_fits bits from count n h p)
+
+-- ---- powers of 256
+
+pub worth_is : (p : ℕ) → p ≤ 4 → (1 * 2 ^ (8 * p)) % 2 ^ 64 ≡ 256 ^ p
+worth_is zero h = refl
+worth_is (suc zero) h = refl
+worth_is (suc (suc zero)) h = refl
+worth_is (suc (suc (suc zero))) h = refl
+worth_is (suc (suc (suc (suc zero)))) h = refl
+worth_is (suc (suc (suc (suc (suc k))))) h = absurd (omega (arith, h))
+
+one_or_more : (p : ℕ) → p ≤ 4 → 1 ≤ 256 ^ p
+one_or_more zero h = omega arith
+one_or_more (suc zero) h = omega arith
+one_or_more (suc (suc zero)) h = omega arith
+one_or_more (suc (suc (suc zero))) h = omega arith
+one_or_more (suc (suc (suc (suc zero)))) h = omega arith
+one_or_more (suc (suc (suc (suc (suc k))))) h = absurd (omega (arith, h))
+
+pub worth_some : (p : ℕ) → p ≤ 4 → 1 ≤ (1 * 2 ^ (8 * p)) % 2 ^ 64
+worth_some p h = rw (worth_is p h) (one_or_more p h)

@@ -9,10 +9,15 @@ pub record Machine : Type 0 where
   pub amx : Amx
   pub state : State
 
--- first HEA, HEA, STK and the top rise in whole cells, within the limit of memory, and the code is the file's
+-- how many cells a file's machine has, from the data's first one to the stack's top
+abbrev pub cell_count : Amx → ℕ
+cell_count amx = length amx.store + amx.room
+
+-- first HEA, HEA, STK and the top rise in whole cells, within the limit of memory; code and count are the file's
 pub record IsSound (amx : Amx) (top stk hea : ℕ) (block : Contents) : Type 0 where
   pub code : block.code ≡ amx.code
   pub size : length amx.code + length block.memory ≤ 33554432
+  pub count : length block.memory ≡ cell_count amx
   pub top_is : top ≡ 4 * length block.memory
   pub first : first_hea amx ≤ hea
   pub apart : hea ≤ stk

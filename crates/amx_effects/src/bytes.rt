@@ -13,7 +13,8 @@ impl<'v> Core<'v> {
     /// Whether each of so many bytes from an address on is live.
     fn are_live(&self, at: u32, count: u32) -> bool
         ensures is { result ≡ access.are_live self.now.state at count }
-        ensures within { IsTrue result → (count ≡ 0) ⊎ (at + count ≤ 4 * length self.now.state.cells) }
+        ensures within { IsTrue result →
+            (count ≡ 0) ⊎ (at + count ≤ 4 * length self.now.state.cells) }
     {
         let end = u64::from(at) + u64::from(count);
         let (hea, stp) = (u64::from(self.hea), u64::from(self.stp));
@@ -63,8 +64,7 @@ impl<'v> Core<'v> {
     }
 
     /// PRI = how so many bytes at an address stand to those at another: 0 where they are equal,
-    /// else
-    /// -1 or 1.
+    /// else -1 or 1.
     pub fn compare(&mut self, at: u32, to: u32, count: u32, next: u32) -> Turn
         ensures { IsTurn (access.compare self.old.state at to count
             (λ x. at_next next (record self.old.state { pri = x }))) self.old result self.new }
@@ -82,7 +82,8 @@ impl<'v> Core<'v> {
     }
 
     fn order(&self, at: u32, to: u32, count: u32) -> i32
-        requires { (at + count ≤ 4 * length self.now.state.cells) × (to + count ≤ 4 * length self.now.state.cells) }
+        requires { (at + count ≤ 4 * length self.now.state.cells)
+            × (to + count ≤ 4 * length self.now.state.cells) }
         ensures { result ≡ access.order_of (access.bytes_at self.now.state.cells at count)
             (access.bytes_at self.now.state.cells to count) }
     {

@@ -11,7 +11,8 @@ impl<'v> Core<'v> {
 
     /// Goes on where the case table at an address leads PRI.
     pub fn switch(&mut self, at: u32) -> Turn
-        ensures { IsTurn (at_next (effects.case_of self.old.amx at self.old.state.pri) self.old.state)
+        ensures { IsTurn
+            (at_next (effects.case_of self.old.amx at self.old.state.pri) self.old.state)
             self.old result self.new }
     {
         self.cip = self.case_of(at);

@@ -1,4 +1,5 @@
-ghost use Rattle.std.specs.Prelude.{◌≡◌, ◌+◌, ◌*◌, ◌%◌, ◌<◌, ◌≤◌, [], Some, if◌then◌else◌, length, option_map, pos, unwrap_or};
+ghost use Rattle.std.specs.Prelude.{◌≡◌, ◌+◌, ◌*◌, ◌%◌, ◌<◌, ◌≤◌, if◌then◌else◌};
+ghost use Rattle.std.specs.Prelude.{[], Some, length, option_map, pos, unwrap_or};
 ghost use Rattle.std.specs.List.{slice_index_or};
 ghost use Rattle.std.specs.Borrow.{sem};
 ghost use Rattle.pawn_cells.specs.Cells.{bits_of};
@@ -7,6 +8,7 @@ ghost use Rattle.amx_block.specs.Contents.{part_at};
 ghost use Rattle.amx_ops.specs.Access.{is_live};
 ghost use Rattle.amx_ops.specs.Writable.{memory_limit};
 ghost use Rattle.amx_ops.specs.Trace.{start_at, pushed_by, pushed_all};
+ghost use Rattle.amx_effects.specs.Machine.{cell_count};
 
 use super::registers::Core;
 
@@ -55,6 +57,7 @@ impl<'v> Core<'v> {
         ensures value { result ≡ registers_of self.now.state }
         ensures order { AreInOrder self.now.amx self.now.state }
         ensures size { 4 * length self.now.state.cells ≤ memory_limit }
+        ensures count { length self.now.state.cells ≡ cell_count self.now.amx }
     {
         let _ = self.block.top();
         Registers {
@@ -134,12 +137,13 @@ impl<'v> Core<'v> {
     }
 
     /// The place of a live part and its count of cells; 0 and 0 where the address isn't live.
-    #[tactic(auto, using(crate::proofs::HostLaws::part_below, crate::proofs::HostLaws::part_above, crate::proofs::HostLaws::no_part,))]
+    #[tactic(auto, using(crate::proofs::HostLaws::parts))]
     fn live_part(&self, at: u32) -> (u32, u32)
         ensures place { result.0 ≡ (if is_live self.now.state at then at else 0) }
         ensures within { result.0 + 4 * result.1 ≤ 4 * length self.now.state.cells }
         ensures aligned { result.0 % 4 ≡ 0 }
-        ensures part { part_at self.now.state.cells result.0 result.1 ≡ moves.live_from self.now.state at }
+        ensures part { part_at self.now.state.cells result.0 result.1
+            ≡ moves.live_from self.now.state at }
     {
         if !self.is_live(at) {
             return (0, 0);

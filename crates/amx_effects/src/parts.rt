@@ -104,17 +104,12 @@ fn with_part(cell: i32, from: u32, count: u32, value: u32) -> i32
     ((bits - old * scale + new * scale) as u32).cast_signed()
 }
 
-/// 256 to a power.
+/// 256 to a power. What is divided by it is shifted.
+#[inline(always)]
 fn worth(power: u32) -> u64
     requires { power ≤ 4 }
     ensures value { result ≡ 256 ^ power }
     ensures some { 1 ≤ result }
 {
-    match power {
-        0 => 1,
-        1 => 256,
-        2 => 65536,
-        3 => 16_777_216,
-        _ => 4_294_967_296,
-    }
+    1 << (8 * power)
 }

@@ -1,4 +1,5 @@
-ghost use Rattle.std.specs.Prelude.{◌≡◌, ◌+◌, ◌*◌, ◌/◌, ◌%◌, ◌<◌, ◌≤◌, drop, length, map, pos, IsTrue};
+ghost use Rattle.std.specs.Prelude.{◌≡◌, ◌+◌, ◌*◌, ◌/◌, ◌%◌, ◌<◌, ◌≤◌};
+ghost use Rattle.std.specs.Prelude.{IsTrue, drop, length, map, pos};
 ghost use Rattle.std.specs.List.{slice_index_or};
 ghost use Rattle.pawn_cells.specs.Cells.{add, mul, shl};
 ghost use Rattle.amx_ops.specs.Access.{in_frame};
@@ -97,7 +98,8 @@ impl<'v> Core<'v> {
     /// The cell behind the number at CIP.
     #[inline(always)]
     pub fn operand(&self) -> i32
-        requires { (self.now.state.cip % 4 ≡ 0) × (self.now.state.cip + 4 < 4 * length self.now.amx.code) }
+        requires { (self.now.state.cip % 4 ≡ 0)
+            × (self.now.state.cip + 4 < 4 * length self.now.amx.code) }
         ensures { result ≡ slice_index_or self.now.amx.code (self.now.state.cip / 4 + 1) (pos 0) }
     {
         self.block.code(self.cip + 4)
@@ -116,7 +118,8 @@ impl<'v> Core<'v> {
     pub fn is_start(&self, at: u32) -> bool
         ensures is { result ≡ instructions.is_start self.now.amx.code at }
         ensures within { IsTrue result → (at % 4 ≡ 0) × (at < 4 * length self.now.amx.code) }
-        ensures here { IsTrue result → fetched self.now.amx.code at ≡ front (drop (at / 4) self.now.amx.code) }
+        ensures here { IsTrue result →
+            fetched self.now.amx.code at ≡ front (drop (at / 4) self.now.amx.code) }
     {
         self.verified.starts_at(at)
     }

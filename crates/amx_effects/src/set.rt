@@ -71,7 +71,8 @@ impl<'v> Core<'v> {
 
     fn set_heap(&mut self, next: u32) -> Turn
         ensures { IsTurn (when_multiple self.old.state.pri
-            (heap_to self.old.amx self.old.state.pri next self.old.state)) self.old result self.new }
+            (heap_to self.old.amx self.old.state.pri next self.old.state))
+            self.old result self.new }
     {
         if self.pri.cast_unsigned() % 4 != 0 {
             Turn::Errs(ACCESS)

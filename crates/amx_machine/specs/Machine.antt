@@ -1,10 +1,10 @@
 -- What contracts see of a machine: its file, its state, and its mode.
-use Rattle.std.specs.Prelude.{◌≡◌, ◌≤◌, pos}
+use Rattle.std.specs.Prelude.{◌≡◌, ◌≤◌, pos, length}
 use Rattle.amx_ops.specs.declared.amx.Amx.{Amx}
 use Rattle.amx_ops.specs.State.{State, stp, swept}
 use Rattle.amx_ops.specs.Trace.{loaded}
 use Rattle.amx_ops.specs.Writable.{memory_limit}
-use Rattle.amx_effects.specs.Machine.{Machine as Core}
+use Rattle.amx_effects.specs.Machine.{Machine as Core, cell_count}
 use Rattle.amx_effects.specs.Hosting.{AreInOrder}
 use Rattle.amx_machine.specs.declared.mode.Mode.{Mode}
 use Rattle.amx_machine.specs.declared.mode.Mode.TheVariants as mode
@@ -64,4 +64,5 @@ IsClean (mode.Failed code) s = Unit {0}
 pub record IsKept (m : Machine) : Type 0 where
   pub in_order : AreInOrder m.amx m.state
   pub size : stp m.state ≤ memory_limit
+  pub count : length m.state.cells ≡ cell_count m.amx
   pub clean : IsClean m.mode m.state

@@ -1,6 +1,7 @@
 ghost use Rattle.std.specs.Prelude.{◌≡◌, IfOk};
 ghost use Rattle.amx_machine.specs.Machine.{IsClean, IsIdle, IsSteady, first};
-ghost use Rattle.amx_machine.specs.Runs.{Follows, behind, core_of, event_of, last_event, mode_behind, ran};
+ghost use Rattle.amx_machine.specs.Runs.{Follows, behind, core_of, event_of};
+ghost use Rattle.amx_machine.specs.Runs.{last_event, mode_behind, ran};
 ghost use Rattle.amx_machine.specs.Starts.{StartsSo, address_by};
 ghost use Rattle.amx_machine.specs.declared.event.Event.TheVariants as event;
 ghost use Rattle.amx_machine.specs.declared.mode.Mode.TheVariants as mode;
@@ -18,8 +19,8 @@ use std::marker::Model;
 /// The abstract machine of a file (Implementer's Guide, "The abstract machine"), as a host runs it.
 /// Contracts see the file, the state, and the mode: loaded; running; at a sleep, which is behind
 /// HALT 12 or as [`Machine::set_asleep`] leaves it; waiting for a native; or ended by a halt or an
-/// error. It is started in each mode but the first, and idle where it was loaded or ended by HALT
-/// 0. Addresses are in bytes from the data's first cell. Only [`Machine::load`] takes memory.
+/// error. It is started in each mode but the first, and idle where it was loaded or ended by
+/// HALT 0. Addresses are in bytes from the data's first cell. Only [`Machine::load`] takes memory.
 #[derive(Drop)]
 pub struct Machine<'v> {
     pub(crate) core: Core<'v>,

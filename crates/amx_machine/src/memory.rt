@@ -1,4 +1,5 @@
-ghost use Rattle.std.specs.Prelude.{[], ◌≡◌, ◌<◌, ◌≤◌, ◌++◌, drop, length, option_map, pos, unwrap_or};
+ghost use Rattle.std.specs.Prelude.{[], ◌≡◌, ◌<◌, ◌≤◌, ◌++◌};
+ghost use Rattle.std.specs.Prelude.{drop, length, option_map, pos, unwrap_or};
 ghost use Rattle.std.specs.List.{slice_index_or};
 ghost use Rattle.pawn_cells.specs.Cells.{bits_of};
 ghost use Rattle.amx_ops.specs.Moves as moves;
@@ -52,7 +53,8 @@ impl<'v> Machine<'v> {
     }
 
     /// The registers. HEA and STK are multiples of 4 between the data's end and the top, HEA not
-    /// above STK, and at a sleep the cells from HEA below STK are 0.
+    /// above STK, and at a sleep the cells from HEA below STK are 0. Whatever a machine does, it
+    /// has as many cells as its file's data and room.
     pub fn registers(&self) -> Registers
         ensures value { result ≡ registers_of self.now.state }
         ensures kept { IsKept self.now }

@@ -3,6 +3,7 @@ pub mod FormLaws
 pub mod SightLaws
 pub mod ReplyLaws
 pub mod WriteLaws
+pub mod ApartLaws
 pub mod GuestLaws
 pub mod GrowLaws
 pub mod ReachLaws

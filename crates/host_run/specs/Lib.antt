@@ -1,3 +1,4 @@
+pub mod Apart
 pub mod Advance
 pub mod Bound
 pub mod Called

@@ -1,4 +1,5 @@
-ghost use Rattle.std.specs.Prelude.{◌≡◌, ◌<◌, ◌^◌, IfOk, IfSome, length, position, is_none, if◌then◌else◌};
+ghost use Rattle.std.specs.Prelude.{◌≡◌, ◌<◌, ◌^◌, if◌then◌else◌};
+ghost use Rattle.std.specs.Prelude.{IfOk, IfSome, is_none, length, position};
 ghost use Rattle.std.specs.List.{IsDistinct, position_from};
 ghost use Rattle.std.specs.Str.{bytes_eq};
 ghost use Rattle.host_script.specs.Ranges.{IsScript};

@@ -10,7 +10,8 @@ ghost use Rattle.host_run.specs.Bound.{bound_of, entry_of};
 ghost use Rattle.host_run.specs.Segments.{Place, segment_of, text_of};
 ghost use Rattle.host_run.specs.Stands.{IsAwake};
 ghost use Rattle.host_run.specs.Session.{Sessions, told};
-ghost use Rattle.host_run.specs.Advance.{Advanced, told_of, move_by, IsBehind, call_by, EndsBy, IsOver, IsSleep, IsGuest};
+ghost use Rattle.host_run.specs.Advance.{Advanced, call_by, move_by, told_of};
+ghost use Rattle.host_run.specs.Advance.{EndsBy, IsBehind, IsGuest, IsOver, IsSleep};
 
 use super::bound::Bound;
 use super::calls::reply_to;

@@ -9,5 +9,6 @@ returns-clause-kept c =
     rw (← c.self.view_is) (record {
       in_order = order_in f.core.amx f.core.state e.order f.mode;
       size = omega (arith, e.size, length_in f.core.amx f.core.state e.order f.mode);
+      count = omega (arith, e.count, length_in f.core.amx f.core.state e.order f.mode);
       clean = clean_in f.core.amx f.core.state e.order f.mode;
     })

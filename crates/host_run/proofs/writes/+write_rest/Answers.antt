@@ -4,10 +4,10 @@ use Rattle.host_script.specs.declared.script.Write.{Write}
 use Rattle.amx_ops.specs.Moves.{arguments, with_writes}
 use Rattle.host_run.specs.Sights.{arguments_of, put_of, IsRoomFor}
 use Rattle.host_run.proofs.WriteLaws.{all_before, room_next, writes_last}
-use Rattle.host_run.proofs.writes.+write_all.Goals as goal
+use Rattle.host_run.proofs.writes.+write_rest.Goals as goal
 
-pub write_all-requires : goal.write_all-requires
-write_all-requires t c =
+pub write_rest-requires : goal.write_rest-requires
+write_rest-requires t c =
     let s = c.args.machine.now.state in
     let before = c.in-Some.before.now in
     let last = c.in-Some.last.now in
@@ -23,7 +23,7 @@ write-requires t c =
     let s = c.args.machine.now.state in
     let fits : FitsSigned w32 c.native_arg-address.result = search rules in
     let room = subst (All (IsRoomFor s (arguments_of s))) c.in-Some.ensures.cases.0 c.requires.room in
-    rw (c.as_slice.ensures.cells, c.write_all.ensures, to_z-of_z w32 c.native_arg-address.result fits, c.native_arg-address.ensures)
+    rw (c.as_slice.ensures.cells, c.write_rest.ensures, to_z-of_z w32 c.native_arg-address.result fits, c.native_arg-address.ensures)
     (room_next s (arguments_of s) c.in-Some.before.now c.in-Some.last.now room)
 
 pub returns : goal.returns
@@ -33,7 +33,7 @@ returns t c =
     let before = c.in-Some.before.now in
     let last = c.in-Some.last.now in
     let fits : FitsSigned w32 c.native_arg-address.result = search rules in
-    let written = rw (c.as_slice.ensures.cells, c.write_all.ensures, to_z-of_z w32 c.native_arg-address.result fits, c.native_arg-address.ensures) at c.write.ensures in
+    let written = rw (c.as_slice.ensures.cells, c.write_rest.ensures, to_z-of_z w32 c.native_arg-address.result fits, c.native_arg-address.ensures) at c.write.ensures in
     written
     ∙ ap (λ cells. record m { state = record m.state { cells = cells } })
     (sym (writes_last values m.state.cells before last)
