@@ -12,6 +12,7 @@ use Rattle.amx_ops.specs.Writable.{memory_limit}
 use Rattle.amx_ops.proofs.CellLaws.{bits_fit, cell_of_cell, small_cell}
 use Rattle.amx_effects.specs.declared.host.Registers.{Registers}
 use Rattle.amx_effects.specs.Hosting.{AreInOrder, registers_of, cleared}
+use Rattle.amx_effects.specs.Machine.{cell_count}
 use Rattle.amx_format.specs.Numbers.{word_at, cells_at}
 use Rattle.amx_machine.specs.declared.mode.Mode.{Mode}
 use Rattle.amx_machine.specs.Machine.{Machine}
@@ -234,20 +235,20 @@ module _ (amx : Amx) (old : State) (version : Version) (digest bytes : List ℕ)
 
 pub is_image_for : (m : Machine) (version : Version) (digest bytes : List ℕ) (i : IsSound m.amx (length m.state.cells) version digest bytes)
     → 4 * length m.state.cells ≤ memory_limit
-    → IsImageFor m digest bytes (last_state m.amx m.state version digest bytes i) (word_at bytes POSITION)
-is_image_for m version digest bytes i small = record {
+    → length m.state.cells ≡ cell_count m.amx → IsImageFor m.amx digest bytes (last_state m.amx m.state version digest bytes i) (word_at bytes POSITION)
+is_image_for m version digest bytes i small many = record {
   version = version;
   image = image m.amx m.state version digest bytes i;
   restorable = restorable m.amx m.state version digest bytes i small;
-  count = state_size m.amx m.state version digest bytes i;
+  count = state_size m.amx m.state version digest bytes i ∙ many;
 }
 
 -- bytes with a fault are no image
-pub faulty : (m : Machine) (digest bytes : List ℕ) (fault : ImageFault) → first_fault m.amx (length m.state.cells) digest bytes ≡ Some fault
-    → HasNoImage m digest bytes
-faulty m digest bytes fault e s position it =
-    let none : first_fault m.amx (length m.state.cells) digest bytes ≡ None =
-    ap (λ c. first_fault m.amx c digest bytes) (sym it.count) ∙ image_has_no_fault m.amx it.version s position digest bytes it.image it.restorable in
+pub faulty : (amx : Amx) (digest bytes : List ℕ) (fault : ImageFault) → first_fault amx (cell_count amx) digest bytes ≡ Some fault
+    → HasNoImage amx digest bytes
+faulty amx digest bytes fault e s position it =
+    let none : first_fault amx (cell_count amx) digest bytes ≡ None =
+    ap (λ c. first_fault amx c digest bytes) (sym it.count) ∙ image_has_no_fault amx it.version s position digest bytes it.image it.restorable in
     let no : ⊥ = cc in no
 
 -- ---- what the tests told, of the machine

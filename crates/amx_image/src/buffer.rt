@@ -1,5 +1,6 @@
 ghost use Rattle.std.specs.Prelude.{◌≡◌, ◌≤◌, ◌+◌, ◌*◌, ◌++◌, [], All, IfOk, length};
 ghost use Rattle.pawn_cells.specs.Cells.{IsCell};
+ghost use Rattle.amx_effects.specs.Machine.{cell_count};
 ghost use Rattle.amx_format.specs.Layout.{half, word, cells};
 
 use super::place::CELLS;
@@ -30,6 +31,7 @@ impl Model for ImageBuffer {
 pub fn cells_of(machine: &Machine) -> u32
     ensures count { result ≡ length machine.now.state.cells }
     ensures few { length machine.now.state.cells ≤ 33554432 }
+    ensures file { length machine.now.state.cells ≡ cell_count machine.now.amx }
 {
     let stk = machine.registers().stk;
     stk.cast_unsigned() / 4 + machine.live_from(stk).len() as u32

@@ -9,3 +9,5 @@ mod files;
 mod refused;
 #[cfg(test)]
 mod saved;
+#[cfg(test)]
+mod sleeps;

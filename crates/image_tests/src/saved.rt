@@ -68,7 +68,7 @@ fn goes_on(alloc: Global, in_whole: bool) -> Option<(usize, i32, i32)> {
 }
 
 /// How a machine goes on from an image.
-fn end_from(alloc: Global, verified: &Verified, bytes: &[u8]) -> Option<i32> {
+pub fn end_from(alloc: Global, verified: &Verified, bytes: &[u8]) -> Option<i32> {
     let mut machine = Machine::load(alloc, verified).ok()?;
     set_to(&mut machine, verified, bytes)?;
     Some(end_of(&mut machine))

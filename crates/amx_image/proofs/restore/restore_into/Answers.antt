@@ -7,6 +7,7 @@ use Rattle.amx_machine.specs.declared.mode.Mode.TheVariants.{Asleep}
 use Rattle.amx_image.specs.declared.place.TheConstants.{CELLS}
 use Rattle.amx_image.specs.Examined.{stack_place}
 use Rattle.amx_image.specs.Image.{registers_at}
+use Rattle.amx_image.specs.Faults.{first_fault}
 use Rattle.amx_image.specs.Restored.{IsImageFor}
 use Rattle.amx_image.specs.Rows.{IsLiveRow, with_row}
 use Rattle.amx_image.proofs.RestoreLaws.{told, sound_for, in_order, heap_is_live, stack_is_live, long_enough, first_state, last_state, is_image_for, faulty, same_machine}
@@ -16,8 +17,9 @@ pub returns-in_err-version : goal.returns-in_err-version
 returns-in_err-version c =
     let a = c.args in
     let m = a.machine.now in
-    let e = told m a.verified.now c.cells_of-count.result a.digest.now a.bytes.now c.requires c.cells_of-count.ensures.count ∙ c.in_err-version.ensures.fault in
-    let none = faulty m a.digest.now a.bytes.now c.in_err-version.field-0.0 e in
+    let file = sym (ap (λ n. first_fault m.amx n a.digest.now a.bytes.now) c.cells_of-count.ensures.file) in
+    let e = file ∙ told m a.verified.now c.cells_of-count.result a.digest.now a.bytes.now c.requires c.cells_of-count.ensures.count ∙ c.in_err-version.ensures.fault in
+    let none = faulty m.amx a.digest.now a.bytes.now c.in_err-version.field-0.0 e in
     search (rules, e, none)
 
 pub read_registers-registers-requires : goal.read_registers-registers-requires
@@ -145,10 +147,10 @@ returns c =
     ∙ ap (λ p. with_row first (bits_of r.stk) (cells_at bytes p (c.cells_of-count.result - bits_of r.stk / 4))) place
     ∙ ap (λ n. with_row first (bits_of r.stk) (cells_at bytes (stack_place v.version (bits_of r.hea) (bits_of r.stk)) (n - bits_of r.stk / 4))) c.cells_of-count.ensures.count in
     let small : 4 * length m.state.cells ≤ memory_limit = omega (arith, c.cells_of-count.ensures.few) in
-    let image = is_image_for m v.version a.digest.now bytes i small in
+    let image = is_image_for m v.version a.digest.now bytes i small c.cells_of-count.ensures.file in
     let amx = ap (λ q. q.amx) c.put_row-2.ensures ∙ ap (λ q. q.amx) c.put_row.ensures ∙ ap (λ q. q.amx) c.set_asleep.ensures in
     let mode = ap (λ q. q.mode) c.put_row-2.ensures ∙ ap (λ q. q.mode) c.put_row.ensures ∙ ap (λ q. q.mode) c.set_asleep.ensures in (
-      subst (λ s. IsImageFor m a.digest.now bytes s c.read_word.result) (sym last_is)
-          (subst (λ p. IsImageFor m a.digest.now bytes last p) (sym c.read_word.ensures.word) image),
+      subst (λ s. IsImageFor m.amx a.digest.now bytes s c.read_word.result) (sym last_is)
+          (subst (λ p. IsImageFor m.amx a.digest.now bytes last p) (sym c.read_word.ensures.word) image),
       same_machine c.put_row-2.new.machine m Asleep amx mode,
     )
