@@ -1,0 +1,12 @@
+pub mod SwitchNodes
+pub mod TableLaws
+pub mod ArrayNodes
+pub mod FilledLaws
+pub mod TakenLaws
+pub mod EndLaws
+pub mod FreshLaws
+pub mod StmtNodes
+pub mod FitsLaws
+pub mod StmtWeights
+pub mod StmtWells
+pub mod WellLaws

@@ -1,0 +1,9 @@
+pub mod SwitchCode
+pub mod SwitchFlow
+pub mod MadeCode
+pub mod ClosedCode
+pub mod Fresh
+pub mod StmtCode
+pub mod StmtMeans
+pub mod StmtFits
+pub mod Well
