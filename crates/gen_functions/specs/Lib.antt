@@ -1,0 +1,3 @@
+pub mod BodyCode
+pub mod RouteCode
+pub mod FunctionCode
