@@ -1,0 +1,3 @@
+pub mod LinkLaws
+pub mod TagLaws
+pub mod ChainLaws

@@ -1,0 +1,21 @@
+-- Arguments, as the rules of calls see them.
+use Rattle.pawn_program.specs.View.{array_view, arg_view}
+use Rattle.pawn_calls.specs.Given as plain
+use Rattle.pawn_calls.specs.Filling as filling
+use Rattle.check_given.specs.declared.given.Argued.{Argued}
+use Rattle.check_given.specs.declared.given.Given.{Given}
+use Rattle.check_given.specs.declared.given.Passed.{Passed}
+
+abbrev pub argued_view : Argued → filling.Argued
+argued_view it = record { code = arg_view it.code; size = it.size; tag = it.tag }
+
+abbrev pub given_view : Given → plain.Given
+given_view it = record {
+  code = arg_view it.argued.code;
+  size = it.argued.size;
+  tag = it.argued.tag;
+  warned = it.made.warned;
+}
+
+abbrev pub passed_view : Passed → plain.Passed
+passed_view it = record { array = array_view it.array; size = it.size }
