@@ -1,0 +1,45 @@
+-- Bytes that are a script, and what keeps bytes from being one.
+use Rattle.std.specs.Prelude.{◌≡◌, ◌≢◌, ◌⊎◌, ℕ, List, Option, None, Some, Result, Ok, Err}
+use Rattle.pawn_outside.specs.Held.{Held}
+use Rattle.host_script.specs.declared.script.Script.{Script}
+use Rattle.script_reader.specs.declared.fault.Field.{Field}
+use Rattle.script_reader.specs.declared.fault.ScriptFault.{ScriptFault}
+use Rattle.script_reader.specs.declared.fault.ScriptFault.TheVariants.{Json, Shape, Range, Memory}
+use Rattle.script_reader.specs.Reading.{ReadsScript, number_of}
+use Rattle.pawn_words.specs.declared.stop.Stop.{Stop}
+use Rattle.pawn_words.specs.declared.stop.Stop.TheVariants.{NoScript, BadScript, NoMemory}
+use Rattle.pawn_files.specs.Unread.{IsRead, Unread}
+use Rattle.command_parts.specs.declared.script.TheConstants.{SCRIPT_LIMIT}
+
+abbrev pub IsScriptOf : List ℕ → Script → Type 0
+IsScriptOf bytes script = ReadsScript bytes (Ok script)
+
+-- the stop at a field, with the number of what is wrong there
+abbrev pub field_stop : Option ℕ → Field → Stop
+field_stop (Some kind) field = BadScript kind field
+field_stop None field = NoMemory
+
+-- the stop at a fault
+abbrev pub stop_at : ScriptFault → Stop
+stop_at Json = NoScript
+stop_at (Shape field) = field_stop (number_of (Shape field)) field
+stop_at (Range field) = field_stop (number_of (Range field)) field
+stop_at Memory = NoMemory
+
+-- they are none, for a fault that they have
+pub record IsNoScript (bytes : List ℕ) (stop : Stop) : Type 0 where
+  pub fault : ScriptFault
+  pub has : ReadsScript bytes (Err fault)
+  pub refused : fault ≢ Memory
+  pub stop_is : stop ≡ stop_at fault
+
+-- what reading a script answers
+abbrev pub IsScriptRead : List ℕ → Result Script Stop → Type 0
+IsScriptRead bytes (Ok script) = IsScriptOf bytes script
+IsScriptRead bytes (Err stop) = (stop ≡ NoMemory) ⊎ IsNoScript bytes stop
+
+-- the same by its name
+abbrev pub IsScriptNamed : Option Held → List ℕ → Result Script Stop → Type 0
+IsScriptNamed held name (Ok script) = IsRead held name SCRIPT_LIMIT (λ bytes. IsScriptOf bytes script)
+IsScriptNamed held name (Err stop) =
+    Unread held name SCRIPT_LIMIT stop ⊎ IsRead held name SCRIPT_LIMIT (λ bytes. IsNoScript bytes stop)

@@ -1,0 +1,3 @@
+pub mod ImageLine
+pub mod Restored
+pub mod Resumes

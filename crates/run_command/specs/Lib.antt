@@ -1,0 +1,5 @@
+pub mod Entry
+pub mod Finishes
+pub mod Prepared
+pub mod Ready
+pub mod Runs
