@@ -1,12 +1,12 @@
 -- The file of a source: it can be written, has its room and a main, and by its agreement with the source's
 -- program its run ends as that does.
-use Rattle.std.proofs.Common.{◌≡◌, ◌≢◌, inl, ◌+◌, ◌*◌, ◌≤◌, ℕ, pos, negsuc, List, [], ◌∷◌, None, Some, if◌then◌else◌, length, map, refl, ap, subst, ◌∙◌, arith}
+use Rattle.std.proofs.Common.{◌≡◌, ◌≢◌, inl, ◌+◌, ◌*◌, ◌≤◌, ℕ, pos, negsuc, List, [], ◌∷◌, None, Some, if◌then◌else◌, length, refl, ap, subst, ◌∙◌, arith}
 use Rattle.std.proofs.lemmas.Bool.{false_from_ne_true}
 use Rattle.std.proofs.lemmas.Bool.Decides.{Decides-int_eq}
 use Rattle.pawn_cells.specs.Cells.{equal}
 use Rattle.host_script.specs.Script.{plain}
 use Rattle.host_script.proofs.PlainLaws.{plain_is_script}
-use Rattle.pawn_program.specs.Program.{Program, Public}
+use Rattle.pawn_program.specs.Program.{Program}
 use Rattle.pawn_meaning.specs.Told.{Told, meaning}
 use Rattle.amx_ops.specs.declared.amx.Amx.{Amx}
 use Rattle.amx_ops.specs.Writable.{IsWritable}
@@ -18,10 +18,10 @@ use Rattle.gen_agrees.proofs.GivesLaws.{what_agreement_gives_lem}
 use Rattle.straight_source.specs.EndsSoon.{EndsSoon}
 use Rattle.straight_source.proofs.EndsSoonLaws.{sources_end_soon_lem}
 use Rattle.pawn_cli.specs.Compiled.{HasFile}
-use Rattle.pawn_cli.specs.Reply.{step_limit}
+use Rattle.pawn_words.specs.declared.options.TheConstants.{DEFAULT_STEPS}
 
 -- code of few cells needs few steps where there is no turn
-few_steps : (cells turns : ℕ) → cells ≤ 1600122 → turns ≡ 0 → cells * (turns + 1) ≤ step_limit
+few_steps : (cells turns : ℕ) → cells ≤ 1600122 → turns ≡ 0 → cells * (turns + 1) ≤ DEFAULT_STEPS
 few_steps cells turns few none = rw none (omega (arith, few))
 
 module _ {source : List ℕ} {amx : Amx} (it : HasFile source amx) where
@@ -37,7 +37,7 @@ module _ {source : List ℕ} {amx : Amx} (it : HasFile source amx) where
       it.agrees.shape.room ∙ ap (λ (p : Program). p.dynamic) it.means.program_is in
       cc
 
-  has_main : amx.entry ≢ negsuc 0
+  pub has_main : amx.entry ≢ negsuc 0
   has_main = subst (λ entry. HasEntry entry amx.entry) main_entry it.agrees.shape.entry
 
   pub main_address : address_of amx Main ≡ Some amx.entry
@@ -50,14 +50,14 @@ module _ {source : List ℕ} {amx : Amx} (it : HasFile source amx) where
   abbrev told : Told
   told = meaning it.program plain 0 0
 
-  within : IsRoom amx 4096
-  within = omega (arith, writable.memory, room_is)
+  within : IsRoom amx amx.room
+  within = omega (arith, writable.memory)
 
-  enough : HasEnough told soon.end (length amx.code) 4096 (step_limit ∷ [])
+  enough : HasEnough told soon.end (length amx.code) amx.room (DEFAULT_STEPS ∷ [])
   enough = record {
     ended = soon.ended;
     astray = soon.astray;
-    room_enough = omega (arith, soon.peak);
+    room_enough = omega (arith, soon.peak, room_is);
     bounds_enough = (
       few_steps (length amx.code) told.turns (omega (arith, it.agrees.shape.code, soon.light)) soon.turns,
       tt,
@@ -65,6 +65,6 @@ module _ {source : List ℕ} {amx : Amx} (it : HasFile source amx) where
     sleeps = omega (arith, soon.sleeps);
   }
 
-  pub ends : EndsAs told soon.end (trace_from amx 4096 plain amx.entry step_limit [])
-  ends = what_agreement_gives_lem it.program amx it.agrees plain 4096 Main 0 amx.entry step_limit []
+  pub ends : EndsAs told soon.end (trace_from amx amx.room plain amx.entry DEFAULT_STEPS [])
+  ends = what_agreement_gives_lem it.program amx it.agrees plain amx.room Main 0 amx.entry DEFAULT_STEPS []
       plain_is_script (inl refl) within main_entry main_address 0 soon.end enough

@@ -1,60 +1,78 @@
--- A run that was told of, and its text.
-use Rattle.std.proofs.Common.{◌≡◌, ◌∙◌, ◌⊎◌, inl, inr, ◌++◌, ℕ, List, [], Ok, Err, sym, ap, ap₂, subst, append_assoc}
-use Rattle.std.proofs.lemmas.Grind.{flat_map-append}
+-- The text of a run, when its session has told what it tells.
+use Rattle.std.proofs.Common.{◌≡◌, ◌≢◌, ◌∙◌, ◌++◌, ℕ, List, [], Option, Ok, Err, codes, refl, sym, ap, subst, append-nil}
+use Rattle.pawn_outside.specs.Said.{Said}
 use Rattle.pawn_outside.specs.declared.fault.SinkFault.{SinkFault}
+use Rattle.pawn_outside.proofs.SaidLaws.{said_as, said_cut, said_then}
 use Rattle.host_script.specs.declared.event.End.{End}
-use Rattle.host_script.specs.Text.{event_text, end_text}
-use Rattle.host_script.specs.Script.{plain}
-use Rattle.amx_ops.specs.declared.amx.Amx.{Amx}
-use Rattle.amx_ops.specs.State.{State}
-use Rattle.amx_ops.specs.Moves.{Config, move}
-use Rattle.amx_ops.specs.Runs.{segment, Over_by}
-use Rattle.amx_ops.specs.Runs as run
-use Rattle.pawn_cli.specs.declared.run.Stop.{Stop}
-use Rattle.pawn_cli.specs.declared.run.Stop.TheVariants as stop
-use Rattle.pawn_cli.specs.Advance.{RunsTo, text_of}
-use Rattle.pawn_cli.specs.Reply.{step_limit}
-use Rattle.pawn_cli.specs.RunText.{run_of, run_text, stop_text, RunsOver}
+use Rattle.host_run.specs.Segments.{lines_of, stop_text}
+use Rattle.amx_ops.specs.Moves.{Config}
+use Rattle.amx_ops.specs.Runs.{Traced, Stop, Steps, Asleep, Over_by}
+use Rattle.host_run.specs.Session.{told}
+use Rattle.host_run.specs.declared.end.SessionEnd.{SessionEnd}
+use Rattle.host_run.specs.declared.end.SessionEnd.TheVariants as session
+use Rattle.pawn_words.specs.declared.status.Status.{Status}
+use Rattle.pawn_words.specs.declared.status.Status.TheVariants as status
+use Rattle.pawn_cli.specs.Played.{IsPlayed, played_text, run_text, status_of_session, end_line, status_of_stop, Finishes}
+use Rattle.pawn_cli.specs.Told.{Said as Told, status_told}
 
-abbrev first : State → Config
-first state = record { state = state; position = 0; events = [] }
+-- what a session left out of the text
+left_out : (lines : List ℕ) (s : Stop End) → (more : List ℕ) × ((lines ++ stop_text s) ++ more ≡ lines ++ end_line s)
+left_out lines Steps = (codes "steps\n", ap (λ t. t ++ codes "steps\n") (append-nil lines))
+left_out lines Asleep = ([], append-nil (lines ++ []))
+left_out lines (Over_by e) = ([], append-nil (lines ++ stop_text (Over_by e)))
 
-steps_no : (end : End) → run.Steps ≡ Over_by end → ⊥
-steps_no end e = absurd (cc e)
+module _ {S : Type 0} {taken : S → Option (List ℕ)} {faults : S → ℕ} {has_room : S → ℕ → Type 0} (t : Traced Config End) (begun out : S) where
+  -- all was told, and why it stopped
+  finished : {s : Stop End} {answer : Status} → t.stop ≡ s → stop_text s ≡ end_line s → answer ≡ status_of_stop s
+      → Said taken faults has_room begun out (played_text t) (Ok tt) → Finishes t (λ text told. Said taken faults has_room begun out text told) answer
+  finished e same is said =
+      let all : played_text t ≡ run_text t =
+      ap (λ s. lines_of t.config.events ++ s) (ap stop_text e ∙ same ∙ ap end_line (sym e)) in
+      record { told = Ok tt; written = said_as all said; is = is ∙ ap status_of_stop (sym e) }
 
-asleep_no : (end : End) → run.Asleep ≡ Over_by end → ⊥
-asleep_no end e = absurd (cc e)
+  -- the sink failed
+  cut_short : (fault : SinkFault) → Said taken faults has_room begun out (played_text t) (Err fault)
+      → Finishes t (λ text told. Said taken faults has_room begun out text told) status.SinkFault
+  cut_short fault said =
+      let more = left_out (lines_of t.config.events) t.stop in
+      record { told = Err fault; written = said_as more.1 (said_cut more.0 (Err fault) refl said); is = refl }
 
-module _ (amx : Amx) (state : State) {new : State} {said : List ℕ → Type 0} where
-  -- it is over: what was said, then the end
-  pub over_text : {s : Stop} (end : End) → s ≡ stop.Over end → RunsTo (λ c. segment (move amx plain) step_limit 0 (record c { state = state })) new (Ok s) said
-      → (a : List ℕ) × said a × (a ++ end_text end ≡ run_text amx state)
-  over_text end is before =
-      let ran = subst (λ s. RunsTo (λ c. segment (move amx plain) step_limit 0 (record c { state = state })) new (Ok s) said) is before in
-      let told = ran.segments (first state) in
-      (text_of ran.shown, ran.text, ap₂ (λ a b. text_of a ++ b) (sym (ap (λ it. it.events) told.1)) (ap stop_text (sym told.0)))
+  whole_by : (given : SessionEnd) (answer : Status) → given ≢ session.Steps → answer ≡ status_of_session given → IsPlayed t given
+      → Said taken faults has_room begun out (played_text t) (told given)
+      → Finishes t (λ text told. Said taken faults has_room begun out text told) answer
+  whole_by (session.Done value) answer ne is it said = finished it refl is said
+  whole_by (session.Exit value tag) answer ne is it said = finished it refl is said
+  whole_by (session.Error code) answer ne is it said = finished it refl is said
+  whole_by (session.Asleep value tag) answer ne is it said = finished it refl is said
+  whole_by session.Steps answer ne is it said = absurd (ne refl)
+  whole_by session.SinkFault answer ne is it said =
+      let P : Status → Type 0 = Finishes t (λ text told. Said taken faults has_room begun out text told) in
+      subst P (sym is) (cut_short (record {}) said)
 
-  -- the sink failed: what was said is a front of the text
-  pub front_text : (fault : SinkFault) (ran : RunsTo (λ c. segment (move amx plain) step_limit 0 (record c { state = state })) new (Err fault) said)
-      → (more : List ℕ) × (text_of ran.shown ++ more ≡ run_text amx state)
-  front_text fault ran =
-      let told = ran.segments (first state) in
-      let rest = text_of told.0 ++ stop_text (run_of amx state).stop in (
-        rest,
-        sym (append_assoc (text_of ran.shown) (text_of told.0) (stop_text (run_of amx state).stop))
-            ∙ ap (λ t. t ++ stop_text (run_of amx state).stop) (sym (flat_map-append event_text ran.shown told.0) ∙ ap text_of (sym told.1)),
-      )
+  -- a session that has told all that it can
+  pub whole : (end given : SessionEnd) (answer : Status) → end ≡ given → given ≢ session.Steps → answer ≡ status_of_session given
+      → IsPlayed t end → Said taken faults has_room begun out (played_text t) (told end)
+      → Finishes t (λ text told. Said taken faults has_room begun out text told) answer
+  whole end given answer e ne is it said =
+      let P : SessionEnd → Type 0 = IsPlayed t in
+      let Q : SessionEnd → Type 0 = λ s. Said taken faults has_room begun out (played_text t) (told s) in
+      whole_by given answer ne is (subst P e it) (subst Q e said)
 
-  over_then : {s : Stop} (end : End) → (run_of amx state).stop ≡ Over_by end → (s ≡ stop.Steps) ⊎ (s ≡ stop.Asleep)
-      → RunsTo (λ c. segment (move amx plain) step_limit 0 (record c { state = state })) new (Ok s) said → ⊥
-  over_then end over (inl is) before =
-      let ran = subst (λ s. RunsTo (λ c. segment (move amx plain) step_limit 0 (record c { state = state })) new (Ok s) said) is before in
-      steps_no end (sym (ran.segments (first state)).0 ∙ over)
-  over_then end over (inr is) before =
-      let ran = subst (λ s. RunsTo (λ c. segment (move amx plain) step_limit 0 (record c { state = state })) new (Ok s) said) is before in
-      asleep_no end (sym (ran.segments (first state)).0 ∙ over)
-
-  -- a run that comes to an end stops nowhere else
-  pub must_be_over : {s : Stop} → RunsOver amx state → (s ≡ stop.Steps) ⊎ (s ≡ stop.Asleep)
-      → RunsTo (λ c. segment (move amx plain) step_limit 0 (record c { state = state })) new (Ok s) said → ⊥
-  must_be_over over is ran = over_then over.0 over.1 is ran
+  -- one whose bound was used up, behind which its line follows
+  pub used_up : (new : S) (end : SessionEnd) (line : Told) (answer : Status) → end ≡ session.Steps → answer ≡ status_told status.Steps line
+      → IsPlayed t end → Said taken faults has_room begun out (played_text t) (told end)
+      → Said taken faults has_room out new (codes "steps\n") line
+      → Finishes t (λ text told. Said taken faults has_room begun new text told) answer
+  used_up new end line answer same is it said written =
+      let P : SessionEnd → Type 0 = IsPlayed t in
+      let Q : SessionEnd → Type 0 = λ s. Said taken faults has_room begun out (played_text t) (told s) in
+      let e : t.stop ≡ Steps = subst P same it in
+      let all : played_text t ++ codes "steps\n" ≡ run_text t =
+      ap (λ s. (lines_of t.config.events ++ stop_text s) ++ codes "steps\n") e
+      ∙ ap (λ x. x ++ codes "steps\n") (append-nil (lines_of t.config.events))
+      ∙ ap (λ s. lines_of t.config.events ++ end_line s) (sym e) in
+      record {
+        told = line;
+        written = said_as all (said_then (subst Q same said) written);
+        is = is ∙ ap (λ s. status_told (status_of_stop s) line) (sym e);
+      }

@@ -1,29 +1,43 @@
--- A file that was compiled and put, and a machine at its start.
-use Rattle.std.specs.Prelude.{◌≡◌, ℕ, List, [], Some, Result, Ok, Err}
+-- A machine that is ready to be started: its entry is there, and its natives are served; or why it
+-- isn't.
+use Rattle.std.specs.Prelude.{◌≡◌, ◌⊎◌, ℕ, ℤ, List, None, Some, Result, Ok, Err}
+use Rattle.host_script.specs.declared.script.Script.{Script}
 use Rattle.amx_ops.specs.declared.amx.Amx.{Amx}
-use Rattle.amx_ops.specs.State.{State}
-use Rattle.amx_ops.specs.Trace.{loaded, start_at}
-use Rattle.pawn_outside.specs.Held.{with_put}
-use Rattle.amx_format.specs.File.{IsFile}
-use Rattle.pawn_cli.specs.declared.stop.StopEarly.{StopEarly}
-use Rattle.pawn_cli.specs.Command.{Command}
-use Rattle.pawn_cli.specs.Compiled.{HasFile}
-use Rattle.pawn_cli.specs.Reply.{Met, Reads, Reply}
-use Rattle.pawn_cli.specs.Stopped.{status_of, line_of}
+use Rattle.amx_ops.specs.Moves.{name_of}
+use Rattle.amx_machine.specs.Machine.{first}
+use Rattle.amx_ops.specs.declared.amx.Record.{Record}
+use Rattle.host_run.specs.declared.bound.BindFault.{BindFault}
+use Rattle.host_run.specs.declared.bound.BindFault.TheVariants as bind
+use Rattle.host_run.specs.Bound.{bound_of, unserved}
+use Rattle.pawn_files.specs.Unread.{IsStopOf}
+use Rattle.pawn_words.specs.declared.stop.Stop.{Stop}
+use Rattle.pawn_words.specs.declared.stop.Stop.TheVariants.{NoEntry, Unregistered, NoMemory}
+use Rattle.pawn_cli.specs.declared.ready.Ready.{Ready}
+use Rattle.pawn_cli.specs.Entry.{entry_named}
 
--- the file's bytes are put, and the machine stands at its main
-pub record IsReady (command : Command) (met : Met) (amx : Amx) (state : State) : Type 0 where
-  pub source : List ℕ
-  pub reads : Reads command met source
-  pub compiled : HasFile source amx
-  pub bytes : List ℕ
-  pub file : IsFile bytes amx
-  pub puts : met.after ≡ with_put met.held command.amx bytes
-  pub starts : start_at amx amx.entry [] (loaded amx 4096) ≡ Some state
+-- a file's machine before any start, its natives bound to a script, and the number of the entry
+-- with a name
+pub record IsReady (amx : Amx) (script : Script) (name : List ℕ) (ready : Ready) : Type 0 where
+  pub entry : entry_named amx name ≡ Some ready.entry
+  pub served : unserved script amx.natives ≡ None
+  pub bound : ready.bound ≡ bound_of script amx.natives
+  pub machine : ready.machine ≡ first amx
 
--- what stops early replies
-abbrev pub IsPrepared : {T : Type 0} → (T → Amx) → (T → State) → Command → Met
-    → Result T StopEarly → Type 0
-IsPrepared amx state command met (Ok ready) = IsReady command met (amx ready) (state ready)
-IsPrepared amx state command met (Err stop) =
-    Reply (Some command) met (status_of stop) (line_of stop command.source)
+-- the entry isn't there; or it is, and the script doesn't serve a native, the first one of which is
+-- told
+pub data NotReady (amx : Amx) (script : Script) (name : List ℕ) : Stop → Type 0 where
+  no_entry : entry_named amx name ≡ None → NotReady amx script name (NoEntry name)
+  unregistered : (entry : ℤ) (number : ℕ) → entry_named amx name ≡ Some entry
+      → unserved script amx.natives ≡ Some number
+      → NotReady amx script name (Unregistered (name_of amx.natives number))
+
+-- the stop at natives that aren't bound, or want of memory
+abbrev pub NotServed : List Record → BindFault → Stop → Type 0
+NotServed natives (bind.Unregistered number) stop =
+    IsStopOf (Unregistered (name_of natives number)) stop
+NotServed natives bind.Memory stop = stop ≡ NoMemory
+
+-- what making one ready answers
+abbrev pub Readies : Amx → Script → List ℕ → Result Ready Stop → Type 0
+Readies amx script name (Ok ready) = IsReady amx script name ready
+Readies amx script name (Err stop) = (stop ≡ NoMemory) ⊎ NotReady amx script name stop

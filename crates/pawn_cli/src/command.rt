@@ -1,20 +1,21 @@
-ghost use Rattle.std.specs.Prelude.{◌≡◌, map, Some};
+ghost use Rattle.std.specs.Prelude.{◌≡◌, map, option_and_then};
 ghost use Rattle.std.specs.String.{string_bytes};
 ghost use Rattle.pawn_outside.specs.Said.{Said};
-ghost use Rattle.pawn_cli.specs.Ends.{Ends, Answers, status_told};
-ghost use Rattle.pawn_cli.specs.RunText.{RunsOver, run_text};
+ghost use Rattle.pawn_words.specs.Command.{command_of};
+ghost use Rattle.pawn_cli.specs.Calls.{Calls};
+ghost use Rattle.pawn_cli.specs.Ends.{Ends};
+ghost use Rattle.pawn_cli.specs.Causes.{words_stop};
+ghost use Rattle.pawn_cli.specs.Served.{served, is_plain_go, go_if};
 
-use super::go::{Ready, prepare};
-use super::run::Stop;
-use super::session::run;
-use super::status::Status;
-use super::words::{Go, read_words};
-use host_script::say_end;
-use pawn_outside::{Files, Sink, SinkFault, say};
+use super::go::go;
+use super::list::list;
+use super::told::tell_stop;
+use super::verify::verify;
+use pawn_outside::{Files, Sink};
+use pawn_words::{
+    Command, DEFAULT_SLEEPS, DEFAULT_STEPS, Name, Status, Stop, WordsFault, read_words,
+};
 use std::alloc::Global;
-
-/// The most steps of a run.
-const STEP_LIMIT: u32 = 10_000_000;
 
 /// Does what the words behind the program's name say, over any files and any sink.
 pub fn pawn<F: Files, S: Sink>(
@@ -23,70 +24,73 @@ pub fn pawn<F: Files, S: Sink>(
     files: &mut F,
     out: &mut S,
 ) -> Status
-    ensures { Answers (map string_bytes words.now)
-        (record {
-          held = F.held files.old;
-          after = F.held files.new;
-          faults = F.faults files.old;
-          faults_after = F.faults files.new;
-        })
-        (record {
-          taken = S.taken out.old;
-          after = S.taken out.new;
-          faults = S.faults out.old;
-          faults_after = S.faults out.new;
-        }) result }
+    ensures answer { Ends (option_and_then served (command_of (map string_bytes words.now)))
+        (F.held files.old) (F.held files.new)
+        (λ text said. Said S.taken S.faults S.has_room out.old out.new text said) result }
+    ensures calls { Calls F.faults F.never_fails files.old files.new (result ≡ Status.FileFault) }
 {
-    match read_words(words) {
-        None => told(Status::BadWords, say(out, &[b"bad words\n"])),
-        Some(go) => do_go(alloc, go, files, out),
+    match read_words(alloc, words) {
+        Ok(command) => serve(alloc, command, files, out),
+        Err(fault) => tell_stop(stop_of(fault), out),
     }
 }
 
-/// Compiles, puts and runs.
-fn do_go<F: Files, S: Sink>(alloc: Global, go: Go<'_>, files: &mut F, out: &mut S) -> Status
-    ensures { Ends (Some (record { source = go.entry.source.now; amx = go.entry.amx.now }))
-        (record {
-          held = F.held files.old;
-          after = F.held files.new;
-          faults = F.faults files.old;
-          faults_after = F.faults files.new;
-        })
-        (record {
-          taken = S.taken out.old;
-          after = S.taken out.new;
-          faults = S.faults out.old;
-          faults_after = S.faults out.new;
-        }) result }
+/// The stop at words that are no command, or want of memory for their names.
+fn stop_of(fault: WordsFault) -> Stop
+    ensures { result ≡ words_stop fault }
 {
-    match prepare(alloc, go, files) {
-        Err(stop) => told(stop.status(), stop.say(out, go.source.as_bytes())),
-        Ok(ready) => told(Status::Ok, finish(ready, out)),
+    match fault {
+        WordsFault::Bad => Stop::BadWords,
+        WordsFault::Memory => Stop::NoMemory,
     }
 }
 
-/// Runs a machine to its end, and writes the trace.
-fn finish<S: Sink>(ready: Ready, out: &mut S) -> Result<(), SinkFault>
-    requires { RunsOver ready.verified ready.machine }
-    ensures { Said S.taken S.faults S.has_room out.old out.new
-        (run_text ready.verified ready.machine) result }
+/// Does a command. Those that aren't built yet are bad words.
+fn serve<F: Files, S: Sink>(alloc: Global, command: Command, files: &mut F, out: &mut S) -> Status
+    ensures answer { Ends (served command) (F.held files.old) (F.held files.new)
+        (λ text said. Said S.taken S.faults S.has_room out.old out.new text said) result }
+    ensures calls { Calls F.faults F.never_fails files.old files.new (result ≡ Status.FileFault) }
 {
-    let Ready {
-        verified,
-        mut machine,
-    } = ready;
-    match run(&mut machine, &verified, STEP_LIMIT, out)? {
-        Stop::Over(end) => say_end(out, end),
-        Stop::Steps | Stop::Asleep => unreachable!(),
+    match command {
+        Command::Verify { amx } => verify(alloc, amx.as_str(), files, out),
+        Command::List { amx } => list(alloc, amx.as_str(), files, out),
+        Command::Go {
+            src,
+            amx,
+            script,
+            steps,
+            sleeps,
+        } => {
+            let is_plain = is_plain_go(&script, steps, sleeps);
+            serve_go(alloc, is_plain, src.as_str(), amx.as_str(), files, out)
+        }
+        Command::Run { .. } => tell_stop(Stop::BadWords, out),
+        Command::Resume { .. } => tell_stop(Stop::BadWords, out),
     }
 }
 
-/// The status to answer, by whether its reply was written.
-fn told(status: Status, said: Result<(), SinkFault>) -> Status
-    ensures { result ≡ status_told status said }
+/// Whether `go` has neither a script nor options but for their defaults.
+fn is_plain_go(script: &Option<Name>, steps: u64, sleeps: u32) -> bool
+    ensures { result ≡ is_plain_go script.now steps sleeps }
 {
-    match said {
-        Ok(()) => status,
-        Err(SinkFault) => Status::SinkFault,
+    script.is_none() && steps == DEFAULT_STEPS && sleeps == DEFAULT_SLEEPS
+}
+
+fn serve_go<F: Files, S: Sink>(
+    alloc: Global,
+    is_plain: bool,
+    src: &str,
+    amx: &str,
+    files: &mut F,
+    out: &mut S,
+) -> Status
+    ensures answer { Ends (go_if is_plain src.now amx.now) (F.held files.old) (F.held files.new)
+        (λ text said. Said S.taken S.faults S.has_room out.old out.new text said) result }
+    ensures calls { Calls F.faults F.never_fails files.old files.new (result ≡ Status.FileFault) }
+{
+    if is_plain {
+        go(alloc, src, amx, files, out)
+    } else {
+        tell_stop(Stop::BadWords, out)
     }
 }

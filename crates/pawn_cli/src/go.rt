@@ -1,109 +1,111 @@
-ghost use Rattle.std.specs.Prelude.{◌≡◌, ◌≤◌, ◌^◌, ℕ, List, length};
-ghost use Rattle.pawn_cli.specs.Put.{IsBytes, IsReadFrom, IsBytesOf, IsPutStop, IsStarted};
-ghost use Rattle.pawn_cli.specs.Ready.{IsPrepared};
+ghost use Rattle.std.specs.Prelude.{◌≡◌, ◌≤◌, ◌^◌, ◌<◌, [], Some, None, Err, length};
+ghost use Rattle.pawn_outside.specs.Said.{Said};
+ghost use Rattle.host_script.specs.Script.{plain};
+ghost use Rattle.pawn_files.specs.Unread.{IsStopOf};
+ghost use Rattle.pawn_cli.specs.Calls.{Calls};
+ghost use Rattle.pawn_cli.specs.Ends.{Ends};
+ghost use Rattle.pawn_cli.specs.Made.{IsBytes, IsPut};
+ghost use Rattle.pawn_cli.specs.Prepared.{IsPrepared};
+ghost use Rattle.pawn_cli.specs.RunsFile.{RunsFile};
 
 use super::compile::compile;
-use super::machine::Machine;
-use super::stop::StopEarly;
-use super::verified::Verified;
-use super::words::Go;
-use amx_format::{Encoding, read, write};
+use super::play::run_file;
+use super::told::tell_stop;
+use amx_format::{Encoding, write};
+use amx_verify::Verified;
+use host_script::plain_script;
 use pawn_base::{Bytes, Memory};
-use pawn_outside::{Files, PutAnswer, ReadAnswer};
+use pawn_files::{SOURCE_LIMIT, read_bytes, valid_file};
+use pawn_outside::{Files, PutAnswer, Sink};
+use pawn_words::{Command, DEFAULT_SLEEPS, DEFAULT_STEPS, MAIN, Status, Stop};
 use std::alloc::Global;
 use straight_source::SourceFault;
 
-/// The most bytes of a source.
-const SOURCE_LIMIT: u64 = 16_777_216;
+/// The number of the refusal of a source that isn't compiled yet.
+const REFUSED: u8 = 72;
 
-/// A verified file, and a machine at its start.
-#[derive(Debug, Drop)]
-pub struct Ready {
-    pub verified: Verified,
-    pub machine: Machine,
-}
-
-/// Compiles a source, puts its file, and starts a machine from the bytes that were put.
-pub fn prepare<F: Files>(alloc: Global, go: Go<'_>, files: &mut F) -> Result<Ready, StopEarly>
-    ensures { IsPrepared (λ ready. ready.verified) (λ ready. ready.machine)
-        (record { source = go.entry.source.now; amx = go.entry.amx.now })
-        (record {
-          held = F.held files.old;
-          after = F.held files.new;
-          faults = F.faults files.old;
-          faults_after = F.faults files.new;
-        }) result }
+/// Compiles a source, puts its file, and runs the bytes that were put.
+pub fn go<F: Files, S: Sink>(
+    alloc: Global,
+    src: &str,
+    amx: &str,
+    files: &mut F,
+    out: &mut S,
+) -> Status
+    ensures answer { let said = Command.Go src.now amx.now None DEFAULT_STEPS DEFAULT_SLEEPS in
+        Ends (Some said) (F.held files.old) (F.held files.new)
+        (λ text said. Said S.taken S.faults S.has_room out.old out.new text said) result }
+    ensures calls { Calls F.faults F.never_fails files.old files.new (result ≡ Status.FileFault) }
 {
-    let source = read_source(alloc, go.source, files)?;
-    let bytes = bytes_of(alloc, source.as_slice())?;
-    put(files, go.amx, bytes.as_slice())?;
-    start(alloc, bytes.as_slice())
-}
-
-/// Reads a source.
-fn read_source<F: Files>(alloc: Global, name: &str, files: &mut F) -> Result<Bytes, StopEarly>
-    ensures same { F.held files.new ≡ F.held files.old }
-    ensures answer { IsReadFrom (F.held files.old) name.now
-        (F.faults files.old) (F.faults files.new) result }
-    ensures later { F.faults files.old ≤ F.faults files.new }
-{
-    match files.read(alloc, name, SOURCE_LIMIT) {
-        ReadAnswer::Got(bytes) => Ok(bytes),
-        ReadAnswer::Missing => Err(StopEarly::NoFile),
-        ReadAnswer::TooLarge => Err(StopEarly::TooLarge),
-        ReadAnswer::Failed => Err(StopEarly::FileFault),
-        ReadAnswer::Memory => Err(StopEarly::NoMemory),
+    match prepare(alloc, src, amx, files) {
+        Err(stop) => tell_stop(stop, out),
+        Ok(file) => run_plain(alloc, &file, out),
     }
 }
 
+/// Compiles a source, puts its file, and verifies the bytes that were put.
+fn prepare<F: Files>(alloc: Global, src: &str, amx: &str, files: &mut F) -> Result<Verified, Stop>
+    ensures answer { IsPrepared src.now amx.now (F.held files.old) (F.held files.new) result }
+    ensures calls { Calls F.faults F.never_fails files.old files.new
+        (result ≡ Err Stop.FileFault) }
+{
+    let source = read_bytes(alloc, src, SOURCE_LIMIT, files)?;
+    let bytes = bytes_of(alloc, src, source.as_slice())?;
+    put(files, amx, bytes.as_slice())?;
+    valid_file(alloc, bytes.as_slice())
+}
+
 /// The bytes of a source's file.
-#[tactic(auto, using(crate::proofs::PrepareLaws::bytes_are))]
-fn bytes_of(alloc: Global, source: &[u8]) -> Result<Bytes, StopEarly>
+#[tactic(auto, using(crate::proofs::MadeLaws::bytes_are, crate::proofs::StopLaws::refused_is))]
+fn bytes_of(alloc: Global, name: &str, source: &[u8]) -> Result<Bytes, Stop>
     requires { length source.now ≤ 2 ^ 30 }
-    ensures { IsBytes source.now result }
+    ensures { IsBytes name.now source.now result }
 {
     match compile(alloc, source) {
-        Err(SourceFault::Refused) => Err(StopEarly::Refused),
-        Err(SourceFault::Memory) => Err(StopEarly::NoMemory),
+        Err(SourceFault::Refused) => Err(refused(alloc, name)),
+        Err(SourceFault::Memory) => Err(Stop::NoMemory),
         Ok(amx) => match write(alloc, &amx, Encoding::Plain) {
-            Err(Memory) => Err(StopEarly::NoMemory),
+            Err(Memory) => Err(Stop::NoMemory),
             Ok(bytes) => Ok(bytes),
         },
     }
 }
 
-/// Puts a file.
-fn put<F: Files>(files: &mut F, name: &str, bytes: &[u8]) -> Result<(), StopEarly>
-    ensures answer { IsPutStop (F.held files.old) (F.held files.new) name.now bytes.now
-        (F.faults files.old) (F.faults files.new) result }
-    ensures later { F.faults files.old ≤ F.faults files.new }
+/// The stop at a source that is refused, or want of memory for its name.
+fn refused(alloc: Global, name: &str) -> Stop
+    ensures { IsStopOf (Stop.Refused REFUSED name.now 1) result }
 {
-    match files.put(name, bytes) {
-        PutAnswer::Kept => Ok(()),
-        PutAnswer::Failed => Err(StopEarly::FileFault),
-        PutAnswer::Memory => Err(StopEarly::NoMemory),
+    match Bytes::from_slice(alloc, name.as_bytes()) {
+        Ok(file) => Stop::Refused {
+            kind: REFUSED,
+            file,
+            line: 1,
+        },
+        Err(Memory) => Stop::NoMemory,
     }
 }
 
-/// Reads a file's bytes, and starts a machine.
-fn start(alloc: Global, bytes: &[u8]) -> Result<Ready, StopEarly>
-    requires { (source : List ℕ) × IsBytesOf source bytes.now }
-    ensures { IsStarted (λ ready. ready.verified) (λ ready. ready.machine) bytes.now result }
+/// Puts a file.
+fn put<F: Files>(files: &mut F, name: &str, bytes: &[u8]) -> Result<(), Stop>
+    ensures answer { IsPut (F.held files.old) (F.held files.new) name.now bytes.now result }
+    ensures calls { Calls F.faults F.never_fails files.old files.new
+        (result ≡ Err Stop.FileFault) }
 {
-    let amx = match read(alloc, bytes) {
-        Ok(amx) => amx,
-        Err(fault) => match fault.number() {
-            None => return Err(StopEarly::NoMemory),
-            Some(_) => unreachable!(),
-        },
-    };
-    let verified = match Verified::new(alloc, amx) {
-        Ok(verified) => verified,
-        Err(Memory) => return Err(StopEarly::NoMemory),
-    };
-    let entry = verified.amx().entry.cast_unsigned();
-    match Machine::start(alloc, verified.amx(), entry) {
-        Ok(machine) => Ok(Ready { verified, machine }),
-        Err(Memory) => Err(StopEarly::NoMemory),
+    match files.put(name, bytes) {
+        PutAnswer::Kept => Ok(()),
+        PutAnswer::Failed => Err(Stop::FileFault),
+        PutAnswer::Memory => Err(Stop::NoMemory),
+    }
+}
+
+/// Runs a file from its main under the plain script, and writes its trace.
+fn run_plain<S: Sink>(alloc: Global, file: &Verified, out: &mut S) -> Status
+    requires { (length file.now.publics < 2 ^ 31) × (length file.now.natives < 2 ^ 31) }
+    ensures { RunsFile file.now plain MAIN DEFAULT_STEPS []
+        (λ text said. Said S.taken S.faults S.has_room out.old out.new text said) result }
+{
+    match plain_script(alloc) {
+        Err(Memory) => tell_stop(Stop::NoMemory, out),
+        Ok(script) => run_file(alloc, file, &script, &MAIN, DEFAULT_STEPS, out),
     }
 }

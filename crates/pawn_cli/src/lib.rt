@@ -1,17 +1,14 @@
-//! The commands: the words, the statuses, and what a command does over any files and any sink. The
-//! verifier and the machine are private modules.
+//! The commands over any files and any sink.
 #![tactic(auto)]
 
 mod command;
 mod compile;
 mod go;
-mod machine;
-mod run;
-mod session;
-mod status;
-mod stop;
-mod verified;
-mod words;
+mod list;
+mod play;
+mod ready;
+mod told;
+mod verify;
 
 pub use command::pawn;
-pub use status::Status;
+pub use pawn_words::Status;

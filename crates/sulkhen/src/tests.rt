@@ -1,3 +1,5 @@
+mod files;
+
 use pawn_cli::{Status, pawn};
 use pawn_outside::{Files, MemoryFiles, MemorySink, ReadAnswer};
 use std::alloc::Global;
@@ -266,6 +268,14 @@ fn files_put(rt: HostRuntime) -> Result<(), Fail> {
     Ok(())
 }
 
+/// Whether the file of a main without statements was put.
+fn is_put(alloc: Global, files: &mut MemoryFiles) -> bool {
+    match files.read(alloc, "s.amx", 1000) {
+        ReadAnswer::Got(bytes) => bytes.as_slice() == EMPTY_FILE.as_slice(),
+        _ => false,
+    }
+}
+
 #[test]
 fn faults(rt: HostRuntime) -> Result<(), Fail> {
     let alloc = rt.alloc();
@@ -281,6 +291,7 @@ fn faults(rt: HostRuntime) -> Result<(), Fail> {
         let got = told(alloc, "go s.p s.amx", &mut files, room)?;
         assert_eq!(rt; got.status, status);
         assert_eq!(rt; got.text.as_str(), text);
+        assert_eq!(rt; is_put(alloc, &mut files), fails == [0]);
     }
     let mut files = MemoryFiles::new(alloc, &[])?;
     let long = Vec::from_elem(alloc, 10, 16_777_217)?;
@@ -296,6 +307,14 @@ fn faults(rt: HostRuntime) -> Result<(), Fail> {
         (Status::TooLarge, 4),
         (Status::FileFault, 5),
         (Status::SinkFault, 6),
+        (Status::Invalid, 7),
+        (Status::BadScript, 8),
+        (Status::BadImage, 9),
+        (Status::NoEntry, 10),
+        (Status::Unregistered, 11),
+        (Status::Ended, 12),
+        (Status::Steps, 13),
+        (Status::Asleep, 14),
         (Status::NoMemory, 15),
     ] {
         assert_eq!(rt; status.number(), number);

@@ -1,0 +1,34 @@
+ghost use Rattle.std.specs.Prelude.{◌≡◌, ◌+◌, ◌≤◌, Some, length};
+ghost use Rattle.pawn_outside.specs.Said.{Said};
+ghost use Rattle.amx_text.specs.Listing.{listing};
+ghost use Rattle.pawn_cli.specs.Calls.{Calls};
+ghost use Rattle.pawn_cli.specs.Ends.{Ends};
+
+use super::told::{tell_stop, told};
+use amx_ops::Amx;
+use pawn_files::read_valid;
+use pawn_outside::{Files, Sink, SinkFault, WriteAnswer};
+use pawn_words::{Command, Status};
+use std::alloc::Global;
+
+/// Reads a file, and writes its listing.
+pub fn list<F: Files, S: Sink>(alloc: Global, amx: &str, files: &mut F, out: &mut S) -> Status
+    ensures answer { Ends (Some (Command.List amx.now)) (F.held files.old) (F.held files.new)
+        (λ text said. Said S.taken S.faults S.has_room out.old out.new text said) result }
+    ensures calls { Calls F.faults F.never_fails files.old files.new (result ≡ Status.FileFault) }
+{
+    match read_valid(alloc, amx, files) {
+        Err(stop) => tell_stop(stop, out),
+        Ok(verified) => told(Status::Ok, say_listing(verified.amx(), out)),
+    }
+}
+
+fn say_listing<S: Sink>(amx: &Amx, out: &mut S) -> Result<(), SinkFault>
+    requires { length amx.now.code + length amx.now.store + amx.now.room ≤ 33554432 }
+    ensures { Said S.taken S.faults S.has_room out.old out.new (listing amx.now) result }
+{
+    match amx_text::list(amx, out) {
+        WriteAnswer::Taken => Ok(()),
+        WriteAnswer::Failed => Err(SinkFault),
+    }
+}
