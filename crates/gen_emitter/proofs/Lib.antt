@@ -1,0 +1,5 @@
+pub mod ArgLaws
+pub mod ChainLaws
+pub mod HoleLaws
+pub mod MeansLaws
+pub mod NodeLaws

@@ -1,0 +1,10 @@
+-- The links of a chain behind its first operand, with what stands behind several of them.
+use Rattle.std.specs.Prelude.{ℕ, List}
+use Rattle.pawn_program.specs.Program.{Links}
+use Rattle.pawn_program.specs.Scope.{Scope}
+use Rattle.gen_steps.specs.Items.{Item, past}
+use Rattle.gen_chains.specs.ChainCode.{fail_at}
+use Rattle.gen_expr.specs.ExprCode.{links_items, linked_with}
+
+abbrev pub chain_items : Scope → ℕ → Links → List Item
+chain_items scope p links = let q = past p (links_items scope p 0 links) in linked_with q links (links_items scope p (fail_at q) links)

@@ -1,0 +1,31 @@
+ghost use Rattle.std.specs.Prelude.{◌≡◌, length, IfOk};
+ghost use Rattle.pawn_program.specs.View.{args_view};
+ghost use Rattle.gen_steps.specs.Results.{temporaries_in};
+
+use pawn_base::Memory;
+use pawn_program::Arg;
+
+/// A number of elements. Where it is too large, no memory holds them.
+pub(crate) fn count_of(n: usize) -> Result<u32, Memory>
+    ensures { IfOk result (λ count. count ≡ n) }
+{
+    if n < 4_294_967_296 {
+        Ok(n as u32)
+    } else {
+        Err(Memory)
+    }
+}
+
+/// How many arguments have a cell of their own.
+#[tactic(auto, using(crate::proofs::ArgLaws::temporaries_more, crate::proofs::ArgLaws::none_temporary))]
+pub(crate) fn temporaries(args: &[Arg]) -> Result<u32, Memory>
+    ensures { IfOk result (λ count. count ≡ temporaries_in (args_view args.now)) }
+{
+    let mut count = 0usize;
+    for arg in args {
+        if matches!(arg, Arg::Temp(_)) {
+            count += 1;
+        }
+    }
+    count_of(count)
+}

@@ -1,0 +1,31 @@
+ghost use Rattle.std.specs.Prelude.{◌≡◌, ◌*◌, length, IfOk};
+ghost use Rattle.pawn_program.specs.ValidExprs.{IsValidExpr};
+ghost use Rattle.pawn_program.specs.View.{expr_view};
+ghost use Rattle.gen_steps.specs.Contract.{Appended};
+ghost use Rattle.gen_expr.specs.ExprCode.{value_items};
+ghost use Rattle.gen_builder.specs.Built.{with_items};
+ghost use Rattle.gen_emit.specs.Standing.{scope_of, Serves};
+
+use super::emit::value;
+use gen_builder::Builder;
+use gen_emit::frame::Frame;
+use gen_forms::code_means;
+use pawn_base::Memory;
+use pawn_program::Expr;
+
+/// Appends the code of an expression, which leaves its value in PRI. Of a valid expression it is
+/// whole instructions without a fault, whose calls wait for their functions' addresses, within the
+/// expression's weight; and in every file of such code it does what the expression means. A node
+/// that names what isn't there, or a number that no cell holds, is answered as want of memory.
+pub fn expression(e: &Expr, frame: &Frame<'_>, b: Builder) -> Result<Builder, Memory>
+    requires { Serves frame.now }
+    ensures code { IfOk result (λ r. r ≡ with_items
+        (value_items (scope_of frame.now) (4 * length b.code) (expr_view e.now)) b) }
+    ensures means { IfOk result (λ r. let scope = scope_of frame.now in
+        IsValidExpr scope (expr_view e.now) → Appended scope (length scope.program.natives)
+        (expr_view e.now) b.code b.waits r.code r.waits) }
+{
+    code_means();
+    let done = value(e, frame, b)?;
+    Ok(done)
+}
