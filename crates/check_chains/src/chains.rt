@@ -74,8 +74,8 @@ fn chain_tag(cx: &Context, left: u32, links: &[Compared]) -> u32
     }
 }
 
-/// A chain so far: the tag of its last operand, its links, the last value and whether all links hold,
-/// where all is constant, and what was made.
+/// A chain so far: the tag of its last operand, its links, the last value and whether all links
+/// hold, where all is constant, and what was made.
 #[derive(Drop)]
 pub struct Begun {
     pub left: u32,
@@ -84,8 +84,8 @@ pub struct Begun {
     pub made: Made,
 }
 
-/// With a warning behind these where the operands of a link fail the test of their tags, which a user
-/// operator asks not.
+/// With a warning behind these where the operands of a link fail the test of their tags, which a
+/// user operator asks not.
 fn test_link(
     cx: &Context,
     made: Made,

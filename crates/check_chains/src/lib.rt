@@ -1,5 +1,5 @@
-//! Chains of comparisons: each link chooses its operator by itself, by the tags of its operand and the one
-//! before it.
+//! Chains of comparisons: each link chooses its operator by itself, by the tags of its operand
+//! and the one before it.
 #![tactic(auto)]
 
 mod chains;

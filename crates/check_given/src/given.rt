@@ -333,8 +333,8 @@ fn rest_place(constant: bool, place: Scalar) -> Arg
     }
 }
 
-/// Variables and elements that aren't constant go by reference, and so do arrays; all else goes in a
-/// cell of its own.
+/// Variables and elements that aren't constant go by reference, and so do arrays; all else goes
+/// in a cell of its own.
 fn rest_arg(form: Form) -> Arg
     ensures { arg_view result ≡ spec.rest_arg (form_view form) }
 {

@@ -1,6 +1,6 @@
-//! The code of a whole program, that it is valid, and that a file which has it, with the program's data
-//! and tables, agrees with the program. There is no code here; a law is the contract of a function
-//! without a body.
+//! The code of a whole program, that it is valid, and that a file which has it, with the
+//! program's data and tables, agrees with the program. There is no code here; a law is the
+//! contract of a function without a body.
 #![tactic(auto)]
 
 mod laws;
