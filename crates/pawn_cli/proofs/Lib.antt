@@ -1,11 +1,2 @@
-pub mod CallLaws
-pub mod CommandLaws
-pub mod EndsLaws
-pub mod FileLaws
-pub mod FinishLaws
-pub mod GoLaws
+pub mod AnswerLaws
 pub mod ListLaws
-pub mod MadeLaws
-pub mod PlayLaws
-pub mod ReadyLaws
-pub mod StopLaws

@@ -1,20 +1,18 @@
-ghost use Rattle.std.specs.Prelude.{◌≡◌, map, option_and_then};
+ghost use Rattle.std.specs.Prelude.{◌≡◌, List as ListOf, ℕ, Option, Some, map};
 ghost use Rattle.std.specs.String.{string_bytes};
 ghost use Rattle.pawn_outside.specs.Said.{Said};
 ghost use Rattle.pawn_words.specs.Command.{command_of};
-ghost use Rattle.pawn_cli.specs.Calls.{Calls};
-ghost use Rattle.pawn_cli.specs.Ends.{Ends};
-ghost use Rattle.pawn_cli.specs.Causes.{words_stop};
-ghost use Rattle.pawn_cli.specs.Served.{served, is_plain_go, go_if};
+ghost use Rattle.command_parts.specs.Calls.{Calls};
+ghost use Rattle.pawn_cli.specs.Answers.{Answers, AreGo, AreResume, AreRun, Does, words_stop};
 
-use super::go::go;
 use super::list::list;
-use super::told::tell_stop;
 use super::verify::verify;
+use command_parts::tell_stop;
+use go_command::{GoWords, go};
 use pawn_outside::{Files, Sink};
-use pawn_words::{
-    Command, DEFAULT_SLEEPS, DEFAULT_STEPS, Name, Status, Stop, WordsFault, read_words,
-};
+use pawn_words::{Command, Name, Status, Stop, WordsFault, read_words};
+use resume_command::{ResumeWords, resume};
+use run_command::{RunWords, run};
 use std::alloc::Global;
 
 /// Does what the words behind the program's name say, over any files and any sink.
@@ -24,9 +22,9 @@ pub fn pawn<F: Files, S: Sink>(
     files: &mut F,
     out: &mut S,
 ) -> Status
-    ensures answer { Ends (option_and_then served (command_of (map string_bytes words.now)))
-        (F.held files.old) (F.held files.new)
-        (λ text said. Said S.taken S.faults S.has_room out.old out.new text said) result }
+    ensures answer { Answers (Said S.taken S.faults S.has_room)
+        (command_of (map string_bytes words.now)) (F.held files.old) (F.held files.new)
+        out.old out.new result }
     ensures calls { Calls F.faults F.never_fails files.old files.new (result ≡ Status.FileFault) }
 {
     match read_words(alloc, words) {
@@ -45,15 +43,34 @@ fn stop_of(fault: WordsFault) -> Stop
     }
 }
 
-/// Does a command. Those that aren't built yet are bad words.
+/// Does a command.
 fn serve<F: Files, S: Sink>(alloc: Global, command: Command, files: &mut F, out: &mut S) -> Status
-    ensures answer { Ends (served command) (F.held files.old) (F.held files.new)
-        (λ text said. Said S.taken S.faults S.has_room out.old out.new text said) result }
+    ensures answer { Does (Said S.taken S.faults S.has_room) (Some command)
+        (F.held files.old) (F.held files.new) out.old out.new result }
     ensures calls { Calls F.faults F.never_fails files.old files.new (result ≡ Status.FileFault) }
 {
     match command {
         Command::Verify { amx } => verify(alloc, amx.as_str(), files, out),
         Command::List { amx } => list(alloc, amx.as_str(), files, out),
+        Command::Run {
+            amx,
+            script,
+            image,
+            steps,
+            entry,
+        } => {
+            let words = run_words(&amx, &script, &image, steps, entry.as_slice());
+            run(alloc, words, files, out)
+        }
+        Command::Resume {
+            amx,
+            script,
+            image,
+            steps,
+        } => {
+            let words = resume_words(&amx, &script, &image, steps);
+            resume(alloc, words, files, out)
+        }
         Command::Go {
             src,
             amx,
@@ -61,36 +78,56 @@ fn serve<F: Files, S: Sink>(alloc: Global, command: Command, files: &mut F, out:
             steps,
             sleeps,
         } => {
-            let is_plain = is_plain_go(&script, steps, sleeps);
-            serve_go(alloc, is_plain, src.as_str(), amx.as_str(), files, out)
+            let words = go_words(&src, &amx, &script, steps, sleeps);
+            go(alloc, words, files, out)
         }
-        Command::Run { .. } => tell_stop(Stop::BadWords, out),
-        Command::Resume { .. } => tell_stop(Stop::BadWords, out),
     }
 }
 
-/// Whether `go` has neither a script nor options but for their defaults.
-fn is_plain_go(script: &Option<Name>, steps: u64, sleeps: u32) -> bool
-    ensures { result ≡ is_plain_go script.now steps sleeps }
+fn run_words<'w>(
+    amx: &'w Name,
+    script: &'w Name,
+    image: &'w Name,
+    steps: u64,
+    entry: &'w [u8],
+) -> RunWords<'w>
+    ensures { AreRun result amx.now script.now image.now steps entry.now }
 {
-    script.is_none() && steps == DEFAULT_STEPS && sleeps == DEFAULT_SLEEPS
+    RunWords {
+        amx,
+        script,
+        image,
+        steps,
+        entry,
+    }
 }
 
-fn serve_go<F: Files, S: Sink>(
-    alloc: Global,
-    is_plain: bool,
-    src: &str,
-    amx: &str,
-    files: &mut F,
-    out: &mut S,
-) -> Status
-    ensures answer { Ends (go_if is_plain src.now amx.now) (F.held files.old) (F.held files.new)
-        (λ text said. Said S.taken S.faults S.has_room out.old out.new text said) result }
-    ensures calls { Calls F.faults F.never_fails files.old files.new (result ≡ Status.FileFault) }
+fn resume_words<'w>(amx: &'w Name, script: &'w Name, image: &'w Name, steps: u64) -> ResumeWords<'w>
+    ensures { AreResume result amx.now script.now image.now steps }
 {
-    if is_plain {
-        go(alloc, src, amx, files, out)
-    } else {
-        tell_stop(Stop::BadWords, out)
+    ResumeWords {
+        amx,
+        script,
+        image,
+        steps,
+    }
+}
+
+fn go_words<'w>(
+    src: &'w Name,
+    amx: &'w Name,
+    script: &'w Option<Name>,
+    steps: u64,
+    sleeps: u32,
+) -> GoWords<'w>
+    ensures { let named : Option (ListOf ℕ) = script.now in
+        AreGo result src.now amx.now named steps sleeps }
+{
+    GoWords {
+        src,
+        amx,
+        script,
+        steps,
+        sleeps,
     }
 }

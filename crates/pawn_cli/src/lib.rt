@@ -2,12 +2,7 @@
 #![tactic(auto)]
 
 mod command;
-mod compile;
-mod go;
 mod list;
-mod play;
-mod ready;
-mod told;
 mod verify;
 
 pub use command::pawn;

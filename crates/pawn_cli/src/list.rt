@@ -1,20 +1,20 @@
-ghost use Rattle.std.specs.Prelude.{◌≡◌, ◌+◌, ◌≤◌, Some, length};
+ghost use Rattle.std.specs.Prelude.{◌≡◌, ◌+◌, ◌≤◌, length};
 ghost use Rattle.pawn_outside.specs.Said.{Said};
 ghost use Rattle.amx_text.specs.Listing.{listing};
-ghost use Rattle.pawn_cli.specs.Calls.{Calls};
-ghost use Rattle.pawn_cli.specs.Ends.{Ends};
+ghost use Rattle.command_parts.specs.Calls.{Calls};
+ghost use Rattle.pawn_cli.specs.ReadsFile.{Lists};
 
-use super::told::{tell_stop, told};
 use amx_ops::Amx;
+use command_parts::{tell_stop, told};
 use pawn_files::read_valid;
 use pawn_outside::{Files, Sink, SinkFault, WriteAnswer};
-use pawn_words::{Command, Status};
+use pawn_words::Status;
 use std::alloc::Global;
 
 /// Reads a file, and writes its listing.
 pub fn list<F: Files, S: Sink>(alloc: Global, amx: &str, files: &mut F, out: &mut S) -> Status
-    ensures answer { Ends (Some (Command.List amx.now)) (F.held files.old) (F.held files.new)
-        (λ text said. Said S.taken S.faults S.has_room out.old out.new text said) result }
+    ensures answer { Lists (Said S.taken S.faults S.has_room) amx.now (F.held files.old)
+        (F.held files.new) out.old out.new result }
     ensures calls { Calls F.faults F.never_fails files.old files.new (result ≡ Status.FileFault) }
 {
     match read_valid(alloc, amx, files) {

@@ -232,7 +232,12 @@ fn words(rt: HostRuntime) -> Result<(), Fail> {
     for (line, status, text) in [
         ("go s.p s.amx", Status::Ok, "done 0\n"),
         ("go s.p", Status::BadWords, "bad words\n"),
-        ("go s.p s.amx more", Status::BadWords, "bad words\n"),
+        ("go s.p s.amx more", Status::NoFile, "no file more\n"),
+        ("go s.p s.amx s.p", Status::BadScript, "bad script 130\n"),
+        ("go s.p s.amx --steps 0", Status::Steps, "steps\n"),
+        ("go s.p s.amx --sleeps 0", Status::Ok, "done 0\n"),
+        ("go s.p s.amx --entry main", Status::BadWords, "bad words\n"),
+        ("go q.p s.amx more", Status::NoFile, "no file q.p\n"),
         ("run s.p s.amx", Status::BadWords, "bad words\n"),
         ("go --s.p s.amx", Status::BadWords, "bad words\n"),
         ("go s.p ", Status::BadWords, "bad words\n"),

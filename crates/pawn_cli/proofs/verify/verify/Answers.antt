@@ -1,17 +1,12 @@
 use Rattle.std.proofs.Common.{codes, refl}
-use Rattle.pawn_words.specs.declared.command.Command.TheVariants.{Verify}
 use Rattle.pawn_words.specs.declared.status.Status.TheVariants as status
-use Rattle.pawn_cli.proofs.CallLaws.{only_calls, calls_stopped, calls_done}
-use Rattle.pawn_cli.proofs.CommandLaws.{verifies}
-use Rattle.pawn_cli.proofs.EndsLaws.{ends_stopped, ends_done}
-use Rattle.pawn_cli.proofs.StopLaws.{file_stops}
+use Rattle.command_parts.proofs.CallLaws.{only_calls, calls_stopped, calls_done}
+use Rattle.pawn_cli.proofs.AnswerLaws.{reads_none, reads_one}
 use Rattle.pawn_cli.proofs.verify.verify.Goals as goal
 
 pub returns-in-Err-clause-answer : goal.returns-in-Err-clause-answer
 returns-in-Err-clause-answer g c =
-    ends_stopped c.in-Err.stop c.tell_stop.result
-    (file_stops (Verify c.args.amx.now) c.args.amx.now c.in-Err.stop refl c.in-Err.ensures.calls.same c.in-Err.ensures.answer)
-    c.tell_stop.ensures
+    reads_none _ c.args.amx.now c.in-Err.stop c.tell_stop.result c.in-Err.ensures.answer c.in-Err.ensures.calls.same c.tell_stop.ensures
 
 pub returns-in-Err-clause-calls : goal.returns-in-Err-clause-calls
 returns-in-Err-clause-calls g c =
@@ -19,8 +14,8 @@ returns-in-Err-clause-calls g c =
 
 pub returns-clause-answer : goal.returns-clause-answer
 returns-clause-answer g c =
-    ends_done status.Ok c.told.result (codes "valid\n") c.say.result
-    (verifies _ c.in-Ok.ensures.answer c.in-Ok.ensures.calls.same) c.say.ensures c.told.ensures
+    reads_one _ c.args.amx.now _ (codes "valid\n") c.say.result c.told.result c.in-Ok.ensures.answer c.in-Ok.ensures.calls.same refl c.say.ensures
+    c.told.ensures
 
 pub returns-clause-calls : goal.returns-clause-calls
 returns-clause-calls g c =

@@ -1,0 +1,122 @@
+-- What `go` does of good files, and what stops it.
+use Rattle.std.proofs.Common.{◌≡◌, ◌≢◌, ◌∙◌, ◌<◌, ◌^◌, inl, inr, ℕ, List, Option, Ok, Err, length, sym, ap₂, subst}
+use Rattle.pawn_outside.specs.Held.{Held, with_put}
+use Rattle.host_script.specs.Ranges.{IsScript}
+use Rattle.host_script.specs.declared.script.Script.{Script}
+use Rattle.host_script.specs.declared.event.End.{End}
+use Rattle.host_script.specs.declared.event.End.TheVariants as run_end
+use Rattle.amx_ops.specs.declared.amx.Amx.{Amx}
+use Rattle.amx_ops.specs.Runs.{Stop as RunStop, Steps, Asleep, Over_by}
+use Rattle.amx_format.proofs.LimitLaws.{within_limits}
+use Rattle.pawn_words.specs.declared.status.Status.{Status}
+use Rattle.pawn_words.specs.declared.status.Status.TheVariants as status
+use Rattle.pawn_words.specs.declared.stop.Stop.{Stop}
+use Rattle.pawn_words.specs.declared.stop.Stop.TheVariants.{NoMemory}
+use Rattle.pawn_files.specs.ValidFile.{IsFileOf, IsValidFile}
+use Rattle.command_parts.specs.Put.{NotPut}
+use Rattle.command_parts.specs.Told.{Writes, TellsStop}
+use Rattle.command_parts.proofs.CallLaws.{stop_no_fault, told_other}
+use Rattle.run_command.specs.Finishes.{status_of_end, status_of_stop}
+use Rattle.go_command.specs.declared.goes.Prepared.{Prepared}
+use Rattle.go_command.specs.declared.words.GoWords.{GoWords}
+use Rattle.go_command.specs.Goes.{NotGood, no_source, no_natives, IsPrepared, Makes, Goes}
+use Rattle.go_command.specs.Made.{IsMadeOf, NoSource}
+use Rattle.go_command.specs.Natives.{HasNatives, LacksNatives}
+use Rattle.go_command.specs.Ready.{wants_memory}
+use Rattle.go_command.specs.RunsFile.{RunsFile, stopped, ran}
+use Rattle.go_command.proofs.FileLaws.{meant}
+use Rattle.go_command.proofs.MadeLaws.{made_valid, only_memory, same_file}
+use Rattle.go_command.proofs.ReadyLaws.{ready_no_fault}
+
+-- ---- its files
+
+module _ (held : Option Held) (words : GoWords) where
+  pub source_missing : (src : List ℕ) (stop : Stop) → src ≡ words.src.now → NoSource held src stop → NotGood held words stop
+  source_missing src stop e none = let P : List ℕ → Type 0 = λ n. NoSource held n stop in no_source (subst P e none)
+
+  pub natives_missing : (mid : Option Held) (src bytes : List ℕ) (amx : Amx) (stop : Stop) → src ≡ words.src.now → IsMadeOf held src amx bytes
+      → mid ≡ held → LacksNatives mid words.script.now stop → NotGood held words stop
+  natives_missing mid src bytes amx stop e made same none =
+      let P : List ℕ → Type 0 = λ n. IsMadeOf held n amx bytes in
+      let Q : Option Held → Type 0 = λ h. LacksNatives h words.script.now stop in
+      no_natives amx bytes (subst P e made) (subst Q same none)
+
+  pub both_good : (mid : Option Held) (src : List ℕ) (amx : Amx) (it : Prepared) → src ≡ words.src.now → IsMadeOf held src amx it.bytes
+      → mid ≡ held → HasNatives mid words.script.now it.script → IsPrepared held words (Ok it)
+  both_good mid src amx it e made same natives =
+      let P : List ℕ → Type 0 = λ n. IsMadeOf held n amx it.bytes in
+      let Q : Option Held → Type 0 = λ h. HasNatives h words.script.now it.script in
+      (amx, record { made = subst P e made; natives = subst Q same natives })
+
+-- ---- its run
+
+end_no_fault : (e : End) → status_of_end e ≢ status.FileFault
+end_no_fault (run_end.Done value) = λ e. absurd (cc e)
+end_no_fault (run_end.Exit value tag) = λ e. absurd (cc e)
+end_no_fault (run_end.Error code) = λ e. absurd (cc e)
+end_no_fault run_end.Stray = λ e. absurd (cc e)
+
+status_no_fault : (s : RunStop End) → status_of_stop s ≢ status.FileFault
+status_no_fault Steps = λ e. absurd (cc e)
+status_no_fault Asleep = λ e. absurd (cc e)
+status_no_fault (Over_by e) = end_no_fault e
+
+module _ {S : Type 0} {writes : Writes S} {old new : S} where
+  pub run_no_fault : (amx : Amx) (script : Script) (steps sleeps : ℕ) (answer : Status) → RunsFile writes amx script steps sleeps old new answer
+      → answer ≢ status.FileFault
+  run_no_fault amx script steps sleeps answer (stopped stop none tells) = stop_no_fault stop answer (ready_no_fault none) tells
+  run_no_fault amx script steps sleeps answer (ran main served tells) = λ e. told_other _ tells.told (status_no_fault _) (sym tells.is ∙ e)
+
+  -- of bytes that are a valid file
+  pub reads_none : (bytes lent : List ℕ) (script : Script) (steps sleeps : ℕ) (stop : Stop) (answer : Status) → lent ≡ bytes → IsFileOf lent (Err stop)
+      → TellsStop stop writes old new answer → (amx : Amx) → IsValidFile bytes amx → RunsFile writes amx script steps sleeps old new answer
+  reads_none bytes lent script steps sleeps stop answer same none tells amx valid =
+      let P : List ℕ → Type 0 = λ b. IsFileOf b (Err stop) in
+      let Q : Stop → Type 0 = λ s. TellsStop s writes old new answer in
+      stopped NoMemory wants_memory (subst Q (only_memory amx valid stop (subst P same none)) tells)
+
+  pub reads_same : (bytes lent : List ℕ) (script : Script) (steps sleeps : ℕ) (read : Amx) (answer : Status) → lent ≡ bytes → IsFileOf lent (Ok read)
+      → RunsFile writes read script steps sleeps old new answer → (amx : Amx) → IsValidFile bytes amx
+      → RunsFile writes amx script steps sleeps old new answer
+  reads_same bytes lent script steps sleeps read answer same valid_read runs amx valid =
+      let P : List ℕ → Type 0 = λ b. IsFileOf b (Ok read) in
+      let Q : Amx → Type 0 = λ a. RunsFile writes a script steps sleeps old new answer in
+      subst Q (same_file amx valid read (subst P same valid_read)) runs
+
+  -- ---- the put
+
+  pub makes_none : (words : GoWords) (it : Prepared) (held after : Option Held) (name : List ℕ) (stop : Stop) (answer : Status) → name ≡ words.amx.now
+      → NotPut held after name stop → TellsStop stop writes old new answer → Makes writes words it held after old new answer
+  makes_none words it held after name stop answer e none tells =
+      let P : List ℕ → Type 0 = λ n. NotPut held after n stop in
+      λ amx valid. inl (record { stop = stop; comes = subst P e none; tells = tells })
+
+  pub makes_put : (words : GoWords) (it : Prepared) (held after : Option Held) (name lent : List ℕ) (answer : Status) → name ≡ words.amx.now
+      → lent ≡ it.bytes → after ≡ with_put held name lent
+      → ((amx : Amx) → IsValidFile it.bytes amx → RunsFile writes amx it.script words.steps words.sleeps old new answer)
+      → Makes writes words it held after old new answer
+  makes_put words it held after name lent answer e same kept runs =
+      λ amx valid. inr (record { kept = kept ∙ ap₂ (λ n b. with_put held n b) e same; runs = runs amx valid })
+
+  -- ---- the whole command
+
+  pub goes_nowhere : (words : GoWords) (held after : Option Held) (stop : Stop) (answer : Status) → NotGood held words stop → after ≡ held
+      → TellsStop stop writes old new answer → Goes writes words held after old new answer
+  goes_nowhere words held after stop answer none kept tells = inl (record { stop = stop; comes = none; kept = kept; tells = tells })
+
+  pub goes_good : (words : GoWords) (held mid after : Option Held) (it : Prepared) (answer : Status) → IsPrepared held words (Ok it) → IsScript it.script
+      → mid ≡ held → Makes writes words it mid after old new answer → Goes writes words held after old new answer
+  goes_good words held mid after it answer good keeps same makes =
+      let P : Option Held → Type 0 = λ h. Makes writes words it h after old new answer in
+      let has = good.1.made.is in
+      inr (record {
+        amx = good.0;
+        prepared = it;
+        good = good.1;
+        meant = λ served. meant has.compiled words.steps words.sleeps it.script keeps served;
+        puts = (subst P same makes) good.0 (made_valid good.0 has);
+      })
+
+-- a valid file's natives fit a machine
+pub natives_fit : (bytes : List ℕ) (amx : Amx) → IsValidFile bytes amx → length amx.natives < 2 ^ 31
+natives_fit bytes amx valid = (within_limits bytes amx valid.file).natives

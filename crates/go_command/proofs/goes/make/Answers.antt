@@ -1,0 +1,20 @@
+use Rattle.std.proofs.Common.{refl}
+use Rattle.command_parts.proofs.CallLaws.{calls_stopped, calls_other}
+use Rattle.go_command.proofs.GoLaws.{makes_none, makes_put}
+use Rattle.go_command.proofs.goes.make.Goals as goal
+
+pub returns-in-Ok-clause-answer : goal.returns-in-Ok-clause-answer
+returns-in-Ok-clause-answer g c =
+    makes_put c.args.words c.args.prepared.now _ _ _ _ c.run_bytes.result c.as_str.ensures c.as_slice.ensures c.in-Ok.ensures.answer
+    c.run_bytes.ensures.answer
+
+pub returns-in-Ok-clause-calls : goal.returns-in-Ok-clause-calls
+returns-in-Ok-clause-calls g c = calls_other c.run_bytes.ensures.fault c.in-Ok.ensures.calls
+
+pub returns-in-Err-clause-answer : goal.returns-in-Err-clause-answer
+returns-in-Err-clause-answer g c =
+    makes_none c.args.words c.args.prepared.now _ _ _ c.in-Err.stop c.tell_stop.result c.as_str.ensures c.in-Err.ensures.answer
+    c.tell_stop.ensures
+
+pub returns-in-Err-clause-calls : goal.returns-in-Err-clause-calls
+returns-in-Err-clause-calls g c = calls_stopped c.in-Err.stop c.tell_stop.result c.in-Err.ensures.calls refl c.tell_stop.ensures

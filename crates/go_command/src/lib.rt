@@ -1,0 +1,12 @@
+//! The command `go`: a source is compiled, its file is put, and the bytes that were put are run.
+#![tactic(auto)]
+
+mod compile;
+mod goes;
+mod natives;
+mod play;
+mod ready;
+mod words;
+
+pub use goes::go;
+pub use words::GoWords;
