@@ -1,1 +1,6 @@
+pub mod DoneLaws
+pub mod GoLaws
 pub mod GoodLaws
+pub mod ImageLaws
+pub mod ServedLaws
+pub mod SourceLaws

@@ -1,10 +1,14 @@
 -- What is good is run: only a fault of the files or want of memory may stop a command at it.
 use Rattle.std.specs.Prelude.{◌≡◌, ℕ, ℤ, List, Some}
 use Rattle.pawn_outside.specs.Held.{Held}
+use Rattle.amx_ops.specs.declared.amx.Amx.{Amx}
 use Rattle.pawn_words.specs.declared.stop.Stop.{Stop}
 use Rattle.pawn_words.specs.declared.stop.Stop.TheVariants.{FileFault, NoMemory}
+use Rattle.pawn_files.specs.declared.read.TheConstants.{FILE_LIMIT}
+use Rattle.pawn_files.specs.Unread.{IsRead}
+use Rattle.pawn_files.specs.ValidFile.{IsValidFile}
 use Rattle.command_parts.specs.declared.program.Program.{Program}
-use Rattle.command_parts.specs.Program.{IsProgram, NoProgram}
+use Rattle.command_parts.specs.Program.{IsProgram, NoFile, NoProgram}
 use Rattle.run_command.specs.Entry.{address_named}
 use Rattle.run_command.specs.Prepared.{IsServed, NoStart}
 
@@ -15,6 +19,9 @@ pub data IsFree : Stop → Type 0 where
 
 -- over files that tell what they hold
 pub record GoodFilesAreRead : Type 0 where
+  -- where a name holds a valid file
+  pub file : (map : Held) (name : List ℕ) (amx : Amx) (stop : Stop)
+      → IsRead (Some map) name FILE_LIMIT (λ bytes. IsValidFile bytes amx) → NoFile (Some map) name stop → IsFree stop
   -- where names hold a valid file and a script
   pub read : (map : Held) (amx script : List ℕ) (program : Program) (stop : Stop)
       → IsProgram (Some map) amx script program → NoProgram (Some map) amx script stop → IsFree stop

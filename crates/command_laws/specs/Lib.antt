@@ -1,1 +1,5 @@
+pub mod Done
 pub mod Good
+pub mod GoodGo
+pub mod GoodImage
+pub mod GoodSource

@@ -1,0 +1,86 @@
+-- A source that is good is compiled, put and run, but for a fault of the files or want of memory.
+use Rattle.std.proofs.Common.{◌≡◌, ◌⊎◌, ◌∙◌, ℕ, List, Option, None, Some, inl, inr, refl, sym, subst}
+use Rattle.pawn_outside.specs.Held.{Held}
+use Rattle.host_script.specs.declared.script.Script.{Script}
+use Rattle.amx_ops.specs.declared.amx.Amx.{Amx}
+use Rattle.amx_ops.specs.Trace.{Main, address_of}
+use Rattle.straight_source.specs.Means.{Means}
+use Rattle.pawn_words.specs.declared.status.Status.{Status}
+use Rattle.pawn_words.specs.declared.stop.Stop.{Stop}
+use Rattle.pawn_words.specs.declared.stop.Stop.TheVariants.{NoMemory}
+use Rattle.pawn_files.specs.declared.read.TheConstants.{SOURCE_LIMIT}
+use Rattle.pawn_files.specs.Unread.{IsRead}
+use Rattle.command_parts.specs.ScriptFile.{IsScriptOf}
+use Rattle.command_parts.specs.Told.{Writes, TellsStop}
+use Rattle.run_command.specs.Runs.{IsStopped}
+use Rattle.go_command.specs.declared.words.GoWords.{GoWords}
+use Rattle.go_command.specs.Goes.{Goes, GoesGood, NotGood, Unput, RunsPut}
+use Rattle.go_command.specs.Natives.{HasNatives}
+use Rattle.go_command.specs.Played.{TellsTrace, trace_of}
+use Rattle.go_command.specs.Ready.{IsServed, NotReady, no_main, no_native, wants_memory, unregistered, no_memory}
+use Rattle.go_command.specs.RunsFile.{RunsFile, stopped, ran}
+use Rattle.go_command.proofs.FileLaws.{main_address}
+use Rattle.command_laws.specs.Good.{IsFree}
+use Rattle.command_laws.specs.GoodGo.{IsServedSource, IsGone, GoodIsGone}
+use Rattle.command_laws.proofs.DoneLaws.{freely}
+use Rattle.command_laws.proofs.GoodLaws.{same_bytes, same_script}
+use Rattle.command_laws.proofs.ServedLaws.{bound}
+use Rattle.command_laws.proofs.SourceLaws.{good_sources}
+
+module _ (map : Held) where
+  -- the script that is read is the one that is held
+  one_script : (name : Option (List ℕ)) (script read : Script) → HasNatives (Some map) name script → HasNatives (Some map) name read → read ≡ script
+  one_script None script read is that = that ∙ sym is
+  one_script (Some name) script read is that =
+      let P : List ℕ → Type 0 = λ b. IsScriptOf b read in
+      same_script is.bytes script read is.is (subst P (same_bytes map name is that) that.is)
+
+only_memory : (amx : Amx) (script : Script) (stop : Stop) → address_of amx Main ≡ Some amx.entry → IsServed amx script → NotReady amx script stop
+    → stop ≡ NoMemory
+only_memory amx script stop main served (no_main none) = absurd (cc (main, none))
+only_memory amx script stop main served (no_native cause there (unregistered number first)) = absurd (cc (served, first))
+only_memory amx script stop main served (no_native cause there no_memory) = refl
+only_memory amx script stop main served wants_memory = refl
+
+module _ {S : Type 0} (writes : Writes S) (old new : S) (answer : Status) where
+  runs : (amx : Amx) (script : Script) (steps sleeps : ℕ) → address_of amx Main ≡ Some amx.entry → IsServed amx script
+      → RunsFile writes amx script steps sleeps old new answer
+      → TellsStop NoMemory writes old new answer ⊎ TellsTrace (trace_of amx script steps sleeps) writes old new answer
+  runs amx script steps sleeps main served (ran there has tells) = inr tells
+  runs amx script steps sleeps main served (stopped stop none tells) =
+      let P : Stop → Type 0 = λ s. TellsStop s writes old new answer in
+      inl (subst P (only_memory amx script stop main served none) tells)
+
+  module _ (map : Held) (after : Option Held) (words : GoWords) (script : Script)
+      (source : IsRead (Some map) words.src.now SOURCE_LIMIT (IsServedSource script)) (natives : HasNatives (Some map) words.script.now script) where
+    free : (stop : Stop) → NotGood (Some map) words stop → IsFree stop
+    free stop none =
+        good_sources.read map words source.is.program script stop
+        (record { bytes = source.bytes; tells = source.tells; within = source.within; is = source.is.means }) natives none
+
+    put : (it : GoesGood writes words (Some map) after old new answer)
+        → Unput writes words (Some map) after old new answer ⊎ RunsPut writes words it.amx it.prepared (Some map) after old new answer
+        → IsGone writes words (Some map) after old new answer
+    put it (inl unput) = record { it = it; comes = inl unput }
+    put it (inr is) =
+        let has = it.good.made.is.compiled in
+        let P : List ℕ → Type 0 = λ b. Means b has.program in
+        let means = subst P (same_bytes map words.src.now source it.good.made) has.means in
+        let serves = source.is.serves has.program means in
+        let e = one_script map words.script.now script it.prepared.script natives it.good.natives in
+        let Q : Script → Type 0 = λ s. IsServed it.amx s in
+        let served = subst Q (sym e) (bound script it.amx.natives has.program.natives has.agrees.shape.natives serves) in
+        record {
+          it = it;
+          comes = inr (is.kept, runs it.amx it.prepared.script words.steps words.sleeps (main_address has) served is.runs);
+        }
+
+    go : Goes writes words (Some map) after old new answer
+        → IsStopped writes IsFree (Some map) after old new answer ⊎ IsGone writes words (Some map) after old new answer
+    go (inl early) = inl (freely free early)
+    go (inr it) = inr (put it it.puts)
+
+pub good_is_gone : {S : Type 0} (writes : Writes S) → GoodIsGone writes
+good_is_gone writes = record {
+  done = λ map after words script old new answer source natives it. go writes old new answer map after words script source natives it;
+}
