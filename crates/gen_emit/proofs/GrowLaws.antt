@@ -1,6 +1,6 @@
 -- Items that are appended one behind another.
-use Rattle.std.proofs.Common.{◌≡◌, ◌+◌, ◌*◌, ℕ, ℤ, List, [], ◌∷◌, ◌++◌, length, refl, sym, ap, subst, ◌∙◌, arith, append_assoc, append-nil, length-append, Result, Ok, Err, IfOk}
-use Rattle.gen_steps.specs.Items.{Item, Plain, CallOf, size, cells_with, item_cells, past, waits_from, appended}
+use Rattle.std.proofs.Common.{◌≡◌, ◌+◌, ◌*◌, ℕ, List, [], ◌∷◌, ◌++◌, length, sym, ap, ◌∙◌, arith, append_assoc, append-nil, length-append, Result, Ok, Err, IfOk}
+use Rattle.gen_steps.specs.Items.{Item, Plain, CallOf, size, item_cells, past, waits_from, appended}
 use Rattle.amx_ops.specs.Written.{cells_of}
 use Rattle.gen_steps.proofs.ItemLaws.{cells-append, past_is}
 use Rattle.gen_builder.specs.Built.{Built, with_items}

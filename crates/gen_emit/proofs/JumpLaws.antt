@@ -1,16 +1,15 @@
 -- A jump whose target is written when it is known.
-use Rattle.std.proofs.Common.{◌≡◌, ◌+◌, ◌*◌, ◌<◌, ℕ, ℤ, pos, List, [], ◌∷◌, ◌++◌, length, set, slice_set, refl, sym, ap, subst, ◌∙◌, arith, append_assoc, append-nil, length-append}
+use Rattle.std.proofs.Common.{◌≡◌, ◌+◌, ◌*◌, ℕ, ℤ, pos, List, [], ◌∷◌, ◌++◌, length, slice_set, refl, sym, ap, ◌∙◌, arith, append_assoc, length-append}
 use Rattle.std.proofs.Math.Seq.{set-append_seam}
 use Rattle.amx_ops.specs.declared.op.Op.{Op}
 use Rattle.amx_ops.specs.declared.op.Op.TheVariants as op
 use Rattle.amx_ops.specs.Table.{number_of}
-use Rattle.gen_steps.specs.Items.{Item, Plain, CallOf, size, item_cells, past, waits_from}
-use Rattle.gen_steps.proofs.ItemLaws.{cells-append, past-append}
-use Rattle.gen_nodes.specs.SimpleCode.{alone, taking}
+use Rattle.gen_steps.specs.Items.{Item, item_cells, past, waits_from}
+use Rattle.gen_nodes.specs.SimpleCode.{taking}
 use Rattle.gen_nodes.specs.JumpCode.{jump_to, other_at, choice_code}
 use Rattle.gen_builder.specs.Built.{Built, with_items}
 use Rattle.gen_emit.specs.Filled.{filled}
-use Rattle.gen_emit.proofs.GrowLaws.{both_grow, then_grow, next_at}
+use Rattle.gen_emit.proofs.GrowLaws.{then_grow, next_at}
 
 -- an operation with a cell for its operand
 record Wide (o : Op) : Type 0 where

@@ -1,8 +1,8 @@
 -- The shapes of code, part by part.
-use Rattle.std.proofs.Common.{◌≡◌, ◌+◌, ◌-◌, ◌*◌, ◌<◌, ℕ, ℤ, pos, neg_ℤ, suc, zero, List, [], ◌∷◌, ◌++◌, Option, None, Some, length, refl, sym, ap, subst, ◌∙◌, arith, append_assoc, append-nil}
+use Rattle.std.proofs.Common.{◌≡◌, ◌+◌, ◌-◌, ◌*◌, ◌<◌, ℕ, ℤ, pos, neg_ℤ, suc, zero, List, [], ◌∷◌, ◌++◌, Some, ap, ◌∙◌, arith, append_assoc, append-nil}
 use Rattle.pawn_program.specs.Program.{Scalar}
 use Rattle.amx_ops.specs.declared.op.Op.TheVariants as op
-use Rattle.gen_steps.specs.Items.{Item, Plain, CallOf}
+use Rattle.gen_steps.specs.Items.{Item}
 use Rattle.gen_nodes.specs.SimpleCode.{alone, taking, waiting_code}
 use Rattle.gen_nodes.specs.AccessCode.{load_code, store_code, changed_code}
 use Rattle.gen_arrays.specs.IndexCode.{bounds_code}

@@ -16,6 +16,7 @@ use std::alloc::Global;
 /// Where an expression stands: its program, the slots of its body, of which so many are parameters,
 /// and those that were made before. Beside them stand the addresses of the program's objects, the
 /// offsets from FRM of the slots in force, and where memory comes from.
+#[derive(Drop)]
 pub struct Frame<'a> {
     pub alloc: Global,
     pub program: &'a Program,

@@ -1,11 +1,10 @@
 -- Arguments, from the last to the first.
-use Rattle.std.proofs.Common.{◌≡◌, ◌+◌, ◌-◌, ◌*◌, ◌<◌, ℕ, zero, suc, List, [], ◌∷◌, ◌++◌, length, drop, get_or, add-one, refl, sym, ap, subst, ◌∙◌, arith}
-use Rattle.pawn_program.specs.Program.{Args, no_args, then_arg}
+use Rattle.std.proofs.Common.{◌≡◌, ◌+◌, ◌-◌, ◌*◌, ◌<◌, ℕ, zero, suc, List, [], ◌∷◌, length, drop, get_or, add-one, refl, sym, ap, ◌∙◌, arith}
+use Rattle.pawn_program.specs.Program.{then_arg}
 use Rattle.pawn_program.specs.Scope.{Scope}
 use Rattle.pawn_program.specs.View.{arg_view, args_view}
 use Rattle.pawn_program.specs.declared.node.Arg.{Arg}
 use Rattle.pawn_meaning.specs.Need.{count_of}
-use Rattle.gen_steps.specs.Items.{Item, past}
 use Rattle.gen_steps.specs.Results.{is_temporary, temporaries_in}
 use Rattle.gen_expr.specs.ExprCode.{arg_items, args_items}
 use Rattle.gen_builder.specs.Built.{Built, with_items}

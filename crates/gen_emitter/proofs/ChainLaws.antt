@@ -1,5 +1,5 @@
 -- Links whose jumps are led to the end of their chain when it is known.
-use Rattle.std.proofs.Common.{◌≡◌, ◌+◌, ◌*◌, ◌/◌, ◌<◌, ◌≤◌, ℕ, zero, suc, ℤ, pos, List, [], ◌∷◌, ◌++◌, length, drop, get_or, add-one, refl, sym, ap, subst, ◌∙◌, arith, append_assoc, append-nil, length-append, Result, Ok, Err, IfOk}
+use Rattle.std.proofs.Common.{◌≡◌, ◌+◌, ◌*◌, ◌/◌, ◌<◌, ◌≤◌, ℕ, zero, suc, pos, List, [], ◌∷◌, ◌++◌, length, drop, get_or, add-one, refl, sym, ap, subst, ◌∙◌, arith, append_assoc, append-nil, length-append, Result, Ok, Err, IfOk}
 use Rattle.std.proofs.Math.Seq.{drop-cons}
 use Rattle.pawn_program.specs.View.{expr_view, links_view}
 use Rattle.pawn_program.specs.declared.node.Link.{Link}
@@ -10,13 +10,13 @@ use Rattle.std.specs.Prelude.{Option, Bool}
 use Rattle.amx_ops.specs.declared.op.Op.TheVariants as op
 use Rattle.gen_steps.specs.Items.{Item, item_cells, past}
 use Rattle.gen_steps.proofs.ItemLaws.{past-append}
-use Rattle.gen_nodes.specs.SimpleCode.{alone, taking}
+use Rattle.gen_nodes.specs.SimpleCode.{alone}
 use Rattle.gen_nodes.specs.JumpCode.{jump_to}
 use Rattle.gen_chains.specs.ChainCode.{link_code, last_link_code, middle_link_code, fail_at, chain_end_code}
-use Rattle.gen_expr.specs.ExprCode.{value_items, links_items, others_at, link_with}
+use Rattle.gen_expr.specs.ExprCode.{value_items, links_items, others_at}
 use Rattle.gen_builder.specs.Built.{Built, with_items}
 use Rattle.gen_emit.specs.Filled.{filled}
-use Rattle.gen_emit.proofs.GrowLaws.{both_grow, then_grow, next_at, none_grow}
+use Rattle.gen_emit.proofs.GrowLaws.{both_grow, next_at, none_grow}
 use Rattle.gen_emit.proofs.JumpLaws.{jzer_filled}
 use Rattle.gen_emitter.specs.ChainItems.{chain_items}
 use Rattle.gen_emitter.specs.Holes.{holes_of, all_filled, AreIn, ended_by}

@@ -1,5 +1,5 @@
 -- Cells that are written one after another, and what stands behind the links of a chain.
-use Rattle.std.proofs.Common.{◌≡◌, ◌+◌, ◌*◌, ◌<◌, ◌≤◌, ℕ, zero, suc, ℤ, pos, List, [], ◌∷◌, ◌++◌, length, drop, get_or, add-one, length-set, refl, sym, ap, subst, ◌∙◌, arith}
+use Rattle.std.proofs.Common.{◌≡◌, ◌+◌, ◌*◌, ◌<◌, ℕ, zero, suc, ℤ, pos, List, [], ◌∷◌, length, drop, get_or, add-one, length-set, refl, sym, ap, subst, ◌∙◌, arith}
 use Rattle.std.proofs.Math.Seq.{drop-cons}
 use Rattle.amx_ops.specs.declared.op.Op.TheVariants as op
 use Rattle.gen_nodes.specs.SimpleCode.{alone, taking}

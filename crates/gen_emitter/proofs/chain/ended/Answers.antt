@@ -1,4 +1,4 @@
-use Rattle.std.proofs.Common.{◌≡◌, ◌≤◌, ◌<◌, ℤ, pos, [], ◌∷◌, length, w32, FitsSigned, arith, rules}
+use Rattle.std.proofs.Common.{◌<◌, [], ◌∷◌, length, w32, FitsSigned, arith, rules}
 use Rattle.std.proofs.lemmas.Grind.{common_steps}
 use Rattle.std.proofs.lemmas.Int.{to_z-of_z}
 use Rattle.amx_ops.specs.declared.op.Op.TheVariants as op
