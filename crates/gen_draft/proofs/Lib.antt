@@ -1,0 +1,4 @@
+pub mod ChoiceLaws
+pub mod GrownLaws
+pub mod LedLaws
+pub mod LoopLaws

@@ -1,0 +1,27 @@
+-- Loops by their parts, each by its address, and a body by its exits too.
+use Rattle.std.specs.Prelude.{◌+◌, ℕ, ℤ, List, [], ◌∷◌, ◌++◌, true}
+use Rattle.amx_ops.specs.declared.op.Op.TheVariants as op
+use Rattle.gen_steps.specs.Items.{Item, past}
+use Rattle.gen_nodes.specs.SimpleCode.{alone, taking}
+use Rattle.gen_nodes.specs.JumpCode.{jump_to}
+use Rattle.gen_flow.specs.Here.{Exits}
+
+-- exits of a loop whose end isn't known yet
+abbrev pub nowhere : Exits
+nowhere = record { looped = true; broke = 0; continued = 0 }
+
+-- behind a test that ends at an address: what is repeated, and the jump back to the top
+abbrev pub repeat_code : ℕ → (top : ℤ) → (Exits → ℕ → List Item) → (ℕ → List Item) → List Item
+repeat_code p top body step =
+    let next = past (p + 8) (body nowhere (p + 8)) in
+    let more = step next in
+    let all = body (record { looped = true; broke = past next more + 8; continued = next }) (p + 8) in
+    jump_to op.Jzer (past (past (p + 8) all) more + 8) ∷ (all ++ (more ++ taking op.Jump top ∷ []))
+
+-- a body from an address on, and a test behind it
+abbrev pub until_tail : ℕ → (Exits → ℕ → List Item) → (ℕ → List Item) → List Item
+until_tail p body test =
+    let next = past (p + 4) (body nowhere (p + 4)) in
+    let more = test next in
+    let all = body (record { looped = true; broke = past next more + 8 + 8; continued = next }) (p + 4) in
+    alone op.Nop ∷ (all ++ (more ++ (jump_to op.Jzer (past (past (p + 4) all) more + 8 + 8) ∷ jump_to op.Jump p ∷ [])))

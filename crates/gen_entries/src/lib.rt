@@ -1,0 +1,6 @@
+//! Which function a switch to a state calls.
+#![tactic(auto)]
+
+mod entries;
+
+pub use entries::entry;

@@ -1,0 +1,5 @@
+pub mod CellLaws
+pub mod LeaveLaws
+pub mod ListLaws
+pub mod MakeLaws
+pub mod OffsetLaws

@@ -1,0 +1,13 @@
+use Rattle.std.proofs.Common.{◌≡◌, ◌-◌, ℕ, List, length, take}
+use Rattle.pawn_program.specs.Program.{Slot}
+use Rattle.gen_slots.specs.Keeps.{AreOffsets}
+use Rattle.gen_slots.proofs.locals.Locals.leave.Given as goal
+
+abbrev pub invariant-loop-self : goal.invariant-loop-self
+invariant-loop-self l =
+    (take l.mark.made l.self.made.items ≡ take l.mark.made l.fn.self.made.items)
+    × ((slots : List Slot) (params : ℕ) → AreOffsets slots params l.fn.self.made.items l.fn.self.offsets.items
+    → AreOffsets slots params l.self.made.items l.self.offsets.items)
+
+abbrev pub decreases-loop-self : goal.decreases-loop-self
+decreases-loop-self l = length l.self.made.items
