@@ -1,0 +1,2 @@
+pub mod EndedLaws
+pub mod SwitchLaws

@@ -1,0 +1,14 @@
+use Rattle.std.proofs.Common.{◌≡◌, ◌+◌, length, length-set, sym, ap, subst, ◌∙◌}
+use Rattle.pawn_program.specs.View.{cases_view}
+use Rattle.gen_builder.specs.Built.{Built}
+use Rattle.gen_case_tables.specs.Over.{cases_pairs}
+use Rattle.gen_case_tables.proofs.OverLaws.{over_cells}
+use Rattle.gen_draft.specs.Led.{AreIn}
+use Rattle.gen_switches.proofs.switches.close_switch.Goals as goal
+
+pub lead_out-code-requires : goal.lead_out-code-requires
+lead_out-code-requires c =
+    let cells : length c.write_cases-written.result.code ≡ length c.args.b.code.code =
+    ap (λ (z : Built). length z.code) c.write_cases-written.ensures ∙ over_cells (c.args.at + 1) (cases_pairs (cases_view c.args.cases.now) c.args.begins.now) c.fill.new.self
+    ∙ ap (λ (z : Built). length z.code) c.fill.ensures ∙ length-set _ _ _ in
+    subst (λ n. AreIn n c.args.ends.now) (sym cells) c.requires.ends
