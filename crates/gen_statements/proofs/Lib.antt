@@ -1,0 +1,9 @@
+pub mod ArmLaws
+pub mod CaseLaws
+pub mod LeftLaws
+pub mod ListLaws
+pub mod OkLaws
+pub mod PlainLaws
+pub mod StandLaws
+pub mod StmtLaws
+pub mod SwitchNodes

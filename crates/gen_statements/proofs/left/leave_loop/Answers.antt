@@ -1,0 +1,14 @@
+use Rattle.std.proofs.Common.{[], ◌∷◌, drop, map}
+use Rattle.pawn_program.specs.View.{slot_view}
+use Rattle.amx_ops.specs.declared.op.Op.TheVariants as op
+use Rattle.gen_nodes.specs.JumpCode.{jump_to}
+use Rattle.gen_flow.specs.FlowCode.{leave_code}
+use Rattle.gen_draft.specs.Led.{exit_at}
+use Rattle.gen_draft.proofs.GrownLaws.{then_grown}
+use Rattle.gen_statements.proofs.left.leave_loop.Goals as goal
+
+pub returns : goal.returns
+returns c =
+    then_grown c.args.b c.in_ok-left.left c.in_ok-done.done
+    (λ exits. leave_code (map slot_view c.args.place.now.slots.now) (drop c.args.since.made c.args.locals.now.made.items))
+    (λ exits. jump_to op.Jump (exit_at exits c.args.exit) ∷ []) c.in_ok-left.ensures c.in_ok-done.ensures

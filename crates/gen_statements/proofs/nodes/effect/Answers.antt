@@ -1,0 +1,11 @@
+use Rattle.std.proofs.Common.{◌*◌, length}
+use Rattle.pawn_program.specs.View.{expr_view}
+use Rattle.gen_expr.specs.ExprCode.{value_items}
+use Rattle.gen_draft.proofs.GrownLaws.{code_grown}
+use Rattle.gen_slots.specs.Keeps.{scope_in}
+use Rattle.gen_statements.proofs.nodes.effect.Goals as goal
+
+pub returns : goal.returns
+returns c =
+    code_grown c.args.b c.in_ok-code.code
+    (value_items (scope_in c.args.place.now c.args.locals.now.made.items) (4 * length c.args.b.code.code) (expr_view c.args.e.now)) c.in_ok-code.ensures

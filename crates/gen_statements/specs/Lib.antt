@@ -1,0 +1,4 @@
+pub mod Cased
+pub mod Closed
+pub mod Left
+pub mod Standing
