@@ -1,0 +1,8 @@
+-- The cells of objects one behind another, each with the offsets of its rows.
+use Rattle.std.specs.Prelude.{ℤ, List, [], ◌∷◌, ◌++◌}
+use Rattle.pawn_program.specs.Program.{StaticObject}
+use Rattle.gen_memory.specs.Pieces.{vectors}
+
+abbrev pub objects_data : List StaticObject → List ℤ
+objects_data [] = []
+objects_data (it ∷ objects) = (vectors it.sizes ++ it.first) ++ objects_data objects

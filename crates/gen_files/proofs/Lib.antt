@@ -1,0 +1,4 @@
+pub mod FewLaws
+pub mod FileLaws
+pub mod LinkLaws
+pub mod WritableLaws

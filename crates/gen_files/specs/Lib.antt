@@ -1,0 +1,4 @@
+pub mod Few
+pub mod Linked
+pub mod Records
+pub mod Starts
