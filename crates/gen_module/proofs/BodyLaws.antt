@@ -1,0 +1,25 @@
+-- A body, by its parts.
+use Rattle.std.proofs.Common.{◌≡◌, ◌*◌, ℕ, List, [], length, ap, ◌∙◌}
+use Rattle.pawn_program.specs.Program.{Slot, Body, Program}
+use Rattle.gen_flow.specs.Here.{Here}
+use Rattle.gen_stmt.specs.StmtCode.{stmt_items}
+use Rattle.gen_functions.specs.BodyCode.{no_exits, body_here, end_code, body_items}
+use Rattle.gen_builder.specs.Built.{Built, with_items}
+use Rattle.gen_emit.proofs.GrowLaws.{then_grow}
+
+-- where a statement stands, by the slots and how many of them are parameters
+abbrev pub here_of : Program → List Slot → ℕ → Here
+here_of program slots n = record {
+  scope = record { program = program; slots = slots; params = n; made = [] };
+  since = [];
+  exits = no_exits;
+}
+
+pub body_made : (program : Program) (params slots : List Slot) (n : ℕ) (body : Body) (b done r : Built) → slots ≡ body.slots → n ≡ length params
+    → done ≡ with_items (stmt_items (here_of program slots n) (4 * length b.code) body.stmt) b → r ≡ with_items end_code done
+    → r ≡ with_items (body_items program params (4 * length b.code) body) b
+body_made program params slots n body b done r same count first last =
+    then_grow b done r (stmt_items (body_here program params body) (4 * length b.code) body.stmt) end_code
+    (first ∙ ap (λ l. with_items (stmt_items (here_of program l n) (4 * length b.code) body.stmt) b) same
+    ∙ ap (λ k. with_items (stmt_items (here_of program body.slots k) (4 * length b.code) body.stmt) b) count)
+    last

@@ -1,0 +1,11 @@
+-- A program whose data stand where they are said to.
+use Rattle.pawn_program.specs.Program.{Program}
+use Rattle.pawn_program.specs.View.{program_view}
+use Rattle.gen_data.specs.HasAddresses.{HasAddresses}
+use Rattle.gen_module.specs.declared.source.Source.{Source}
+
+abbrev pub program_of : Source → Program
+program_of source = program_view source.program.now
+
+abbrev pub IsSource : Source → Type 0
+IsSource source = HasAddresses (program_of source) source.places.now

@@ -1,0 +1,35 @@
+ghost use Rattle.std.specs.Prelude.{◌≡◌, IfOk};
+ghost use Rattle.pawn_program.specs.Names.{HasNames};
+ghost use Rattle.pawn_program.specs.Valid.{IsValid};
+ghost use Rattle.pawn_program.specs.View.{program_view};
+ghost use Rattle.pawn_meaning.specs.Limits.{IsWithinLimits};
+ghost use Rattle.gen_agrees.specs.Agrees.{Agrees};
+ghost use Rattle.gen_program.specs.FileOf.{file_of};
+
+use super::functions::functions;
+use super::source::Source;
+use amx_ops::{Amx, Op};
+use gen_builder::Builder;
+use gen_data::object_addresses;
+use gen_files::file;
+use pawn_base::Memory;
+use pawn_program::Program;
+use std::alloc::Global;
+
+/// The file of a program. Of a valid program within the limits, with names as those of a source,
+/// whatever it does is what the program means, both ways.
+pub fn generate(alloc: Global, program: &Program) -> Result<Amx, Memory>
+    ensures file { IfOk result (λ amx. amx ≡ file_of (program_view program.now)) }
+    ensures agrees { IfOk result (λ amx. let source = program_view program.now in
+        IsValid source → IsWithinLimits source → HasNames source → Agrees source amx) }
+{
+    let places = object_addresses(alloc, program)?;
+    let source = Source {
+        alloc,
+        program,
+        places: &places,
+    };
+    let halted = Builder::new(alloc).put(Op::Halt, 0)?;
+    let (code, entries) = functions(program.functions.as_slice(), &source, halted)?;
+    file(alloc, program, &code, entries.as_slice())
+}

@@ -1,0 +1,36 @@
+ghost use Rattle.std.specs.Prelude.{◌≡◌, ◌+◌, ◌*◌, pos, length, IfOk};
+ghost use Rattle.gen_states.specs.StateCode.{automaton_cell};
+ghost use Rattle.gen_module.specs.Source.{IsSource, program_of};
+
+use gen_data::Addresses;
+use gen_emit::put::cell_of;
+use pawn_base::Memory;
+use pawn_program::Program;
+use std::alloc::Global;
+
+/// A program, where its data stand, and where memory comes from.
+#[derive(Clone, Copy)]
+pub(crate) struct Source<'a> {
+    pub(crate) alloc: Global,
+    pub(crate) program: &'a Program,
+    pub(crate) places: &'a Addresses,
+}
+
+/// A number of elements. Where it is too large, no memory holds them.
+pub(crate) fn count_of(n: usize) -> Result<u32, Memory>
+    ensures { IfOk result (λ count. count ≡ n) }
+{
+    if n < 4_294_967_296 {
+        Ok(n as u32)
+    } else {
+        Err(Memory)
+    }
+}
+
+/// The address of an automaton's cell.
+pub(crate) fn state_address(automaton: u32, source: &Source<'_>) -> Result<i32, Memory>
+    requires { IsSource source.now }
+    ensures { IfOk result (λ x. x ≡ pos (4 * automaton_cell (program_of source.now) automaton)) }
+{
+    cell_of(4 * (u64::from(source.places.cells) + u64::from(automaton)))
+}
