@@ -1,0 +1,2 @@
+pub mod OperandView
+pub mod Values

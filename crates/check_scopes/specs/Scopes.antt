@@ -1,0 +1,77 @@
+-- The declarations in sight as code holds them: each name with what it means, block by block with the
+-- innermost first; and as one list, the latest first, with None where a block begins.
+use Rattle.std.specs.Prelude.{◌≡◌, ℕ, suc, nat_eq, if◌then◌else◌, List, [], ◌∷◌, ◌++◌, map, Option, Some, None}
+use Rattle.std.specs.Str.{bytes_eq}
+use Rattle.pawn_typing.specs.Scope.{Scope, Meaning, Entry, with_block, with_entries}
+use Rattle.check_types.specs.declared.meaning.Meaning as held
+use Rattle.check_types.specs.MeaningView.{meaning_view}
+use Rattle.check_scopes.specs.declared.scopes.Declared.{Declared}
+use Rattle.check_scopes.specs.declared.scopes.Hidden.{Hidden}
+
+-- ---- block by block
+
+abbrev pub Blocks : Type 0
+Blocks = List (List (List ℕ × held.Meaning))
+
+-- as the rules of typing see them
+abbrev pub entry_view : List ℕ × held.Meaning → Entry
+entry_view it = record { name = it.0; means = meaning_view it.1 }
+
+abbrev pub scope_view : Blocks → Scope
+scope_view blocks = map (λ block. map entry_view block) blocks
+
+-- one declaration more in the innermost block
+abbrev pub with_name : List ℕ → held.Meaning → Blocks → Blocks
+with_name name means [] = ((name, means) ∷ []) ∷ []
+with_name name means (block ∷ outer) = (block ++ (name, means) ∷ []) ∷ outer
+
+-- without the innermost block, which isn't the outermost one
+abbrev pub outer_of : Blocks → Blocks
+outer_of [] = [] ∷ []
+outer_of (block ∷ []) = [] ∷ []
+outer_of (block ∷ outer ∷ more) = outer ∷ more
+
+-- ---- as one list
+
+abbrev pub Stack : Type 0
+Stack = List (Option Hidden)
+
+-- how many blocks begin
+abbrev pub depth_of : Stack → ℕ
+depth_of [] = 0
+depth_of (None ∷ more) = suc (depth_of more)
+depth_of (Some it ∷ more) = depth_of more
+
+-- block by block; the outermost one begins by itself
+abbrev pub blocks_of : Stack → Blocks
+blocks_of [] = [] ∷ []
+blocks_of (None ∷ more) = [] ∷ blocks_of more
+blocks_of (Some it ∷ more) = with_name it.name.now it.declared.means (blocks_of more)
+
+-- and as the rules see it
+abbrev pub entry_of : Hidden → Entry
+entry_of it = record { name = it.name.now; means = meaning_view it.declared.means }
+
+abbrev pub scope_of : Stack → Scope
+scope_of [] = [] ∷ []
+scope_of (None ∷ more) = with_block (scope_of more)
+scope_of (Some it ∷ more) = with_entries (scope_of more) (entry_of it ∷ [])
+
+-- what a name means
+abbrev pub meant_by : Stack → List ℕ → Option Declared
+meant_by [] name = None
+meant_by (None ∷ more) name = meant_by more name
+meant_by (Some it ∷ more) name =
+    if bytes_eq it.name.now name then Some it.declared else meant_by more name
+
+-- what a declaration means, if it stands in so many blocks
+abbrev pub here_in : Option Declared → ℕ → Option Meaning
+here_in None depth = None
+here_in (Some it) depth = if nat_eq it.depth depth then Some (meaning_view it.means) else None
+
+-- each declaration keeps what its name meant before it, and in how many blocks it stands
+abbrev pub IsChain : Stack → Type 0
+IsChain [] = Unit {0}
+IsChain (None ∷ more) = IsChain more
+IsChain (Some it ∷ more) =
+    (it.before ≡ meant_by more it.name.now) × (it.declared.depth ≡ depth_of more) × IsChain more
