@@ -1,0 +1,6 @@
+pub mod PutLaws
+pub mod ArgsLaws
+pub mod FillLaws
+pub mod NameLaws
+pub mod MadeLaws
+pub mod ShownLaws

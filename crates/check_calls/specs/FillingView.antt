@@ -1,0 +1,32 @@
+-- The arguments of a call so far, as the rules of calls see them.
+use Rattle.std.specs.Prelude.{List, Option, map, option_map}
+use Rattle.pawn_program.specs.View.{arg_view, object_view}
+use Rattle.pawn_calls.specs.Filling as plain
+use Rattle.check_types.specs.TypedView.{typed_view}
+use Rattle.check_calls.specs.declared.filling.Offer.{Offer}
+use Rattle.check_calls.specs.declared.filling.Offer.TheVariants as offer
+use Rattle.check_calls.specs.declared.filling.Filled.{Filled}
+use Rattle.check_calls.specs.declared.filling.Filled.TheVariants as filled
+use Rattle.check_calls.specs.declared.filling.Filling.{Filling}
+use Rattle.check_given.specs.GivenView.{argued_view}
+
+abbrev pub offer_view : Offer → plain.Offer
+offer_view (offer.Positional x) = plain.Positional (typed_view x)
+offer_view offer.Skipped = plain.Skipped
+offer_view (offer.Named name x) = plain.Named name.now (typed_view x)
+
+abbrev pub filled_view : Filled → plain.Filled
+filled_view (filled.Argument it) = plain.Argument (argued_view it)
+filled_view filled.Default = plain.Default
+
+abbrev pub slots_view : List (Option Filled) → List (Option plain.Filled)
+slots_view slots = map (option_map filled_view) slots
+
+abbrev pub filling_view : Filling → plain.Filling
+filling_view it = record {
+  next = it.next;
+  slots = slots_view it.slots.items;
+  rest = map arg_view it.rest;
+  literals = map object_view it.made.literals;
+  warned = it.made.warned;
+}

@@ -1,0 +1,4 @@
+pub mod Empty
+pub mod FillingView
+pub mod Shown
+pub mod CalleeView

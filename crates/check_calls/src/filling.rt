@@ -1,0 +1,304 @@
+ghost use Rattle.std.specs.Prelude.{◌≡◌, ◌+◌, map, option_map, position, slice_get, IfOk};
+ghost use Rattle.std.specs.Str.{bytes_eq};
+ghost use Rattle.pawn_scopes.specs.Verdict.{Stands, after};
+ghost use Rattle.pawn_typing.specs.Around.{Param as Plain};
+ghost use Rattle.pawn_calls.specs.Given.{given_rule};
+ghost use Rattle.pawn_calls.specs.Filling as spec;
+ghost use Rattle.pawn_verdict.specs.Answers.{Answers};
+ghost use Rattle.check_types.specs.declared.context.Param.{Param as Held};
+ghost use Rattle.check_types.specs.ContextView.{around_view, param_view, head_view};
+ghost use Rattle.check_types.specs.TypedView.{typed_view};
+ghost use Rattle.check_calls.specs.Empty.{nothing_for};
+ghost use Rattle.check_calls.specs.FillingView.{filled_view, filling_view, offer_view, slots_view};
+
+use check_given::{Argued, give, rest_given};
+use check_types::{Context, Head, Made, Param, Typed};
+use pawn_base::{Bytes, List, Memory};
+use pawn_program::Arg;
+use pawn_tree::At;
+use pawn_typing::{ARGUMENT_MISSING, ARGUMENT_TWICE, TOO_MANY_ARGUMENTS, UNDEFINED};
+use pawn_verdict::{CheckFault, broken};
+use std::alloc::Global;
+use std::mem;
+
+/// An argument as it stands in the call.
+#[derive(Drop)]
+pub enum Offer<'a> {
+    Positional(Typed),
+    /// `_`
+    Skipped,
+    /// The argument of the parameter with this name.
+    Named(&'a Bytes, Typed),
+}
+
+/// What a parameter got.
+#[derive(Drop)]
+pub enum Filled {
+    Argument(Argued),
+    /// `_`
+    Default,
+}
+
+/// The arguments so far: how many were positional, what each parameter got, those of `...`, and what was
+/// made and found in them.
+#[derive(Drop)]
+pub struct Filling {
+    pub next: usize,
+    pub slots: Vec<Option<Filled>>,
+    pub rest: List<Arg>,
+    pub made: Made,
+}
+
+/// A slot for each parameter, with nothing in it.
+fn empty_slots(alloc: Global, params: &[Param]) -> Result<Vec<Option<Filled>>, Memory>
+    ensures { IfOk result (λ slots. slots.items ≡ map nothing_for params.now) }
+{
+    let mut slots = Vec::new(alloc);
+    for _param in params {
+        slots.push(None)?;
+    }
+    Ok(slots)
+}
+
+/// No parameter got anything.
+#[tactic(auto, using(crate::proofs::FillLaws::nothing_seen))]
+fn nothing_filled(alloc: Global, head: &Head) -> Result<Filling, Memory>
+    ensures { IfOk result (λ it. filling_view it ≡ spec.nothing_filled (head_view head.now)) }
+{
+    let slots = empty_slots(alloc, head.params.as_slice())?;
+    Ok(Filling {
+        next: 0,
+        slots,
+        rest: List::new(alloc),
+        made: Made::nothing(alloc),
+    })
+}
+
+/// The parameter with a number gets something, once.
+fn put(
+    at: At,
+    i: usize,
+    it: Filled,
+    slots: Vec<Option<Filled>>,
+) -> Result<Vec<Option<Filled>>, CheckFault>
+    ensures { Answers (λ slots. slots_view slots.items)
+        (spec.put at i (filled_view it) (slots_view slots.items)) result }
+{
+    let mut slots = slots;
+    if i >= slots.len() {
+        return Err(broken(TOO_MANY_ARGUMENTS, at.place));
+    }
+    match mem::replace(&mut slots[i], Some(it)) {
+        None => Ok(slots),
+        Some(_) => Err(broken(ARGUMENT_TWICE, at.place)),
+    }
+}
+
+/// An argument for the parameter with a number; so many are positional behind it.
+#[tactic(auto, using(pawn_verdict::proofs::VerdictLaws::verdicts))]
+fn for_param(
+    alloc: Global,
+    cx: &Context,
+    at: At,
+    done: Filling,
+    i: usize,
+    param: &Param,
+    x: Typed,
+    next: usize,
+) -> Result<Filling, CheckFault>
+    ensures { Answers filling_view
+        (after (given_rule (around_view cx.now) at (param_view param.now) (typed_view x)) (λ it.
+        after (spec.put at i (spec.Argument (spec.in_slot it)) (slots_view done.slots.items)) (λ slots.
+        Stands (spec.argued (filling_view done) (typed_view x) it slots next)))) result }
+{
+    let it = give(alloc, cx, at, param, x)?;
+    let slots = put(at, i, Filled::Argument(it.argued), done.slots)?;
+    Ok(Filling {
+        next,
+        slots,
+        rest: done.rest,
+        made: done.made.then(it.made)?,
+    })
+}
+
+fn one_more(count: usize) -> Result<usize, Memory>
+    ensures { IfOk result (λ more. more ≡ count + 1) }
+{
+    match count.checked_add(1) {
+        None => Err(Memory),
+        Some(more) => Ok(more),
+    }
+}
+
+/// An argument behind all parameters, which belongs to `...`.
+fn for_rest(
+    alloc: Global,
+    cx: &Context,
+    at: At,
+    head: &Head,
+    done: Filling,
+    x: Typed,
+) -> Result<Filling, CheckFault>
+    ensures { Answers filling_view (spec.for_rest (around_view cx.now) at (head_view head.now)
+        (filling_view done) head.now.rest (typed_view x)) result }
+{
+    match &head.rest {
+        None => Err(broken(TOO_MANY_ARGUMENTS, at.place)),
+        Some(tags) => {
+            let it = rest_given(alloc, cx, tags.as_slice(), x)?;
+            let mut rest = done.rest;
+            rest.push(it.argued.code)?;
+            Ok(Filling {
+                next: one_more(done.next)?,
+                slots: done.slots,
+                rest,
+                made: done.made.then(it.made)?,
+            })
+        }
+    }
+}
+
+/// The parameter with a number.
+fn param_at<'a>(head: &'a Head, i: usize) -> Option<&'a Param>
+    ensures { option_map (λ param. param_view param.now) result ≡
+        slice_get (map param_view head.now.params) i }
+{
+    match head.params.as_slice().get(i) {
+        None => None,
+        Some(param) => Some(param),
+    }
+}
+
+/// An argument in its turn.
+fn positional(
+    alloc: Global,
+    cx: &Context,
+    at: At,
+    head: &Head,
+    done: Filling,
+    x: Typed,
+) -> Result<Filling, CheckFault>
+    ensures { Answers filling_view (spec.positional (around_view cx.now) at (head_view head.now)
+        (filling_view done) (slice_get (map param_view head.now.params) done.next) (typed_view x)) result }
+{
+    let i = done.next;
+    match param_at(head, i) {
+        None => for_rest(alloc, cx, at, head, done, x),
+        Some(param) => {
+            let next = one_more(i)?;
+            for_param(alloc, cx, at, done, i, param, x, next)
+        }
+    }
+}
+
+/// `_`, which gives a parameter its default. `...` has none.
+#[tactic(auto, using(pawn_verdict::proofs::VerdictLaws::verdicts))]
+fn skipped(cx: &Context, at: At, head: &Head, done: Filling) -> Result<Filling, CheckFault>
+    ensures { Answers filling_view (spec.skipped (around_view cx.now) at (head_view head.now)
+        (filling_view done) (slice_get (map param_view head.now.params) done.next)) result }
+{
+    match head.params.as_slice().get(done.next) {
+        None => match &head.rest {
+            None => Err(broken(TOO_MANY_ARGUMENTS, at.place)),
+            Some(_) => Err(broken(ARGUMENT_MISSING, at.place)),
+        },
+        Some(_) => {
+            let slots = put(at, done.next, Filled::Default, done.slots)?;
+            Ok(Filling {
+                next: one_more(done.next)?,
+                slots,
+                rest: done.rest,
+                made: done.made,
+            })
+        }
+    }
+}
+
+/// The number of the parameter with a name.
+fn number_of_param(head: &Head, name: &Bytes) -> Option<usize>
+    ensures { result ≡ position (λ (param : Plain). bytes_eq param.name name.now)
+        (map param_view head.now.params) }
+{
+    let params = head.params.as_slice();
+    let name = name.as_slice();
+    place_of(params, name)
+}
+
+fn place_of(params: &[Param], name: &[u8]) -> Option<usize>
+    ensures { result ≡ position (λ (param : Held). bytes_eq param.name name.now) params.now }
+{
+    params
+        .iter()
+        .position(|param| param.name.as_slice() == name)
+}
+
+/// The argument of the parameter with a name.
+fn named(
+    alloc: Global,
+    cx: &Context,
+    at: At,
+    head: &Head,
+    done: Filling,
+    name: &Bytes,
+    x: Typed,
+) -> Result<Filling, CheckFault>
+    ensures { Answers filling_view (spec.named (around_view cx.now) at (head_view head.now)
+        (filling_view done) (spec.number_of_param (around_view cx.now) at (head_view head.now) name.now)
+        (typed_view x)) result }
+{
+    let next = done.next;
+    match number_of_param(head, name) {
+        None => Err(broken(UNDEFINED, at.place)),
+        Some(i) => match param_at(head, i) {
+            None => Err(broken(UNDEFINED, at.place)),
+            Some(param) => for_param(alloc, cx, at, done, i, param, x, next),
+        },
+    }
+}
+
+/// Behind one more argument.
+///
+/// # Errors
+///
+/// 50 for a name that no parameter has, 55 and 58 for an argument that doesn't fit its parameter, 59
+/// for `_` behind all parameters, 60 for a parameter that got something, 61 for an argument too many.
+pub fn offered(
+    alloc: Global,
+    cx: &Context,
+    at: At,
+    head: &Head,
+    done: Filling,
+    it: Offer,
+) -> Result<Filling, CheckFault>
+    ensures { Answers filling_view (spec.offer_step (around_view cx.now) at (head_view head.now)
+        (filling_view done) (offer_view it.entry)) result }
+{
+    match it {
+        Offer::Positional(x) => positional(alloc, cx, at, head, done, x),
+        Offer::Skipped => skipped(cx, at, head, done),
+        Offer::Named(name, x) => named(alloc, cx, at, head, done, name, x),
+    }
+}
+
+/// All arguments of a call, each put to its parameter.
+///
+/// # Errors
+///
+/// Those of each argument.
+pub fn fill(
+    alloc: Global,
+    cx: &Context,
+    at: At,
+    head: &Head,
+    offers: Vec<Offer>,
+) -> Result<Filling, CheckFault>
+    ensures { Answers filling_view (spec.fill (around_view cx.now) at (head_view head.now)
+        (map offer_view offers.entry.items)) result }
+{
+    let nothing = nothing_filled(alloc, head)?;
+    let mut done = nothing;
+    for it in offers {
+        done = offered(alloc, cx, at, head, done, it)?;
+    }
+    Ok(done)
+}
