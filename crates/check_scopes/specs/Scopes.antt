@@ -10,6 +10,7 @@ use Rattle.check_scopes.specs.declared.scopes.Hidden.{Hidden}
 
 -- ---- block by block
 
+-- the declarations of each block, the innermost block first
 abbrev pub Blocks : Type 0
 Blocks = List (List (List ℕ × held.Meaning))
 
@@ -17,6 +18,7 @@ Blocks = List (List (List ℕ × held.Meaning))
 abbrev pub entry_view : List ℕ × held.Meaning → Entry
 entry_view it = record { name = it.0; means = meaning_view it.1 }
 
+-- and all of them
 abbrev pub scope_view : Blocks → Scope
 scope_view blocks = map (λ block. map entry_view block) blocks
 
@@ -33,6 +35,7 @@ outer_of (block ∷ outer ∷ more) = outer ∷ more
 
 -- ---- as one list
 
+-- declarations with what each hides, the latest first
 abbrev pub Stack : Type 0
 Stack = List (Option Hidden)
 
@@ -52,6 +55,7 @@ blocks_of (Some it ∷ more) = with_name it.name.now it.declared.means (blocks_o
 abbrev pub entry_of : Hidden → Entry
 entry_of it = record { name = it.name.now; means = meaning_view it.declared.means }
 
+-- and all of them, from the stack
 abbrev pub scope_of : Stack → Scope
 scope_of [] = [] ∷ []
 scope_of (None ∷ more) = with_block (scope_of more)
