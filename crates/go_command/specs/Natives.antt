@@ -7,6 +7,7 @@ use Rattle.pawn_words.specs.declared.stop.Stop.{Stop}
 use Rattle.pawn_words.specs.declared.stop.Stop.TheVariants.{NoMemory}
 use Rattle.command_parts.specs.Program.{IsScriptNamed, NoScript}
 
+-- the script is there
 abbrev pub HasNatives : Option Held → Option (List ℕ) → Script → Type 0
 HasNatives held None script = script ≡ plain
 HasNatives held (Some name) script = IsScriptNamed held name script
@@ -18,10 +19,12 @@ LacksNatives held (Some name) stop = NoScript held name stop
 
 -- ---- what the calls answer
 
+-- the script, or what keeps it away
 abbrev pub AreNatives : Option Held → Option (List ℕ) → Result Script Stop → Type 0
 AreNatives held name (Ok script) = HasNatives held name script
 AreNatives held name (Err stop) = LacksNatives held name stop
 
+-- the plain script, or want of memory
 abbrev pub IsPlain : Result Script Stop → Type 0
 IsPlain (Ok script) = script ≡ plain
 IsPlain (Err stop) = stop ≡ NoMemory

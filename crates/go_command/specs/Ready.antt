@@ -45,15 +45,18 @@ pub data NotReady (amx : Amx) (script : Script) : Stop → Type 0 where
 
 -- ---- what the calls answer
 
+-- why natives can't be bound
 abbrev pub NotServed : List Record → BindFault → Stop → Type 0
 NotServed natives (bind.Unregistered number) stop =
     IsStopOf (Unregistered (name_of natives number)) stop
 NotServed natives bind.Memory stop = stop ≡ NoMemory
 
+-- natives are bound and the machine made, or not
 abbrev pub Serves : Amx → Script → Result Ready Stop → Type 0
 Serves amx script (Ok ready) = IsServing amx script ready
 Serves amx script (Err stop) = Unserved amx script stop
 
+-- the same behind the look for main
 abbrev pub Readies : Amx → Script → Result Ready Stop → Type 0
 Readies amx script (Ok ready) = IsReady amx script ready
 Readies amx script (Err stop) = NotReady amx script stop

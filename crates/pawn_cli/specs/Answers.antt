@@ -54,6 +54,7 @@ pub record AreResume (words : ResumeWords) (amx script image : ListOf ℕ) (step
   pub image_is : words.image.now ≡ image
   pub steps_is : words.steps ≡ steps
 
+-- `resume` by such words
 pub record ResumesBy {S : Type 0} (writes : Writes S) (amx script image : ListOf ℕ) (steps : ℕ)
     (held after : Option Held) (old new : S) (answer : Status) : Type 0 where
   pub words : ResumeWords
@@ -69,6 +70,7 @@ pub record AreGo (words : GoWords) (src amx : ListOf ℕ) (script : Option (List
   pub steps_is : words.steps ≡ steps
   pub sleeps_is : words.sleeps ≡ sleeps
 
+-- `go` by such words
 pub record GoesBy {S : Type 0} (writes : Writes S) (src amx : ListOf ℕ) (script : Option (ListOf ℕ))
     (steps sleeps : ℕ) (held after : Option Held) (old new : S) (answer : Status) : Type 0 where
   pub words : GoWords
@@ -77,6 +79,7 @@ pub record GoesBy {S : Type 0} (writes : Writes S) (src amx : ListOf ℕ) (scrip
 
 -- ---- the commands
 
+-- what each command does
 abbrev pub Does : {S : Type 0} → Writes S → Option Command → Option Held → Option Held → S → S
     → Status → Type 0
 Does writes None held after old new answer = ⊥
@@ -90,6 +93,7 @@ Does writes (Some (Resume amx script image steps)) held after old new answer =
 Does writes (Some (Go src amx script steps sleeps)) held after old new answer =
     GoesBy writes src amx script steps sleeps held after old new answer
 
+-- a call is stopped by its words, or does what its command does
 abbrev pub Answers : {S : Type 0} → Writes S → Option Command → Option Held → Option Held → S → S
     → Status → Type 0
 Answers writes said held after old new answer =

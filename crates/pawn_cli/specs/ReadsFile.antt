@@ -29,11 +29,13 @@ ReadsFile text_of writes name held after old new answer =
     IsStopped writes (NoFile held name) held after old new answer
     ⊎ TellsFile text_of writes name held after old new answer
 
+-- `verify`
 abbrev pub Verifies : {S : Type 0} → Writes S → List ℕ → Option Held → Option Held → S → S → Status
     → Type 0
 Verifies writes name held after old new answer =
     ReadsFile (λ amx. codes "valid\n") writes name held after old new answer
 
+-- `list`
 abbrev pub Lists : {S : Type 0} → Writes S → List ℕ → Option Held → Option Held → S → S → Status
     → Type 0
 Lists writes name held after old new answer =
