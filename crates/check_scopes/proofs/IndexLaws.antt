@@ -1,20 +1,19 @@
 -- The table stays right where declarations come and go.
-use Rattle.std.proofs.Common.{◌≡◌, ◌<◌, ℕ, suc, Bool, true, false, cond, nat_eq, if◌then◌else◌, ◌||◌, List, [], ◌∷◌, ◌++◌, length, ◌+◌, ◌-◌, reverse, Option, Some, None, option_map, refl, sym, ap, ap₂, ◌∙◌, subst, arith}
+use Rattle.std.proofs.Common.{◌≡◌, ◌<◌, ◌≤◌, ℕ, suc, Bool, true, false, cond, nat_eq, if◌then◌else◌, ◌||◌, List, [], ◌∷◌, ◌++◌, length, map, take, drop, ◌+◌, ◌-◌, reverse, Option, Some, None, option_map, refl, sym, ap, ap₂, ◌∙◌, subst, arith}
 use Rattle.std.proofs.lemmas.Bool.{eq-eqb, false≢true}
 use Rattle.std.proofs.lemmas.Bool.Decides.{nat_tests}
 use Rattle.std.specs.Borrow.{Bor}
 use Rattle.std.specs.Cmp.Lexicographic.{bytes_decides, nat_list_eq_equiv}
 use Rattle.std.specs.Map.{lookup}
 use Rattle.std.specs.Str.{bytes_eq}
-use Rattle.std.proofs.lemmas.List.{reverse-append, map-append}
+use Rattle.std.proofs.lemmas.List.{reverse-append, map-append, take_all, length-take-le, take-append-le, take-append-drop}
 use Rattle.std.specs.Option.{option_or}
 use Rattle.pawn_typing.specs.Scope.{Scope, Meaning, Entry, first_named, found, found_in_block, with_entries}
-use Rattle.check_types.specs.declared.meaning.Meaning as held
-use Rattle.check_types.specs.MeaningView.{meaning_view}
+use Rattle.check_scopes.specs.declared.scopes.Sight.{Sight}
 use Rattle.indexmap.specs.IndexMap.{insert_entry}
 use Rattle.check_scopes.specs.declared.scopes.Declared.{Declared}
 use Rattle.check_scopes.specs.declared.scopes.Hidden.{Hidden}
-use Rattle.check_scopes.specs.Scopes.{Stack, Blocks, entry_view, scope_view, with_name, depth_of, entry_of, blocks_of, scope_of, outer_of, meant_by, here_in, IsChain}
+use Rattle.check_scopes.specs.Scopes.{sight_view, Stack, Block, Blocks, entry_view, block_view, scope_view, without, with_name, depth_of, entry_of, blocks_of, scope_of, outer_of, meant_by, here_in, IsChain}
 use Rattle.check_scopes.specs.Indexed.{Table, now_in, IsIndexed}
 
 -- ---- a table of names after an insertion
@@ -116,7 +115,7 @@ left_on stack table depth h =
 -- ---- the stack as blocks
 
 abbrev pub means_in : Option Declared → Option Meaning
-means_in declared = option_map (λ (it : Declared). meaning_view it.means) declared
+means_in declared = option_map (λ (it : Declared). sight_view it.means) declared
 
 found_by : (b : Bool) (it : Entry) (rest others : Option Meaning)
     → option_or (if b then Some it.means else rest) others
@@ -137,7 +136,7 @@ found_with (block ∷ outer) it name =
 means_by : (b : Bool) (it : Declared) (rest : Option Declared) (others scope : Option Meaning)
     → option_or (means_in rest) others ≡ scope
     → option_or (means_in (if b then Some it else rest)) others
-    ≡ if b then Some (meaning_view it.means) else scope
+    ≡ if b then Some (sight_view it.means) else scope
 means_by true it rest others scope h = refl
 means_by false it rest others scope h = h
 
@@ -212,7 +211,7 @@ less_no x n h = grind (arith, nat_tests)
 deeper_by : (b : Bool) (it : Declared) (rest : Option Declared) (n : ℕ) → it.depth < n → here_in rest n ≡ None
     → here_in (if b then Some it else rest) n ≡ None
 deeper_by true it rest n h k =
-    ap (λ (same : Bool). if same then Some (meaning_view it.means) else None) (less_no it.depth n h)
+    ap (λ (same : Bool). if same then Some (sight_view it.means) else None) (less_no it.depth n h)
 deeper_by false it rest n h k = k
 
 -- none stands deeper than the innermost block
@@ -225,9 +224,9 @@ deeper (Some it ∷ stack) name n h k =
     deeper_by (bytes_eq it.name.now name) it.declared (meant_by stack name) n l (deeper stack name n h.2 k)
 
 here_by : (b : Bool) (it : Declared) (rest : Option Declared) (n : ℕ) (others : Option Meaning) → it.depth ≡ n → others ≡ here_in rest n
-    → (if b then Some (meaning_view it.means) else others) ≡ here_in (if b then Some it else rest) n
+    → (if b then Some (sight_view it.means) else others) ≡ here_in (if b then Some it else rest) n
 here_by true it rest n others h k =
-    ap (λ (same : Bool). if same then Some (meaning_view it.means) else None) (sym (eq-eqb it.depth n h))
+    ap (λ (same : Bool). if same then Some (sight_view it.means) else None) (sym (eq-eqb it.depth n h))
 here_by false it rest n others h k = k
 
 here_is : (stack : Stack) (name : List ℕ) → IsChain stack → 0 < depth_of stack
@@ -258,13 +257,12 @@ here_of stack table depth scope name declared h v f lt =
 
 -- ---- block by block
 
-pub name_viewed : (name : List ℕ) (means : held.Meaning) (blocks : Blocks)
+pub name_viewed : (name : List ℕ) (means : Sight) (blocks : Blocks)
     → scope_view (with_name name means blocks)
     ≡ with_entries (scope_view blocks) (entry_view (name, means) ∷ [])
-name_viewed name means [] = refl
-name_viewed name means (block ∷ outer) =
-    ap (λ (entries : List Entry). entries ∷ scope_view outer)
-    (map-append entry_view block ((name, means) ∷ []))
+name_viewed name means blocks =
+    ap (λ (entries : List Entry). entries ∷ map block_view blocks.outer)
+    (map-append entry_view blocks.here ((name, means) ∷ []))
 
 viewed : (stack : Stack) → scope_of stack ≡ scope_view (blocks_of stack)
 viewed [] = refl
@@ -277,20 +275,6 @@ pub viewed_as : (stack : Stack) (blocks : Blocks) → blocks_of stack ≡ blocks
     → scope_of stack ≡ scope_view blocks
 viewed_as stack blocks e = viewed stack ∙ ap scope_view e
 
-more_blocks : (name : List ℕ) (means : held.Meaning) (blocks : Blocks) → 0 < length blocks
-    → length (with_name name means blocks) ≡ length blocks
-more_blocks name means [] h = absurd (omega (arith, h))
-more_blocks name means (block ∷ outer) h = refl
-
-count_of : (stack : Stack) → length (blocks_of stack) ≡ depth_of stack + 1
-count_of [] = refl
-count_of (None ∷ stack) =
-    let e : length (blocks_of stack) ≡ depth_of stack + 1 = count_of stack in omega arith
-count_of (Some it ∷ stack) =
-    let e : length (blocks_of stack) ≡ depth_of stack + 1 = count_of stack in
-    let more : 0 < length (blocks_of stack) = omega arith in
-    more_blocks it.name.now it.declared.means (blocks_of stack) more ∙ e
-
 -- ---- the stack as code holds it, the latest last
 
 pub on_top : {A : Type 0} (items : List A) (x : A) → reverse (items ++ x ∷ []) ≡ x ∷ reverse items
@@ -301,16 +285,6 @@ pub declared_now : (items pushed : List (Option Hidden)) (table entries : Table)
     → pushed ≡ items ++ Some it ∷ [] → entries ≡ inserted table it.name (Some it.declared) → IsIndexed (reverse pushed) entries depth
 declared_now items pushed table entries depth it h d b p e = rw (p, e, on_top items (Some it)) (declared_on (reverse items) table depth it h d b)
 
-outer_with : (name : List ℕ) (means : held.Meaning) (blocks : Blocks)
-    → outer_of (with_name name means blocks) ≡ outer_of blocks
-outer_with name means [] = refl
-outer_with name means (block ∷ []) = refl
-outer_with name means (block ∷ outer ∷ more) = refl
-
-outer_new : (blocks : Blocks) → 0 < length blocks → outer_of ([] ∷ blocks) ≡ blocks
-outer_new [] h = absurd (omega (arith, h))
-outer_new (block ∷ outer) h = refl
-
 -- the block on top is gone
 pub left_block : (items rest : List (Option Hidden)) (top : Option Hidden) (outer : Blocks)
     → outer_of (blocks_of (reverse items)) ≡ outer → items ≡ rest ++ top ∷ [] → top ≡ None
@@ -318,10 +292,7 @@ pub left_block : (items rest : List (Option Hidden)) (top : Option Hidden) (oute
 left_block items rest top outer h popped is_none =
     let on_none : reverse items ≡ None ∷ reverse rest =
     ap reverse popped ∙ on_top rest top ∙ ap (λ x. x ∷ reverse rest) is_none in
-    let e : length (blocks_of (reverse rest)) ≡ depth_of (reverse rest) + 1 = count_of (reverse rest) in
-    let more : 0 < length (blocks_of (reverse rest)) = omega arith in
-    sym (outer_new (blocks_of (reverse rest)) more)
-    ∙ sym (ap (λ stack. outer_of (blocks_of stack)) on_none) ∙ h
+    sym (ap (λ stack. outer_of (blocks_of stack)) on_none) ∙ h
 
 module _ (items rest : List (Option Hidden)) (top : Option Hidden) (table : Table) (depth : ℕ) (it : Hidden) (outer : Blocks)
     (before : IsIndexed (reverse items) table depth × (outer_of (blocks_of (reverse items)) ≡ outer)) (popped : items ≡ rest ++ top ∷ []) (is_it : top ≡ Some it) where
@@ -336,7 +307,7 @@ module _ (items rest : List (Option Hidden)) (top : Option Hidden) (table : Tabl
       → IsIndexed (reverse rest) entries depth × (outer_of (blocks_of (reverse rest)) ≡ outer)
   undeclared entries e = (
     rw e (declared_off (reverse rest) table depth it indexed),
-    sym (outer_with it.name.now it.declared.means (blocks_of (reverse rest))) ∙ sym (ap (λ stack. outer_of (blocks_of stack)) on_it) ∙ before.1,
+    sym (ap (λ stack. outer_of (blocks_of stack)) on_it) ∙ before.1,
   )
 
   -- its name has an entry
@@ -347,3 +318,27 @@ module _ (items rest : List (Option Hidden)) (top : Option Hidden) (table : Tabl
       ap (λ b. if b then Some it.declared else meant_by (reverse rest) it.name.now) same in
       let no : None ≡ Some it.declared = sym (ap now_in e) ∙ indexed.index it.name.now ∙ is_some in
       cc
+
+-- ---- the latest declarations of a block are gone
+
+pub without_none : (blocks : Blocks) → blocks ≡ without 0 blocks
+without_none blocks =
+    ap (λ (here : Block). record blocks { here = here })
+    (sym (take_all (length blocks.here - 0) blocks.here (omega arith)))
+
+one_less : {A : Type 0} (xs : List A) (k : ℕ) → k ≤ length xs
+    → take (length (take k xs) - 1) (take k xs) ≡ take (k - 1) xs
+one_less xs k h =
+    let counted : length (take k xs) ≡ k = length-take-le k xs h in
+    let fewer : k - 1 ≤ length (take k xs) = omega (arith, counted) in
+    ap (λ n. take (n - 1) (take k xs)) counted
+    ∙ sym (take-append-le (k - 1) (take k xs) (drop k xs) fewer)
+    ∙ ap (take (k - 1)) (take-append-drop k xs)
+
+pub without_more : (blocks : Blocks) (i : ℕ) → without 1 (without i blocks) ≡ without (i + 1) blocks
+without_more blocks i =
+    let all : ℕ = length blocks.here in
+    let counts : all - i - 1 ≡ all - (i + 1) = omega arith in
+    ap (λ (here : Block). record blocks { here = here })
+    (one_less blocks.here (all - i) (omega arith)
+    ∙ ap (λ n. take n blocks.here) counts)

@@ -5,4 +5,4 @@ mod scopes;
 
 pub use check_types::Meaning;
 pub use pawn_base::Memory;
-pub use scopes::Scopes;
+pub use scopes::{Scopes, Sight};

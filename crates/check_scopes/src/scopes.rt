@@ -1,7 +1,6 @@
-ghost use Rattle.std.specs.Prelude.{◌≡◌, [], ◌∷◌, option_map, Some, OnOk};
+ghost use Rattle.std.specs.Prelude.{◌≡◌, [], option_map, Some, OnOk};
 ghost use Rattle.pawn_typing.specs.Scope as spec;
-ghost use Rattle.check_types.specs.MeaningView.{meaning_view};
-ghost use Rattle.check_scopes.specs.Scopes.{here_in, outer_of, scope_view, with_name};
+ghost use Rattle.check_scopes.specs.Scopes.{entered, here_in, nothing_declared, outer_of, scope_view, sight_view, with_name, without};
 
 use check_names::{TRUTH_TAG, UNTAGGED};
 use check_types::Meaning;
@@ -11,10 +10,18 @@ use pawn_cells::predefined;
 use std::alloc::Global;
 use std::marker::Model;
 
+/// What a declaration in sight means.
+#[derive(Clone, Copy, Debug, PartialEq, Eq)]
+pub enum Sight {
+    Means(Meaning),
+    /// The declaration doesn't stand, so its name means nothing.
+    Unknown,
+}
+
 /// What a name means, and in how many blocks its declaration stands.
 #[derive(Clone, Copy)]
 struct Declared {
-    means: Meaning,
+    means: Sight,
     depth: usize,
 }
 
@@ -59,18 +66,21 @@ fn truth_tag(is_bool: bool) -> u32
 
 /// What a name means that no declaration has.
 #[tactic(auto, unfolding(pawn_typing::specs::Scope::found))]
-fn elsewhere(name: &[u8]) -> Option<Meaning>
-    ensures { option_map meaning_view result ≡ spec.found [] name.now }
+fn elsewhere(name: &[u8]) -> Option<Sight>
+    ensures { option_map sight_view result ≡ spec.found [] name.now }
 {
     match predefined(name) {
         None => None,
-        Some(it) => Some(Meaning::Constant(it.value, truth_tag(it.is_bool))),
+        Some(it) => {
+            let means = Meaning::Constant(it.value, truth_tag(it.is_bool));
+            Some(Sight::Means(means))
+        }
     }
 }
 
 /// What a declaration means, if it stands in so many blocks.
-fn means_at(declared: Declared, depth: usize) -> Option<Meaning>
-    ensures { option_map meaning_view result ≡ here_in (Some declared) depth }
+fn means_at(declared: Declared, depth: usize) -> Option<Sight>
+    ensures { option_map sight_view result ≡ here_in (Some declared) depth }
 {
     if declared.depth == depth {
         Some(declared.means)
@@ -82,7 +92,7 @@ fn means_at(declared: Declared, depth: usize) -> Option<Meaning>
 impl<'a> Scopes<'a> {
     /// One block, in which nothing is declared.
     pub fn new(alloc: Global) -> Scopes<'a>
-        ensures { result ≡ [] ∷ [] }
+        ensures { result ≡ nothing_declared }
     {
         Scopes {
             table: IndexMap::new(alloc),
@@ -92,8 +102,8 @@ impl<'a> Scopes<'a> {
     }
 
     /// What a name means: that of the innermost block that has it, else the predefined constant.
-    pub fn find(&self, name: &[u8]) -> Option<Meaning>
-        ensures { option_map meaning_view result ≡ spec.found (scope_view self.now) name.now }
+    pub fn find(&self, name: &[u8]) -> Option<Sight>
+        ensures { option_map sight_view result ≡ spec.found (scope_view self.now) name.now }
     {
         match self.table.get(name) {
             None => elsewhere(name),
@@ -103,8 +113,8 @@ impl<'a> Scopes<'a> {
     }
 
     /// What a name means in the innermost block. That of the file has the predefined constants too.
-    pub fn find_here(&self, name: &[u8]) -> Option<Meaning>
-        ensures { option_map meaning_view result ≡ spec.found_in_block (scope_view self.now) name.now }
+    pub fn find_here(&self, name: &[u8]) -> Option<Sight>
+        ensures { option_map sight_view result ≡ spec.found_in_block (scope_view self.now) name.now }
     {
         if self.depth == 0 {
             return self.find(name);
@@ -121,7 +131,7 @@ impl<'a> Scopes<'a> {
     /// # Errors
     ///
     /// `Memory` for want of memory.
-    pub fn declare(&mut self, name: &'a [u8], means: Meaning) -> Result<(), Memory>
+    pub fn declare(&mut self, name: &'a [u8], means: Sight) -> Result<(), Memory>
         ensures { OnOk result (self.new ≡ with_name name.now means self.old) }
     {
         let before = match self.table.get(name) {
@@ -153,7 +163,7 @@ impl<'a> Scopes<'a> {
     ///
     /// `Memory` for want of memory.
     pub fn enter(&mut self) -> Result<(), Memory>
-        ensures { OnOk result (self.new ≡ [] ∷ self.old) }
+        ensures { OnOk result (self.new ≡ entered self.old) }
     {
         let Some(depth) = self.depth.checked_add(1) else {
             return Err(Memory);
@@ -177,6 +187,32 @@ impl<'a> Scopes<'a> {
             let Ok(_now) = self.table.insert(hidden.name, hidden.before) else {
                 unreachable!()
             };
+        }
+    }
+
+    /// The latest declaration of the innermost block goes, where it has one.
+    fn forget_last(&mut self)
+        ensures { self.new ≡ without 1 self.old }
+    {
+        let Some(Some(_)) = self.stack.last() else {
+            return;
+        };
+        let Some(Some(hidden)) = self.stack.pop() else {
+            unreachable!()
+        };
+        // the name has an entry, which takes no memory
+        let Ok(_now) = self.table.insert(hidden.name, hidden.before) else {
+            unreachable!()
+        };
+    }
+
+    /// So many of the latest declarations of the innermost block go, or all that it has: what they
+    /// hid is in sight again.
+    pub fn forget(&mut self, count: usize)
+        ensures { self.new ≡ without count self.old }
+    {
+        for _i in 0..count {
+            self.forget_last();
         }
     }
 }
