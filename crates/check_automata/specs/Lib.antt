@@ -1,0 +1,2 @@
+pub mod AutomataView
+pub mod Update
