@@ -1,0 +1,51 @@
+-- Typed statements, as the rules of statements see them.
+use Rattle.std.specs.Prelude.{List, Option, None, Some, map}
+use Rattle.pawn_program.specs.Program.{Stmt, no_else, otherwise}
+use Rattle.pawn_program.specs.View.{expr_view, perhaps_view, stmt_view, slot_view, object_view}
+use Rattle.pawn_bodies.specs.Stood as plain
+use Rattle.pawn_bodies.specs.Statements as rules
+use Rattle.check_statements.specs.declared.stood.Returned.{Returned}
+use Rattle.check_statements.specs.declared.stood.Parts.{Parts}
+use Rattle.check_statements.specs.declared.stood.Stood.{Stood}
+use Rattle.check_statements.specs.declared.used.Used.{Used}
+use Rattle.check_statements.specs.declared.used.Maybe.{Maybe}
+
+abbrev pub returned_view : Returned → plain.Returned
+returned_view it = record { at = it.at; gives = it.gives }
+
+-- statements with what they make beside themselves
+abbrev pub stood_of : List Stmt → Parts → plain.Stood
+stood_of stmts parts = record {
+  stmts = stmts;
+  slots = map slot_view parts.slots;
+  objects = map object_view parts.made.literals;
+  returns = map returned_view parts.returns;
+  warned = parts.made.warned;
+}
+
+abbrev pub stood_view : Stood → plain.Stood
+stood_view it = stood_of (map stmt_view it.stmts.items) it.parts
+
+-- ---- values
+
+abbrev pub used_view : Used → rules.Used
+used_view it = record {
+  expr = expr_view it.expr;
+  tag = it.tag;
+  at = it.at;
+  objects = map object_view it.made.literals;
+  warned = it.made.warned;
+}
+
+-- a value that may be absent
+abbrev pub maybe_view : Maybe → rules.Maybe
+maybe_view it = record {
+  expr = perhaps_view it.expr;
+  objects = map object_view it.made.literals;
+  warned = it.made.warned;
+}
+
+-- what stands behind `else` and `default`, or nothing
+abbrev pub other_view : Option Stood → rules.Other
+other_view None = record { stood = plain.nothing_stood; other = no_else }
+other_view (Some it) = record { stood = stood_view it; other = otherwise (plain.one_of (stood_view it)) }

@@ -1,0 +1,83 @@
+ghost use Rattle.std.specs.Prelude.{◌≡◌};
+ghost use Rattle.pawn_scopes.specs.Verdict.{Stands, after};
+ghost use Rattle.pawn_typing.specs.Typed.{cell as plain_cell};
+ghost use Rattle.pawn_bodies.specs.Statements as spec;
+ghost use Rattle.pawn_verdict.specs.Answers.{Answers};
+ghost use Rattle.check_types.specs.TypedView.{typed_view};
+ghost use Rattle.check_statements.specs.StoodView.{maybe_view, used_view};
+
+use check_names::{UNTAGGED, cell};
+use check_types::{Made, Typed};
+use pawn_program::Expr;
+use pawn_tree::At;
+use pawn_verdict::CheckFault;
+use std::alloc::Global;
+
+/// A value with its tag and first token, and what was made and found in it.
+#[derive(Drop)]
+pub struct Used {
+    pub expr: Expr,
+    pub tag: u32,
+    pub at: At,
+    pub made: Made,
+}
+
+/// A value that may be absent.
+#[derive(Drop)]
+pub struct Maybe {
+    pub expr: Option<Expr>,
+    pub made: Made,
+}
+
+impl Maybe {
+    /// No value.
+    pub fn absent(alloc: Global) -> Maybe
+        ensures { maybe_view result ≡ spec.absent }
+    {
+        Maybe {
+            expr: None,
+            made: Made::nothing(alloc),
+        }
+    }
+
+    /// A value.
+    pub fn present(x: Used) -> Maybe
+        ensures { maybe_view result ≡ spec.present (used_view x) }
+    {
+        Maybe {
+            expr: Some(x.expr),
+            made: x.made,
+        }
+    }
+}
+
+/// 0 without a tag, where no value stands.
+pub fn zero_used(alloc: Global, at: At) -> Used
+    ensures { used_view result ≡ spec.zero_used at }
+{
+    Used {
+        expr: Expr::Const(0),
+        tag: UNTAGGED,
+        at,
+        made: Made::nothing(alloc),
+    }
+}
+
+/// One cell, wanted by the node that begins at a token.
+///
+/// # Errors
+///
+/// 54 for an array.
+#[tactic(auto, using(pawn_verdict::proofs::VerdictLaws::verdicts))]
+pub fn use_at(at: At, x: Typed) -> Result<Used, CheckFault>
+    ensures { Answers used_view
+        (after (plain_cell at (typed_view x)) (λ e. Stands (spec.used (typed_view x) e))) result }
+{
+    let expr = cell(at, x.form)?;
+    Ok(Used {
+        expr,
+        tag: x.tag,
+        at: x.at,
+        made: x.made,
+    })
+}
