@@ -1,0 +1,2 @@
+pub mod PassedView
+pub mod ObjectCells
