@@ -1,0 +1,5 @@
+pub mod GatherLaws
+pub mod WrittenLaws
+pub mod DistinctLaws
+pub mod TableLaws
+pub mod GroupLaws

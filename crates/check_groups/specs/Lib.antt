@@ -1,0 +1,5 @@
+pub mod WrittenView
+pub mod GroupsView
+pub mod Distinct
+pub mod Found
+pub mod Numbered
