@@ -1,0 +1,10 @@
+use Rattle.std.proofs.Common.{◌≡◌, length}
+use Rattle.check_automata.specs.AutomataView.{automata_view}
+use Rattle.check_groups.specs.GroupsView.{groups_view}
+use Rattle.check_states.proofs.EnteredLaws.{enter_first}
+use Rattle.check_states.proofs.classified.enter_all.Given as goal
+
+abbrev pub invariant-loop-number : goal.invariant-loop-number
+invariant-loop-number l =
+    (automata_view l.automata ≡ enter_first (groups_view l.groups) l.number (automata_view l.initial.automata))
+    × (length l.automata ≡ length l.initial.automata)
