@@ -1,0 +1,3 @@
+pub mod HeadingView
+pub mod CalledView
+pub mod SourceView
