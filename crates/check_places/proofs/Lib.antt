@@ -1,0 +1,4 @@
+pub mod TextLaws
+pub mod CopyLaws
+pub mod SignLaws
+pub mod UpdateLaws
