@@ -1,0 +1,4 @@
+pub mod Facts
+pub mod RuleValues
+pub mod ExpressionValues
+pub mod ArrayValues
