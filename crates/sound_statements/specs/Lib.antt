@@ -1,0 +1,4 @@
+pub mod Sits
+pub mod Seen
+pub mod WrittenStatements
+pub mod ValidStatements
