@@ -1,0 +1,4 @@
+pub mod PairLaws
+pub mod SoFarLaws
+pub mod CollectLaws
+pub mod CountLaws

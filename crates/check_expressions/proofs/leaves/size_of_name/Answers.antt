@@ -1,0 +1,14 @@
+use Rattle.std.proofs.Common.{Option, pos, subst}
+use Rattle.pawn_tags.specs.Tags.{untagged}
+use Rattle.pawn_scopes.specs.Verdict.{Stands, after}
+use Rattle.pawn_typing.specs.Names.{size_of, constant_value}
+use Rattle.pawn_typing.specs.Scope.{Meaning}
+use Rattle.part_verdict.specs.PartAnswers.{PartAnswers}
+use Rattle.check_types.specs.TypedView.{typed_view}
+use Rattle.check_expressions.proofs.leaves.size_of_name.Goals as goal
+
+pub returns : goal.returns
+returns c =
+    let P : Option Meaning → Type 0 =
+    λ means. PartAnswers typed_view (after (size_of c.args.at c.args.dimension means) (λ size. Stands (constant_value c.args.at (pos size) untagged))) c.size_in_sight.result in
+    subst P c.sight_of-sight.ensures c.size_in_sight.ensures

@@ -1,0 +1,14 @@
+use Rattle.std.proofs.Common.{ℕ, List, length, pos, subst}
+use Rattle.pawn_tags.specs.Tags.{untagged}
+use Rattle.pawn_scopes.specs.Verdict.{Stands, after}
+use Rattle.pawn_typing.specs.Names.{size_of_text as plain_size, constant_value}
+use Rattle.pawn_typing.specs.Texts.{text_cells}
+use Rattle.pawn_verdict.specs.Answers.{Answers}
+use Rattle.check_types.specs.TypedView.{typed_view}
+use Rattle.check_expressions.proofs.leaves.size_of_text.Goals as goal
+
+pub returns : goal.returns
+returns c =
+    let P : List ℕ → Type 0 =
+    λ bytes. Answers typed_view (after (plain_size c.args.at c.args.dimension (length (text_cells c.args.packed bytes))) (λ size. Stands (constant_value c.args.at (pos size) untagged))) c.sizeof_text.result in
+    subst P c.as_slice-bytes.ensures c.sizeof_text.ensures

@@ -1,0 +1,4 @@
+pub mod Faults
+pub mod Links
+pub mod Nodes
+pub mod SoFar

@@ -1,0 +1,198 @@
+ghost use Rattle.std.specs.Prelude.{◌≡◌, ℕ, List, map};
+ghost use Rattle.pawn_scopes.specs.Verdict.{Verdict, after};
+ghost use Rattle.pawn_scopes.specs.Verdict as spec;
+ghost use Rattle.pawn_typing.specs.Rule.{pair};
+ghost use Rattle.pawn_typing.specs.Typed.{Typed as Plain};
+ghost use Rattle.pawn_typing.specs.Chains.{Compared as PlainLink, chain_rule};
+ghost use Rattle.pawn_typing.specs.Choices.{choice_rule};
+ghost use Rattle.pawn_typing.specs.Operators.{tagged_rule};
+ghost use Rattle.pawn_verdict.specs.Answers.{Answers};
+ghost use Rattle.part_verdict.specs.PartAnswers.{Judged, PartAnswers};
+ghost use Rattle.check_types.specs.ContextView.{around_view};
+ghost use Rattle.check_types.specs.TypedView.{typed_view};
+ghost use Rattle.check_chains.specs.Compared.{compared_view};
+ghost use Rattle.check_expressions.specs.Nodes.{double_rule, single_rule};
+
+use super::faults::both;
+use check_chains::{Compared, chain};
+use check_names::{paren, tagged};
+use check_places::{assign, character, index};
+use check_rules::{binary, choice, postfix, prefix};
+use check_types::{Context, Typed};
+use part_verdict::PartFault;
+use pawn_base::Bytes;
+use pawn_token::Sign;
+use pawn_tree::At;
+use pawn_verdict::CheckFault;
+use std::alloc::Global;
+
+// ---- one operand
+
+/// What a node of one operand does with it.
+#[derive(Clone, Copy)]
+pub enum Single<'a> {
+    Paren,
+    Prefix(Sign),
+    /// A tag before the operand.
+    Tagged(&'a Bytes),
+    Postfix(Sign),
+}
+
+/// A tag before an operand.
+fn with_tag(cx: &Context, at: At, tag: &Bytes, x: Typed) -> Typed
+    ensures { typed_view result ≡ tagged_rule (around_view cx.now) at tag.now (typed_view x) }
+{
+    let name = tag.as_slice();
+    tagged(cx, at, name, x)
+}
+
+/// A node of one operand that stands.
+fn single_typed(
+    alloc: Global,
+    cx: &Context,
+    at: At,
+    by: Single,
+    x: Typed,
+) -> Result<Typed, CheckFault>
+    ensures { Answers typed_view
+        (single_rule (around_view cx.now) at by.entry (typed_view x)) result }
+{
+    match by {
+        Single::Paren => Ok(paren(at, x)),
+        Single::Prefix(sign) => prefix(alloc, cx, at, sign, x),
+        Single::Tagged(tag) => Ok(with_tag(cx, at, tag, x)),
+        Single::Postfix(sign) => postfix(cx, at, sign, x),
+    }
+}
+
+/// A node of one operand.
+#[tactic(auto, using(part_verdict::proofs::PartLaws::parts, crate::proofs::PairLaws::pairs))]
+pub fn with_operand(
+    alloc: Global,
+    cx: &Context,
+    at: At,
+    by: Single,
+    x: Result<Typed, PartFault>,
+) -> Result<Typed, PartFault>
+    ensures answer { (v : Verdict Plain) → PartAnswers typed_view v x →
+        PartAnswers typed_view (after v (single_rule (around_view cx.now) at by.entry)) result }
+    ensures judged { (m n : ℕ) → Judged x (m ≡ n) → Judged result (m ≡ n) }
+{
+    let x = x?;
+    Ok(single_typed(alloc, cx, at, by, x)?)
+}
+
+// ---- two operands
+
+/// What a node of two operands does with them.
+#[derive(Clone, Copy)]
+pub enum Double {
+    Index,
+    Character,
+    /// A sign between the two.
+    Binary(Sign),
+    /// `=`, or an operator with `=`.
+    Assign(Sign),
+}
+
+/// A node of two operands that stand.
+fn double_typed(
+    alloc: Global,
+    cx: &Context,
+    at: At,
+    by: Double,
+    x: Typed,
+    y: Typed,
+) -> Result<Typed, CheckFault>
+    ensures { Answers typed_view
+        (double_rule (around_view cx.now) at by (typed_view x) (typed_view y)) result }
+{
+    match by {
+        Double::Index => index(alloc, at, x, y),
+        Double::Character => character(alloc, at, x, y),
+        Double::Binary(sign) => binary(alloc, cx, at, sign, x, y),
+        Double::Assign(sign) => assign(alloc, cx, at, sign, x, y),
+    }
+}
+
+/// A node of two operands.
+#[tactic(auto, using(part_verdict::proofs::PartLaws::parts, crate::proofs::PairLaws::pairs))]
+pub fn with_operands(
+    alloc: Global,
+    cx: &Context,
+    at: At,
+    by: Double,
+    x: Result<Typed, PartFault>,
+    y: Result<Typed, PartFault>,
+) -> Result<Typed, PartFault>
+    ensures answer { (v w : Verdict Plain) → PartAnswers typed_view v x →
+        Judged x (PartAnswers typed_view w y) →
+        PartAnswers typed_view (spec.both v w (double_rule (around_view cx.now) at by)) result }
+    ensures judged { (m n : ℕ) → Judged x (Judged y (m ≡ n)) → Judged result (m ≡ n) }
+{
+    let (x, y) = both(x, y)?;
+    Ok(double_typed(alloc, cx, at, by, x, y)?)
+}
+
+// ---- chains and choices
+
+/// A chain of comparisons behind its first operand.
+#[tactic(auto, using(part_verdict::proofs::PartLaws::parts, crate::proofs::PairLaws::pairs))]
+pub fn chained(
+    alloc: Global,
+    cx: &Context,
+    at: At,
+    x: Result<Typed, PartFault>,
+    links: Result<Vec<Compared>, PartFault>,
+) -> Result<Typed, PartFault>
+    ensures answer { (v : Verdict Plain) (w : Verdict (List PlainLink)) →
+        PartAnswers typed_view v x →
+        Judged x (PartAnswers (λ all. map compared_view all.items) w links) →
+        PartAnswers typed_view (spec.both v w (chain_rule (around_view cx.now) at)) result }
+    ensures judged { (m n : ℕ) → Judged x (Judged links (m ≡ n)) → Judged result (m ≡ n) }
+{
+    let (x, links) = both(x, links)?;
+    Ok(chain(alloc, cx, at, x, links)?)
+}
+
+/// `? :`, by its condition and both values.
+#[tactic(auto, using(part_verdict::proofs::PartLaws::parts, crate::proofs::PairLaws::pairs))]
+fn chosen(
+    alloc: Global,
+    cx: &Context,
+    at: At,
+    x: Result<Typed, PartFault>,
+    values: Result<(Typed, Typed), PartFault>,
+) -> Result<Typed, PartFault>
+    ensures answer { (v : Verdict Plain) (w : Verdict (Plain × Plain)) →
+        PartAnswers typed_view v x →
+        Judged x (PartAnswers (λ it. (typed_view it.0, typed_view it.1)) w values) →
+        PartAnswers typed_view (spec.both v w
+        (λ x parts. choice_rule (around_view cx.now) at x parts.0 parts.1)) result }
+    ensures judged { (m n : ℕ) → Judged x (Judged values (m ≡ n)) → Judged result (m ≡ n) }
+{
+    let (x, values) = both(x, values)?;
+    let (y, z) = values;
+    Ok(choice(alloc, cx, at, x, y, z)?)
+}
+
+/// `? :`
+pub fn choose(
+    alloc: Global,
+    cx: &Context,
+    at: At,
+    x: Result<Typed, PartFault>,
+    y: Result<Typed, PartFault>,
+    z: Result<Typed, PartFault>,
+) -> Result<Typed, PartFault>
+    ensures answer { (v w u : Verdict Plain) → PartAnswers typed_view v x →
+        Judged x (PartAnswers typed_view w y) →
+        Judged x (Judged y (PartAnswers typed_view u z)) →
+        PartAnswers typed_view (spec.both v (pair w u)
+        (λ x parts. choice_rule (around_view cx.now) at x parts.0 parts.1)) result }
+    ensures judged { (m n : ℕ) → Judged x (Judged y (Judged z (m ≡ n))) →
+        Judged result (m ≡ n) }
+{
+    let values = both(y, z);
+    chosen(alloc, cx, at, x, values)
+}
