@@ -1,0 +1,2 @@
+pub mod BesideLaws
+pub mod BracesLaws

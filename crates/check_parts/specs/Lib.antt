@@ -1,0 +1,2 @@
+pub mod JudgedView
+pub mod Beside
