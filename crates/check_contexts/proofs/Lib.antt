@@ -1,0 +1,9 @@
+pub mod AtLaws
+pub mod BeginningLaws
+pub mod CallableLaws
+pub mod DeclaresLaws
+pub mod DistinctLaws
+pub mod EndLaws
+pub mod OwnLaws
+pub mod PlacedLaws
+pub mod StatedLaws

@@ -1,0 +1,11 @@
+use Rattle.std.proofs.Common.{map, drop}
+use Rattle.check_sources.specs.HeadingView.{heading_view}
+use Rattle.check_sources.specs.SourceView.{source_view}
+use Rattle.check_contexts.specs.Forwards.{forwards_in}
+use Rattle.check_contexts.proofs.DeclaresLaws.{DeclaresSoFar}
+use Rattle.check_contexts.proofs.beginning.declare_forwards.Given as goal
+
+abbrev pub invariant-loop-i : goal.invariant-loop-i
+invariant-loop-i l =
+    DeclaresSoFar l.initial.scopes l.scopes (forwards_in (source_view l.source) (drop l.i (map heading_view l.source.headings)))
+    (forwards_in (source_view l.source) (map heading_view l.source.headings))

@@ -1,0 +1,15 @@
+use Rattle.std.proofs.Common.{[], map, drop}
+use Rattle.pawn_typed.specs.Sources as spec
+use Rattle.check_groups.specs.GroupsView.{groups_view}
+use Rattle.check_sources.specs.HeadingView.{heading_view}
+use Rattle.check_sources.specs.SourceView.{source_view}
+use Rattle.check_contexts.proofs.DeclaresLaws.{DeclaresSoFar}
+use Rattle.check_contexts.proofs.beginning.declare_functions.Given as goal
+
+abbrev pub invariant-loop-i : goal.invariant-loop-i
+invariant-loop-i l =
+    DeclaresSoFar l.initial.scopes l.scopes
+    (spec.function_entries (source_view l.source) l.i
+    (spec.stated (source_view l.source) (map heading_view l.source.headings) []) (drop l.i (groups_view l.source.groups)))
+    (spec.function_entries (source_view l.source) 0
+    (spec.stated (source_view l.source) (map heading_view l.source.headings) []) (groups_view l.source.groups))

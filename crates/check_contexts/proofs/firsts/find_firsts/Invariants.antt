@@ -1,0 +1,10 @@
+use Rattle.std.proofs.Common.{map, take}
+use Rattle.check_groups.specs.GroupsView.{groups_view}
+use Rattle.check_sources.specs.HeadingView.{heading_view}
+use Rattle.check_contexts.specs.Own.{AreFirsts}
+use Rattle.check_contexts.proofs.firsts.find_firsts.Given as goal
+
+abbrev pub invariant-loop-i : goal.invariant-loop-i
+invariant-loop-i l =
+    AreFirsts l.source.tags l.source.fallback.now (groups_view l.source.groups) (map heading_view (take l.i l.headings))
+    l.firsts.own.items l.firsts.entry

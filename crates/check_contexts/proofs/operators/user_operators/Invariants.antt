@@ -1,0 +1,12 @@
+use Rattle.std.proofs.Common.{◌≡◌, ◌++◌, drop}
+use Rattle.pawn_typed.specs.Sources as spec
+use Rattle.check_groups.specs.GroupsView.{groups_view}
+use Rattle.check_sources.specs.SourceView.{source_view}
+use Rattle.check_contexts.proofs.DistinctLaws.{AreOperators}
+use Rattle.check_contexts.proofs.operators.user_operators.Given as goal
+
+abbrev pub invariant-loop-i : goal.invariant-loop-i
+invariant-loop-i l =
+    (l.operators ++ spec.operators_from (source_view l.source) l.i (drop l.i (groups_view l.source.groups))
+    ≡ spec.operators_from (source_view l.source) 0 (groups_view l.source.groups))
+    × AreOperators (groups_view l.source.groups) l.i l.operators

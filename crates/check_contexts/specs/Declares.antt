@@ -1,0 +1,24 @@
+-- Names that are declared behind others in the innermost block.
+use Rattle.std.specs.Prelude.{◌≡◌, ℕ, List, [], ◌∷◌, ◌++◌}
+use Rattle.pawn_automata.specs.Keys.{Key, Named, Operates, Enters, Misshapen, entry_name}
+use Rattle.pawn_typing.specs.Scope.{Entry, Function, Entering, Taken}
+use Rattle.pawn_typed.specs.Headings.{Heading, Role, IsNative, IsForward, IsBody}
+use Rattle.pawn_typed.specs.Sources.{name_of}
+use Rattle.check_scopes.specs.Scopes.{Blocks, block_view}
+
+pub record Declares (old new : Blocks) (entries : List Entry) : Type 0 where
+  pub here : block_view new.here ≡ block_view old.here ++ entries
+  pub outer : new.outer ≡ old.outer
+
+-- the name that a forward takes, by what stands behind a head
+abbrev pub forward_by : Heading → Role → List Entry
+forward_by it IsNative = []
+forward_by it IsForward = record { name = name_of it.head.name; means = Taken } ∷ []
+forward_by it IsBody = []
+
+-- the name of a function, by its number and tag
+abbrev pub function_by : ℕ → ℕ → Key → List Entry
+function_by number tag (Named name) = record { name = name; means = Function number tag } ∷ []
+function_by number tag (Operates it) = []
+function_by number tag (Enters name) = record { name = entry_name; means = Entering tag } ∷ []
+function_by number tag Misshapen = []
