@@ -1,0 +1,6 @@
+pub mod ValueViews
+pub mod Inner
+pub mod Counted
+pub mod GoingOn
+pub mod Listed
+pub mod Joined
