@@ -1,0 +1,3 @@
+pub mod ConstantRules
+pub mod ConstantExpressions
+pub mod HeadsLaw
