@@ -1,0 +1,5 @@
+pub mod FoldLaws
+pub mod TagLaws
+pub mod MeaningLaws
+pub mod ParamLaws
+pub mod RuleLaws

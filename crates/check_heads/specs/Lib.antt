@@ -1,0 +1,3 @@
+pub mod HeadedView
+pub mod ParamParts
+pub mod SoFar

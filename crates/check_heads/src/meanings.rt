@@ -1,0 +1,132 @@
+ghost use Rattle.std.specs.Prelude.{◌≡◌, [], ◌∷◌, map, IfOk, OnOk};
+ghost use Rattle.pawn_tree.specs.View.{dim_view, param_view};
+ghost use Rattle.pawn_typing.specs.Scope.{with_entries};
+ghost use Rattle.pawn_heads.specs.Params as spec;
+ghost use Rattle.check_types.specs.ContextView.{around_view};
+ghost use Rattle.check_types.specs.MeaningView.{meaning_view};
+ghost use Rattle.check_scopes.specs.Scopes.{scope_view, sight_view, without};
+
+use super::reaches::array_reach;
+use super::tags::own_tag;
+use check_scopes::{Scopes, Sight};
+use check_types::{ArrayAt, CellAt, Context, Meaning};
+use part_verdict::PartFault;
+use pawn_base::Memory;
+use pawn_tree::{At, Dim, Param};
+use std::alloc::Global;
+
+/// What a parameter of one cell with a number means.
+fn cell_means(number: u32, tag: u32, constant: bool, reference: bool) -> Meaning
+    ensures { meaning_view result ≡ spec.cell_param_means number tag constant reference }
+{
+    let place = if reference {
+        CellAt::Through(number)
+    } else {
+        CellAt::Slot(number)
+    };
+    Meaning::Variable(place, tag, constant)
+}
+
+/// What an array as a parameter with a number means.
+#[tactic(auto, using(crate::proofs::MeaningLaws::unknown_array))]
+fn array_means(
+    alloc: Global,
+    cx: &Context,
+    scopes: &Scopes,
+    at: At,
+    number: u32,
+    tag: u32,
+    constant: bool,
+    dim: &Dim,
+    dims: &[Dim],
+) -> Result<Sight, Memory>
+    ensures { IfOk result (λ it. sight_view it ≡ spec.array_param_means number tag constant
+        (spec.reach (around_view cx.now) (scope_view scopes.now) at (dim_view dim.now)
+        (map dim_view dims.now))) }
+{
+    match array_reach(alloc, cx, scopes, at, dim, dims) {
+        Ok(it) => {
+            let place = ArrayAt::Param(number, it.extent.first.is_some());
+            Ok(Sight::Means(Meaning::Array(place, it.extent, tag, constant)))
+        }
+        Err(PartFault::Memory) => Err(Memory),
+        Err(PartFault::Fallen) => Ok(Sight::Unknown),
+        Err(PartFault::Source { .. }) => Ok(Sight::Unknown),
+    }
+}
+
+/// What a parameter with a number means, by its dimensions.
+fn means_by(
+    alloc: Global,
+    cx: &Context,
+    scopes: &Scopes,
+    at: At,
+    number: u32,
+    constant: bool,
+    reference: bool,
+    tag: u32,
+    dims: &[Dim],
+) -> Result<Sight, Memory>
+    ensures { IfOk result (λ it. sight_view it ≡ spec.param_by (around_view cx.now) at
+        (scope_view scopes.now) number constant reference tag (map dim_view dims.now)) }
+{
+    match dims.split_first() {
+        None => Ok(Sight::Means(cell_means(number, tag, constant, reference))),
+        Some((dim, more)) => {
+            array_means(alloc, cx, scopes, at, number, tag, constant, dim, more)
+        }
+    }
+}
+
+/// A name is declared in the innermost block.
+///
+/// # Errors
+///
+/// `Memory` for want of memory.
+#[tactic(auto, using(crate::proofs::MeaningLaws::declared))]
+pub fn declare_sight<'a>(
+    scopes: &mut Scopes<'a>,
+    name: &'a [u8],
+    means: Sight,
+) -> Result<(), Memory>
+    ensures scope { OnOk result (scope_view scopes.new ≡ with_entries (scope_view scopes.old)
+        (record { name = name.now; means = sight_view means } ∷ [])) }
+    ensures one { OnOk result (without 1 scopes.new ≡ scopes.old) }
+{
+    scopes.declare(name, means)
+}
+
+/// A parameter with a number is declared.
+#[tactic(auto, using(crate::proofs::MeaningLaws::outer_stays))]
+pub fn declare_param<'a>(
+    alloc: Global,
+    cx: &Context,
+    scopes: &mut Scopes<'a>,
+    at: At,
+    number: u32,
+    param: &'a Param,
+) -> Result<(), Memory>
+    ensures scope { OnOk result (scope_view scopes.new ≡ with_entries (scope_view scopes.old)
+        (spec.param_entries (around_view cx.now) at (scope_view scopes.old) number
+        (param_view param.now))) }
+    ensures outer { OnOk result (scopes.new.outer ≡ scopes.old.outer) }
+{
+    match param {
+        Param::Plain {
+            constant,
+            reference,
+            tags,
+            name,
+            dims,
+            value: _,
+        } => {
+            let tag = own_tag(cx, tags.as_slice());
+            let dims = dims.as_slice();
+            let means = means_by(
+                alloc, cx, scopes, at, number, *constant, *reference, tag, dims,
+            )?;
+            declare_sight(scopes, name.bytes.as_slice(), means)
+        }
+        Param::Rest(_, _) => Ok(()),
+    }
+}
