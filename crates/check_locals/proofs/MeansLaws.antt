@@ -1,0 +1,29 @@
+-- What an array means by the verdict of its sizes.
+use Rattle.std.proofs.Common.{◌≡◌, ◌<◌, ℕ, Bool, refl, sym, ap, ◌∙◌, arith, List, [], ◌∷◌}
+use Rattle.std.specs.List.{Contains}
+use Rattle.pawn_program.specs.Program.{Array}
+use Rattle.pawn_scopes.specs.Verdict.{Verdict, Stands, Breaks, faults_of}
+use Rattle.pawn_typing.specs.Scope.{Unknown}
+use Rattle.pawn_typing.specs.Scope as means
+use Rattle.pawn_values.specs.Arrays.{Shaped}
+use Rattle.pawn_values.specs.Constants as constants
+use Rattle.pawn_bodies.specs.Points.{array_means, constant_means, extent_of}
+use Rattle.pawn_cells.specs.declared.place.Place.{Place}
+use Rattle.part_verdict.specs.PartAnswers.{FailsPart}
+use Rattle.part_verdict.specs.declared.fault.PartFault.TheVariants.{Source, Fallen}
+
+pub means_known : (a : Array) (tag : ℕ) (constant : Bool) (w : Verdict Shaped) (it : Shaped) → w ≡ Stands it
+    → array_means a tag constant w ≡ means.Array a (extent_of it.sizes) tag constant
+means_known a tag constant w it h = rw h refl
+
+pub means_fallen : (a : Array) (tag : ℕ) (constant : Bool) (w : Verdict Shaped) → FailsPart w Fallen
+    → array_means a tag constant w ≡ Unknown
+means_fallen a tag constant w h = rw h.cause refl
+
+pub means_broken : (a : Array) (tag : ℕ) (constant : Bool) (w : Verdict Shaped) (kind : ℕ) (place : Place) → FailsPart w (Source kind place)
+    → array_means a tag constant w ≡ Unknown
+means_broken a tag constant (Stands it) kind place h =
+    let f = h.cause in let k : f.0 < 0 = f.1 in absurd (omega (arith, k))
+means_broken a tag constant (Breaks faults) kind place h = refl
+
+pub ruleset meanings = (means_known, means_fallen, means_broken)

@@ -1,0 +1,11 @@
+use Rattle.check_types.specs.ContextView.{around_view}
+use Rattle.check_statements.specs.StoodView.{stood_view}
+use Rattle.check_locals.specs.PointView.{point_view}
+use Rattle.check_locals.specs.Tells.{told}
+use Rattle.check_locals.proofs.VarLaws.{LocalsSo}
+use Rattle.check_locals.proofs.declarations.locals.Given as goal
+
+abbrev pub invariant-loop-i : goal.invariant-loop-i
+invariant-loop-i l =
+    LocalsSo (around_view l.cx) l.at l.kind l.constant (point_view l.initial.point) (point_view l.point)
+    l.vars l.i (told stood_view l.done)

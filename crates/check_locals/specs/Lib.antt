@@ -1,0 +1,4 @@
+pub mod Tells
+pub mod PointView
+pub mod Rows
+pub mod FreshView

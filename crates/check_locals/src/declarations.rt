@@ -1,0 +1,197 @@
+ghost use Rattle.std.specs.Prelude.{◌≡◌, [], map, IfOk};
+ghost use Rattle.pawn_tree.specs.View.{constant_view, expr_view, var_view};
+ghost use Rattle.pawn_values.specs.Constants as constants;
+ghost use Rattle.pawn_bodies.specs.Locals as spec;
+ghost use Rattle.pawn_bodies.specs.Points as points;
+ghost use Rattle.pawn_bodies.specs.Stood.{stood, stood_behind};
+ghost use Rattle.pawn_verdict.specs.Answers.{Answers};
+ghost use Rattle.check_types.specs.ContextView.{around_view};
+ghost use Rattle.check_scopes.specs.Scopes.{scope_view};
+ghost use Rattle.check_values.specs.ValueViews.{constant_view as value_view};
+ghost use Rattle.check_statements.specs.StoodView.{stood_view};
+ghost use Rattle.check_locals.specs.FreshView.{fresh_view};
+ghost use Rattle.check_locals.specs.PointView.{point_view};
+ghost use Rattle.check_locals.specs.Rows.{joined};
+ghost use Rattle.check_locals.specs.Tells.{Tells, told as plain_told};
+
+use super::answers::told;
+use super::cells::local_by;
+use super::means::{declare_var, tag_of};
+use super::parts::judge_vars;
+use super::point::Point;
+use check_scopes::{Scopes, Sight};
+use check_statements::{Parts, Stood};
+use check_types::{Context, Made, Meaning};
+use check_values::{Constant as Value, constant_value, constant_warned};
+use pawn_base::{List, Memory};
+use pawn_tree::{At, Constant, Expr, Storage, Var, Variables};
+use pawn_typing::REDEFINED;
+use pawn_verdict::{CheckFault, broken};
+use std::alloc::Global;
+
+/// A name that its block doesn't have yet.
+///
+/// # Errors
+///
+/// 51 where the block has it.
+pub fn fresh_name(scopes: &Scopes, at: At, name: &[u8]) -> Result<(), CheckFault>
+    ensures { Answers fresh_view (spec.fresh_name (scope_view scopes.now) at name.now) result }
+{
+    match scopes.find_here(name) {
+        None => Ok(()),
+        Some(_) => Err(broken(REDEFINED, at.place)),
+    }
+}
+
+/// A variable of a block.
+#[tactic(auto, using(crate::proofs::ToldLaws::parts))]
+fn local(
+    alloc: Global,
+    cx: &Context,
+    point: &Point,
+    at: At,
+    kind: Storage,
+    constant: bool,
+    x: &Var,
+) -> Result<Option<Stood>, CheckFault>
+    ensures { Tells stood_view (spec.local (around_view cx.now) (point_view point.now)
+        at kind constant (var_view x.now)) result }
+{
+    let it = local_by(alloc, cx, point, at, kind, constant, x)?;
+    let Some(it) = it else {
+        return Ok(None);
+    };
+    fresh_name(&point.scopes, at, x.name.bytes.as_slice())?;
+    Ok(Some(it))
+}
+
+/// Statements, and those behind them: the whole falls where one of them falls.
+pub fn then_maybe(done: Option<Stood>, more: Option<Stood>) -> Result<Option<Stood>, Memory>
+    ensures { IfOk result (λ both. plain_told stood_view both ≡ joined stood_behind
+        (plain_told stood_view done) (plain_told stood_view more)) }
+{
+    let Some(done) = done else {
+        return Ok(None);
+    };
+    let Some(more) = more else {
+        return Ok(None);
+    };
+    Ok(Some(done.then(more)?))
+}
+
+/// Variables that are declared together: each is known behind its own value.
+///
+/// # Errors
+///
+/// 51 for a name that the block has, and 53, 54, 55, 57, 68 as sizes and first values.
+pub fn locals<'a>(
+    alloc: Global,
+    cx: &Context,
+    point: &mut Point<'a>,
+    at: At,
+    kind: Storage,
+    constant: bool,
+    vars: &'a [Var],
+) -> Result<Option<Stood>, CheckFault>
+    ensures tells { Tells stood_view (spec.locals (around_view cx.now) (point_view point.old)
+        at kind constant (map var_view vars.now)) result }
+    ensures behind { IfOk result (λ it. point_view point.new ≡
+        points.behind_vars (around_view cx.now) (point_view point.old) at kind constant
+        (map var_view vars.now)) }
+{
+    let mut done = Some(Stood::nothing(alloc));
+    for i in 0..vars.len() {
+        let x = &vars[i];
+        let it = local(alloc, cx, point, at, kind, constant, x)?;
+        declare_var(alloc, cx, point, at, kind, constant, x)?;
+        done = then_maybe(done, it)?;
+    }
+    Ok(done)
+}
+
+/// Variables of a block, judged where the expressions in them have no fault (Language Guide,
+/// "Declarations"); None where they fall.
+///
+/// # Errors
+///
+/// What breaks a rule in an expression of theirs; 51 for a name that the block has, and 53, 54, 55, 57,
+/// 68 as sizes and first values.
+#[tactic(auto, using(crate::proofs::ToldLaws::parts))]
+pub fn local_vars<'a>(
+    alloc: Global,
+    cx: &Context,
+    point: &mut Point<'a>,
+    at: At,
+    it: &'a Variables,
+) -> Result<Option<Stood>, CheckFault>
+    ensures tells { Tells stood_view (spec.local_vars (around_view cx.now) (point_view point.old) at
+        it.now.storage it.now.constant (map var_view it.now.vars)) result }
+    ensures behind { IfOk result (λ x. point_view point.new ≡
+        points.behind_vars (around_view cx.now) (point_view point.old) at
+        it.now.storage it.now.constant (map var_view it.now.vars)) }
+{
+    let vars = it.vars.as_slice();
+    judge_vars(alloc, cx, point, at, it.storage, it.constant, vars)?;
+    locals(alloc, cx, point, at, it.storage, it.constant, vars)
+}
+
+// ---- constants
+
+/// A constant expression, told.
+fn value(
+    alloc: Global,
+    cx: &Context,
+    point: &Point,
+    at: At,
+    e: &Expr,
+) -> Result<Option<Value>, CheckFault>
+    ensures { Tells value_view (constants.constant (around_view cx.now)
+        (point_view point.now).scope at (expr_view e.now)) result }
+{
+    told(constant_value(alloc, cx, &point.scopes, at, e))
+}
+
+/// What a constant that stands makes: warnings alone.
+fn constant_stood(alloc: Global, cx: &Context, tag: u32, x: Value) -> Result<Stood, Memory>
+    ensures { IfOk result (λ it. stood_view it ≡ stood [] []
+        (constants.constant_warned (around_view cx.now) tag (value_view x))) }
+{
+    let warned = constant_warned(alloc, cx, tag, x)?;
+    let made = Made {
+        literals: List::new(alloc),
+        warned,
+    };
+    Ok(Stood {
+        stmts: Vec::new(alloc),
+        parts: Parts::of(alloc, made),
+    })
+}
+
+/// A constant of a block, which leaves no statement; None where it falls.
+///
+/// # Errors
+///
+/// 51 for a name that the block has, 57 for what is no constant, and what breaks a rule in its value.
+pub fn local_constant<'a>(
+    alloc: Global,
+    cx: &Context,
+    point: &mut Point<'a>,
+    at: At,
+    it: &'a Constant,
+) -> Result<Option<Stood>, CheckFault>
+    ensures tells { Tells stood_view (spec.local_constant (around_view cx.now) (point_view point.old)
+        at (constant_view it.now)) result }
+    ensures behind { IfOk result (λ x. point_view point.new ≡
+        points.behind_constant (around_view cx.now) (point_view point.old) at (constant_view it.now)) }
+{
+    let name = it.name.bytes.as_slice();
+    let tag = tag_of(cx, &it.tag);
+    let x = value(alloc, cx, point, at, &it.value)?;
+    let Some(x) = x else {
+        point.declare(name, Sight::Unknown)?;
+        return Ok(None);
+    };
+    fresh_name(&point.scopes, at, name)?;
+    point.declare(name, Sight::Means(Meaning::Constant(x.value, tag)))?;
+    Ok(Some(constant_stood(alloc, cx, tag, x)?))
+}
