@@ -1,6 +1,7 @@
 -- Parts of lists, numbers in order, and lists of statements.
 use Rattle.std.proofs.Common.{◌≡◌, ◌+◌, ℕ, zero, suc, List, [], ◌∷◌, ◌++◌, Bool, refl, sym, ap, ap₂, ◌∙◌, subst, arith}
 use Rattle.std.specs.Prelude.{length, slice_get, Some}
+use Rattle.std.specs.List.{Any}
 use Rattle.std.proofs.lemmas.List.{append_assoc, append-nil, length-append}
 use Rattle.pawn_program.specs.Program.{Stmt, Block, Local, LocalArray, Do, If, While, DoWhile, For, Switch, Return, Break, Continue, Exit, Sleep, Assert, State, Empty}
 use Rattle.pawn_program.specs.Scope as program
@@ -65,6 +66,12 @@ pub numbers_joined : (xs ys : List ℕ) (first m n : ℕ) → xs ≡ numbers_fro
     → ys ≡ numbers_from (first + m) n → xs ++ ys ≡ numbers_from first (m + n)
 numbers_joined xs ys first m n p q =
     ap₂ (λ (k l : List ℕ). k ++ l) p q ∙ sym (numbers_append first m n)
+
+-- the number at the end
+pub made_last : (made : List ℕ) (s : ℕ) → Any (λ n. n ≡ s) (made ++ s ∷ [])
+made_last [] s = (0, s, omega arith, refl, refl)
+made_last (m ∷ made) s =
+    let p = made_last made s in (suc p.0, p.1, omega (arith, p.2), p.3, p.4)
 
 -- ---- statements
 

@@ -1,8 +1,7 @@
 -- Variables and constants of a block: they are valid where they stand, and what stands behind them
 -- sees what their names mean.
-use Rattle.std.proofs.Common.{◌≡◌, inr, ◌+◌, ◌≤◌, ℕ, suc, List, [], ◌∷◌, ◌++◌, Bool, false, Option, None, Some, refl, sym, ap, ◌∙◌, subst, arith}
+use Rattle.std.proofs.Common.{◌≡◌, inr, ◌+◌, ◌≤◌, ℕ, List, [], ◌∷◌, ◌++◌, Bool, false, Option, None, Some, refl, sym, ap, ◌∙◌, subst, arith}
 use Rattle.std.specs.Prelude.{length, slice_get}
-use Rattle.std.specs.List.{Any}
 use Rattle.std.proofs.lemmas.List.{append_assoc, append-nil, length-append}
 use Rattle.pawn_tree.specs.declared.name.At.{At}
 use Rattle.pawn_tree.specs.declared.name.Name as n
@@ -42,7 +41,7 @@ use Rattle.sound_values.proofs.ArrayValues.{PlainConstant, GoodArray, GoodCells,
 use Rattle.sound_statements.specs.Sits.{Sits}
 use Rattle.sound_statements.specs.Seen.{IsSeen, IsSeenPath}
 use Rattle.sound_statements.specs.ValidStatements.{IsGoodSlot}
-use Rattle.sound_statements.proofs.Parts.{sits_left, sits_right, sits_at, numbers_joined, made_append, all_made_append, valid_append}
+use Rattle.sound_statements.proofs.Parts.{made_last, sits_left, sits_right, sits_at, numbers_joined, made_append, all_made_append, valid_append}
 use Rattle.sound_statements.proofs.SeenLaws.{seen_more, seen_with, plain_path}
 use Rattle.sound_statements.proofs.Expressions.{expr_fine, sent_valid, cell_valid, texts_count}
 
@@ -103,11 +102,6 @@ slot_there : (scope : program.Scope) (s : ℕ) (sizes : List ℕ)
     → extent scope (SlotArray s) ≡ Some (extent_of sizes)
 slot_there scope s sizes e h =
     ap (λ (x : Option Slot). slot_extent x) e ∙ shaped_extent sizes h
-
-made_last : (made : List ℕ) (s : ℕ) → Any (λ n. n ≡ s) (made ++ s ∷ [])
-made_last [] s = (0, s, omega arith, refl, refl)
-made_last (m ∷ made) s =
-    let p = made_last made s in (suc p.0, p.1, omega (arith, p.2), p.3, p.4)
 
 cell_there : (it : Option StaticObject) (object : StaticObject) → it ≡ Some object
     → object.sizes ≡ 1 ∷ [] → IsCellObject it
@@ -227,19 +221,19 @@ module _ (law : ExpressionsAreValid) (place : Place) (cx : Around) (Calls : List
       at_slots = refl;
     }
 
-    static_cell_holds : (point : Point) (constant : Bool) (x : Var) → IsWrittenInit Calls x.init
+    static_cell_holds : (Named : List ℕ → Type 0) (point : Point) (constant : Bool) (x : Var) → IsWrittenInit Named x.init
         → Holds (StandsSound place cx Calls in_loop point
         (declared (beyond point 1 0)
         (record { name = x.name.bytes; means = means.Variable (Global point.objects) (tag_of cx x.tag) constant } ∷ [])))
         (after (static_value cx point.scope at (tag_of cx x.tag) x.init)
         (λ it. Stands (static_cell constant it)))
-    static_cell_holds point constant x w =
+    static_cell_holds Named point constant x w =
         holds_after {P = λ it. (made : List ℕ) → Here place cx Calls made point → GoodCells 1 it}
         (record {
           of = λ it e made here.
               (static_good cx tags point.scope
               (plain_path cx Calls (scope_at place made) point.scope here.path) at
-              (tag_of cx x.tag) Calls x.init w).of it e;
+              (tag_of cx x.tag) Named x.init w).of it e;
         })
         (λ it p. stands_itself _ (static_cell constant it) (record {
           sound = λ made here fits slots.
@@ -334,14 +328,14 @@ module _ (law : ExpressionsAreValid) (place : Place) (cx : Around) (Calls : List
       at_slots = refl;
     }
 
-    array_holds : (point : Point) (kind : Storage) (constant : Bool) (x : Var) (dim : Dim)
+    array_holds : (Named : List ℕ → Type 0) (point : Point) (kind : Storage) (constant : Bool) (x : Var) (dim : Dim)
         (dims : List Dim) → IsWrittenDim dim
         → Each IsWrittenDim dims
-        → IsWrittenInit Calls x.init
+        → IsWrittenInit Named x.init
         → Holds (StandsSound place cx Calls in_loop point (behind_by point kind constant x (dim ∷ dims)))
         (after (array_value cx point.scope at (tag_of cx x.tag) dim dims x.init)
         (λ it. Stands (array_by cx point kind constant it)))
-    array_holds point kind constant x dim dims h hs w =
+    array_holds Named point kind constant x dim dims h hs w =
         let m : Meaning = array_means (array_place kind point) (tag_of cx x.tag) constant
         (shaped cx point.scope at dim dims x.init) in
         holds_after {P = λ it. (m
@@ -355,7 +349,7 @@ module _ (law : ExpressionsAreValid) (place : Place) (cx : Around) (Calls : List
             λ made here.
                 (array_value_good cx tags point.scope
                 (plain_path cx Calls (scope_at place made) point.scope here.path) at
-                (tag_of cx x.tag) Calls dim dims x.init h hs w).of it e,
+                (tag_of cx x.tag) Named dim dims x.init h hs w).of it e,
           );
         })
         (λ it p. stands_itself _ (array_by cx point kind constant it) (record {
@@ -371,7 +365,8 @@ module _ (law : ExpressionsAreValid) (place : Place) (cx : Around) (Calls : List
         (local_cell cx point at kind constant x)
     cell_holds point storage.New constant x w = new_cell_holds point constant x w
     cell_holds point storage.Stock constant x w = new_cell_holds point constant x w
-    cell_holds point storage.Static constant x w = static_cell_holds point constant x w
+    cell_holds point storage.Static constant x w =
+        static_cell_holds Calls point constant x w
 
     pub var_holds : (point : Point) (kind : Storage) (constant : Bool) (x : Var) (dims : List Dim)
         → Each IsWrittenDim dims → IsWrittenInit Calls x.init
@@ -379,7 +374,16 @@ module _ (law : ExpressionsAreValid) (place : Place) (cx : Around) (Calls : List
         (local_by cx point at kind constant x dims)
     var_holds point kind constant x [] h w = cell_holds point kind constant x w
     var_holds point kind constant x (dim ∷ dims) h w =
-        array_holds point kind constant x dim dims h.0 h.1 w
+        array_holds Calls point kind constant x dim dims h.0 h.1 w
+
+    -- an object calls nothing, whatever names its first value calls
+    pub static_holds : (Named : List ℕ → Type 0) (point : Point) (constant : Bool) (x : Var)
+        (dims : List Dim) → Each IsWrittenDim dims → IsWrittenInit Named x.init
+        → Holds (StandsSound place cx Calls in_loop point (behind_by point storage.Static constant x dims))
+        (local_by cx point at storage.Static constant x dims)
+    static_holds Named point constant x [] h w = static_cell_holds Named point constant x w
+    static_holds Named point constant x (dim ∷ dims) h w =
+        array_holds Named point storage.Static constant x dim dims h.0 h.1 w
 
   -- ---- one behind another
 

@@ -42,6 +42,7 @@ pub record IsPartOf (scope : program.Scope) (point : Point) (x : Stood) : Type 0
   pub objects : Sits scope.program.objects point.objects x.objects
   pub slots : Sits scope.slots point.slots x.slots
 
+-- a statement as one, with what it makes
 pub record IsSoundStmt (scope : program.Scope) (in_loop : Bool) (point : Point) (x : Stood)
     : Type 0 where
   pub valid : IsValidStmt scope in_loop true (one_of x)
@@ -49,6 +50,7 @@ pub record IsSoundStmt (scope : program.Scope) (in_loop : Bool) (point : Point) 
   pub slots : Each IsGoodSlot x.slots
   pub objects : Each IsGoodObject x.objects
 
+-- so it is with each statement that stands
 abbrev pub StatementsAreValid : Type 0
 StatementsAreValid =
     (scope : program.Scope) (cx : Around) (called : List (List ℕ)) (result : ℕ) (point : Point)

@@ -10,6 +10,7 @@ use Rattle.sound_values.specs.Objects.{Each, IsGoodObject}
 use Rattle.sound_values.specs.Written.{IsAnyName, IsWrittenDim, IsWrittenInit}
 use Rattle.sound_values.specs.Plain.{IsPlainPath, HasTags}
 
+-- an array that stands, as an object
 abbrev pub ArraysAreGood : Type 0
 ArraysAreGood =
     (cx : Around) (path : Scope) (at : At) (tag : ℕ) (dim : Dim) (dims : List Dim)

@@ -12,12 +12,14 @@ use Rattle.sound_values.specs.Written.{IsWritten, IsAnyName}
 use Rattle.sound_values.specs.Texts.{texts}
 use Rattle.sound_values.specs.Plain.{IsTag, IsValue, IsPlainPath, HasTags}
 
+-- a typed expression beside its tree
 pub record IsPlain (e : Expr) (x : Typed) : Type 0 where
   pub literals : x.literals ≡ texts e
   pub objects : Each IsGoodObject x.literals
   pub value : IsValue x.value
   pub tag : IsTag x.tag
 
+-- so it is with each expression that stands
 abbrev pub ExpressionsArePlain : Type 0
 ExpressionsArePlain =
     (cx : Around) (path : Scope) (before : ℕ) (e : Expr) (x : Typed)
