@@ -1,0 +1,2 @@
+pub mod WrittenDeclarations
+pub mod ValidBodies

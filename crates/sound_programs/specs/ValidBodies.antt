@@ -1,0 +1,50 @@
+-- The objects and bodies of declarations that stand are valid and within the limits.
+use Rattle.std.specs.Prelude.{◌≡◌, ℕ, List, []}
+use Rattle.pawn_tree.specs.Declarations.{Tree}
+use Rattle.pawn_program.specs.Program.{Program}
+use Rattle.pawn_program.specs.Scope as program
+use Rattle.pawn_program.specs.Valid.{IsValidBody}
+use Rattle.pawn_meaning.specs.Limits.{IsWithinBody}
+use Rattle.pawn_scopes.specs.Verdict.{Stands}
+use Rattle.pawn_typing.specs.Around.{Around}
+use Rattle.pawn_bodies.specs.Points.{Point}
+use Rattle.pawn_typed.specs.Sources.{Source}
+use Rattle.pawn_typed.specs.Declarations.{Bodied, Done, declarations}
+use Rattle.pawn_sound.specs.Known.{KnowsAround}
+use Rattle.sound_values.specs.Objects.{Each, IsGoodObject}
+use Rattle.sound_values.specs.Plain.{HasTags}
+use Rattle.sound_statements.specs.Sits.{Sits}
+use Rattle.sound_statements.specs.Seen.{IsSeenPath}
+use Rattle.sound_statements.specs.ValidStatements.{IsGoodSlot, IsCalled}
+use Rattle.sound_programs.specs.WrittenDeclarations.{IsWrittenTree}
+
+-- the scope at the level of the file: there are no slots
+abbrev pub file_scope : Program → program.Scope
+file_scope it = record { program = it; slots = []; params = 0; made = [] }
+
+-- a body that is valid for its own parameters
+pub record IsSoundBody (it : Program) (body : Bodied) : Type 0 where
+  pub params : Each IsGoodSlot body.params
+  pub valid : IsValidBody it body.params body.body
+  pub within : IsWithinBody body.body
+
+-- what is known of the surroundings of declarations
+pub record IsFileSite (it : Program) (cx : Around) (called : List (List ℕ)) (source : Source)
+    (point : Point) : Type 0 where
+  pub around : KnowsAround it cx
+  pub tags : HasTags cx
+  pub automata : source.automata ≡ it.automata
+  pub path : IsSeenPath (file_scope it) cx (IsCalled called) point.scope
+
+-- what declarations make
+pub record AreSoundBodies (it : Program) (done : Done) : Type 0 where
+  pub objects : Each IsGoodObject done.objects
+  pub bodies : Each (IsSoundBody it) done.bodies
+
+-- so it is with declarations that stand
+abbrev pub BodiesAreValid : Type 0
+BodiesAreValid =
+    (it : Program) (cx : Around) (called : List (List ℕ)) (source : Source) (point : Point)
+    (tree : Tree) (done : Done) → IsFileSite it cx called source point
+    → IsWrittenTree (IsCalled called) tree → declarations source cx point tree ≡ Stands done
+    → Sits it.objects point.objects done.objects → AreSoundBodies it done
