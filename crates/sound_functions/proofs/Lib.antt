@@ -1,0 +1,4 @@
+pub mod GroupLaws
+pub mod SlotLaws
+pub mod FirstHeads
+mod FunctionLaws
