@@ -1,0 +1,2 @@
+mod ExpressionTrees
+mod TreeLaws
