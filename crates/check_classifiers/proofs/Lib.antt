@@ -1,0 +1,4 @@
+pub mod BodyLaws
+pub mod ClauseLaws
+pub mod FindsLaws
+pub mod GroupLaws

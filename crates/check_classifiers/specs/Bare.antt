@@ -1,0 +1,25 @@
+-- The faults of bodies by their classifiers, as code finds them: with what is known of the function
+-- and of the bodies before.
+use Rattle.std.specs.Prelude.{List, [], ◌∷◌, ◌++◌, Bool, not, ◌||◌, Option, None, Some}
+use Rattle.pawn_tree.specs.declared.name.StateName.{StateName}
+use Rattle.pawn_scopes.specs.Verdict.{Fault}
+use Rattle.pawn_typing.specs.declared.fault.TheConstants.{MIXED_AUTOMATA, REDEFINED}
+use Rattle.pawn_automata.specs.Clauses.{is_mixed}
+use Rattle.pawn_automata.specs.Groups.{Written}
+use Rattle.pawn_typed.specs.Functions.{fault_if, has_classifier}
+
+-- a body without a classifier
+abbrev pub bare_by : Bool → Bool → Written → List Fault
+bare_by classified again it = fault_if classified MIXED_AUTOMATA it.at ++ fault_if again REDEFINED it.at
+
+-- a body by its classifier
+abbrev pub states_by : Bool → Bool → Written → Option (List StateName) → List Fault
+states_by classified again it None = bare_by classified again it
+states_by classified again it (Some states) = fault_if (is_mixed states) MIXED_AUTOMATA it.at
+
+-- bodies in order
+abbrev pub bodies_by : Bool → Bool → List Written → List Fault
+bodies_by classified again [] = []
+bodies_by classified again (it ∷ more) =
+    states_by classified again it it.function.states
+    ++ bodies_by classified (again || not (has_classifier it)) more

@@ -1,0 +1,5 @@
+pub mod Bare
+pub mod Clauses
+pub mod Finds
+pub mod Group
+pub mod Mixed
