@@ -1,0 +1,9 @@
+//! The public functions of a source, and whether there is anything to begin with.
+#![tactic(auto)]
+
+mod marks;
+mod names;
+mod published;
+
+pub use pawn_base::Memory;
+pub use published::{has_entry, publics};

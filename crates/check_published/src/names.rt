@@ -1,0 +1,53 @@
+ghost use Rattle.std.specs.Prelude.{◌≡◌, ◌++◌, codes, map, IfOk};
+ghost use Rattle.pawn_token.specs.Signs.{sign_spelling};
+ghost use Rattle.pawn_typed.specs.Headings.{public_name};
+ghost use Rattle.pawn_typed.specs.Publics as spec;
+ghost use Rattle.check_groups.specs.WrittenView.{written_view};
+
+use check_groups::Written;
+use pawn_base::{Bytes, List, Memory};
+use pawn_token::Sign;
+use pawn_tree::HeadName;
+use std::alloc::Global;
+
+/// The byte that names of public functions may begin with.
+const AT_SIGN: u8 = b'@';
+
+/// Whether a name is one of a public function by itself.
+pub fn begins_with_at(name: &[u8]) -> bool
+    ensures { result ≡ spec.begins_with_at name.now }
+{
+    match name {
+        [] => false,
+        [first, ..] => *first == AT_SIGN,
+    }
+}
+
+/// The name of a user operator, as it is public under.
+fn operator_name(alloc: Global, sign: Sign) -> Result<Bytes, Memory>
+    ensures { IfOk result (λ name. name ≡ codes "operator" ++ sign_spelling sign) }
+{
+    let mut name = Bytes::from_slice(alloc, b"operator")?;
+    name.append(sign.spelling())?;
+    Ok(name)
+}
+
+/// The name of a function, as it is public under (Language Guide, "Functions").
+fn head_name(alloc: Global, name: &HeadName) -> Result<Bytes, Memory>
+    ensures { IfOk result (λ bytes. bytes ≡ public_name name.now) }
+{
+    match name {
+        HeadName::Name(name) => Bytes::from_slice(alloc, name.bytes.as_slice()),
+        HeadName::Operator(_, sign) => operator_name(alloc, *sign),
+    }
+}
+
+/// The name of a function, which is that of its first body.
+pub fn group_name(alloc: Global, bodies: &List<Written>) -> Result<Bytes, Memory>
+    ensures { IfOk result (λ name. name ≡ spec.group_name (map written_view bodies.now)) }
+{
+    match bodies.as_slice() {
+        [] => Ok(Bytes::new(alloc)),
+        [first, ..] => head_name(alloc, &first.function.head.name),
+    }
+}
