@@ -1,0 +1,4 @@
+pub mod CaseView
+pub mod Cased
+pub mod Neighbours
+pub mod Switching
