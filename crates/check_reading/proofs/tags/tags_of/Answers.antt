@@ -1,0 +1,13 @@
+use Rattle.std.proofs.Common.{take, ap, ◌∙◌, arith}
+use Rattle.pawn_marks.specs.MarkView.{marks_view}
+use Rattle.pawn_scopes.specs.Around.{tags_of}
+use Rattle.check_reading.proofs.MarkLaws.{marks_more, marks_all}
+use Rattle.check_reading.proofs.tags.tags_of.Goals as goal
+
+pub loop-i-preserved : goal.loop-i-preserved
+loop-i-preserved c =
+    c.in_ok-mention.ensures (marks_view (take c.loop-i.i c.args.marks.now)) c.loop-i.invariant
+    ∙ ap tags_of (marks_more c.args.marks.now c.loop-i.i c.index-marks-i.result (omega arith) c.index-marks-i.is)
+
+pub returns : goal.returns
+returns c = c.loop-i.invariant ∙ ap tags_of (marks_all c.args.marks.now c.loop-i.i (omega arith))
