@@ -213,7 +213,7 @@ forward_by true true key own names fallback = refl
 forward_by true false key own names fallback = refl
 forward_by false e key own names fallback = or_none (same_key key own) e
 
-role_is : (names : List (List ℕ)) (fallback : List ℕ) (key : Key) (it : Heading) (role : Role)
+pub role_is : (names : List (List ℕ)) (fallback : List ℕ) (key : Key) (it : Heading) (role : Role)
     → is_of names fallback key it role ≡ is_key names fallback key (own_by names fallback it role) || (is_enters key && enters_by it role)
 role_is names fallback key it IsNative = or_none false (is_enters key)
 role_is names fallback key it IsForward = forward_by (is_entry it.head.name) (is_enters key) key (heading_key names fallback it) names fallback

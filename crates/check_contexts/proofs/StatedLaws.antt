@@ -12,7 +12,7 @@ use Rattle.check_automata.proofs.PlaceLaws.{place, place_is}
 use Rattle.check_contexts.specs.Stated.{head_at, heading_at, heading_tag, stated_head}
 
 -- what stands at a place
-abbrev stated_at : List Heading → List (Option Head) → ℕ → Option Stated
+abbrev pub stated_at : List Heading → List (Option Head) → ℕ → Option Stated
 stated_at headings heads i = option_map (λ (it : Heading). record { heading = it; head = head_at heads i }) (slice_get headings i)
 
 pub stated_get : (source : Source) (headings : List Heading) (heads : List (Option Head)) (i : ℕ)
@@ -23,7 +23,7 @@ stated_get source (x ∷ xs) [] (suc i) = stated_get source xs [] i
 stated_get source (x ∷ xs) (head ∷ heads) zero = refl
 stated_get source (x ∷ xs) (head ∷ heads) (suc i) = stated_get source xs heads i
 
-place_stated : (source : Source) (p : Heading → Bool) (headings : List Heading) (heads : List (Option Head))
+pub place_stated : (source : Source) (p : Heading → Bool) (headings : List Heading) (heads : List (Option Head))
     → place (λ (it : Stated). p it.heading) (stated source headings heads) ≡ place p headings
 place_stated source p [] heads = refl
 place_stated source p (x ∷ xs) [] = ap (λ (r : Option ℕ). if p x then Some 0 else option_map suc r) (place_stated source p xs [])

@@ -6,6 +6,7 @@ use Rattle.pawn_typed.specs.Headings.{Heading, Role, IsNative, IsForward, IsBody
 use Rattle.pawn_typed.specs.Sources.{name_of}
 use Rattle.check_scopes.specs.Scopes.{Blocks, block_view}
 
+-- these entries stand behind those that stood there, and the outer blocks stay
 pub record Declares (old new : Blocks) (entries : List Entry) : Type 0 where
   pub here : block_view new.here ≡ block_view old.here ++ entries
   pub outer : new.outer ≡ old.outer

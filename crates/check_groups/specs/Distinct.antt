@@ -7,6 +7,7 @@ use Rattle.pawn_automata.specs.Groups.{Written, is_entry}
 use Rattle.check_groups.specs.declared.fallback.Distinct as held
 use Rattle.check_groups.specs.declared.fallback.Distinct.TheVariants as distinct
 
+-- no automaton, one, or several
 pub data Distinct : Type 0 where
   Nothing : Distinct
   One : List ℕ → Distinct

@@ -7,5 +7,6 @@ use Rattle.check_groups.specs.declared.tables.Tables.{Tables}
 use Rattle.check_groups.specs.Found.{found_in}
 use Rattle.check_groups.specs.GroupsView.{groups_view}
 
+-- of every key, also of one that no function has
 pub record IsNumbered (groups : List Group) (tables : Tables) : Type 0 where
   pub numbers : (key : Key) → found_in tables key ≡ number_of (groups_view groups) key
