@@ -1,4 +1,5 @@
-ghost use Rattle.std.specs.Prelude.{◌≡◌, ◌≢◌, ◌<◌, ◌≤◌, ◌++◌, ◌↔◌, ℕ, ℤ, List, [], Result, length, IfOk, IfErr, IsTrue};
+ghost use Rattle.std.specs.Prelude.{◌≡◌, ◌≢◌, ◌<◌, ◌≤◌, ◌++◌, ◌↔◌, ℕ, ℤ, List, [], Result, length};
+ghost use Rattle.std.specs.Prelude.{IfOk, IfErr, IsTrue};
 ghost use Rattle.amx_compact.specs.Causes.{Answers, HasNoCell};
 ghost use Rattle.amx_compact.specs.Fits.{Fits};
 ghost use Rattle.amx_compact.specs.Spelled.{Spelled, SpelledAll, ShortestAll};

@@ -1,4 +1,5 @@
-ghost use Rattle.std.specs.Prelude.{◌≡◌, ◌⊎◌, ◌≢◌, ◌+◌, ◌-◌, ◌*◌, ◌/◌, ◌≤◌, ◌<◌, ◌^◌, ℕ, Result, length, drop, IfOk, IfErr, MatchOption};
+ghost use Rattle.std.specs.Prelude.{◌≡◌, ◌⊎◌, ◌≢◌, ◌+◌, ◌-◌, ◌*◌, ◌/◌, ◌≤◌, ◌<◌, ◌^◌, ℕ, Result};
+ghost use Rattle.std.specs.Prelude.{length, drop, IfOk, IfErr, MatchOption};
 ghost use Rattle.amx_ops.specs.declared.amx.Amx.{Amx};
 ghost use Rattle.amx_format.specs.declared.fault.FormatFault.{FormatFault};
 ghost use Rattle.amx_format.specs.Header.{header_of, code_cells, store_cells, HasOrder, HasSize};

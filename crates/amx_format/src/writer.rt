@@ -1,4 +1,5 @@
-ghost use Rattle.std.specs.Prelude.{◌≡◌, ◌+◌, ◌*◌, ◌/◌, ◌%◌, ◌^◌, ◌<◌, ◌≤◌, ◌++◌, ℕ, List as ListOf, length, IfOk, OnOk, FitsSigned};
+ghost use Rattle.std.specs.Prelude.{◌≡◌, ◌+◌, ◌*◌, ◌/◌, ◌%◌, ◌^◌, ◌<◌, ◌≤◌, ◌++◌, ℕ};
+ghost use Rattle.std.specs.Prelude.{List as ListOf, length, IfOk, OnOk, FitsSigned};
 ghost use Rattle.std.specs.Int.{w32};
 ghost use Rattle.pawn_base.specs.Cells.{AreCells};
 ghost use Rattle.amx_compact.specs.Spelled.{ShortestAll};

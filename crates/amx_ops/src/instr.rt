@@ -17,7 +17,8 @@ pub struct Instr {
 }
 
 ghost use Rattle.amx_ops.specs.Table.{number_of};
-ghost use Rattle.amx_ops.specs.Instructions.{front, decoded, encoded, read_by, with_operand, with_cases, cells_by, IsEncodable};
+ghost use Rattle.amx_ops.specs.Instructions.{front, decoded, encoded, read_by, with_operand};
+ghost use Rattle.amx_ops.specs.Instructions.{with_cases, cells_by, IsEncodable};
 
 impl Op {
     /// Its number in the table.

@@ -1,4 +1,5 @@
-ghost use Rattle.std.specs.Prelude.{◌≡◌, ◌+◌, ◌*◌, ◌/◌, ◌<◌, ◌≤◌, ◌^◌, drop, length, map, pos, negsuc};
+ghost use Rattle.std.specs.Prelude.{◌≡◌, ◌+◌, ◌*◌, ◌/◌, ◌<◌, ◌≤◌, ◌^◌, drop, length, map, pos};
+ghost use Rattle.std.specs.Prelude.{negsuc};
 ghost use Rattle.pawn_cells.specs.Cells.{bits_of, wrapped_sum};
 ghost use Rattle.amx_ops.specs.Instructions.{is_start};
 ghost use Rattle.amx_ops.specs.Valid as valid;

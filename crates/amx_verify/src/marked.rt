@@ -1,4 +1,5 @@
-ghost use Rattle.std.specs.Prelude.{◌≡◌, ◌+◌, ◌*◌, ◌/◌, ◌%◌, ◌<◌, ◌≤◌, ◌^◌, ◌∷◌, drop, length, IfOk, IfSome, IsTrue, pos};
+ghost use Rattle.std.specs.Prelude.{◌≡◌, ◌+◌, ◌*◌, ◌/◌, ◌%◌, ◌<◌, ◌≤◌, ◌^◌, ◌∷◌, drop, length};
+ghost use Rattle.std.specs.Prelude.{IfOk, IfSome, IsTrue, pos};
 ghost use Rattle.amx_ops.specs.Instructions as instructions;
 ghost use Rattle.amx_ops.specs.Instructions.{fetched, front, placed};
 ghost use Rattle.amx_ops.specs.Valid as valid;

@@ -1,10 +1,12 @@
-ghost use Rattle.std.specs.Prelude.{◌≡◌, ◌<◌, [], ◌∷◌, ◌++◌, None, Some, map, length, slice_get, option_map, position, IfOk, OnOk};
+ghost use Rattle.std.specs.Prelude.{◌≡◌, ◌<◌, [], ◌∷◌, ◌++◌, None, Some, map, length, slice_get};
+ghost use Rattle.std.specs.Prelude.{option_map, position, IfOk, OnOk};
 ghost use Rattle.std.specs.Option.{option_and_then};
 ghost use Rattle.std.specs.Str.{bytes_eq};
 ghost use Rattle.pawn_program.specs.View.{automaton_view};
 ghost use Rattle.pawn_bodies.specs.States.{automaton_named};
 ghost use Rattle.pawn_automata.specs.Automata.{with_item};
-ghost use Rattle.check_automata.specs.AutomataView.{known_view, automata_view, states_in, known_with, known_entered};
+ghost use Rattle.check_automata.specs.AutomataView.{known_view, automata_view, states_in};
+ghost use Rattle.check_automata.specs.AutomataView.{known_with, known_entered};
 ghost use Rattle.check_automata.specs.Update.{updated};
 
 use name_table::Names;

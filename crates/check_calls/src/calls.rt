@@ -18,8 +18,8 @@ use pawn_typing::UNDEFINED;
 use pawn_verdict::{CheckFault, broken};
 use std::alloc::Global;
 
-/// What is called: whether it is a native, its number, the tag of what it gives, and its head, unless
-/// that isn't known yet.
+/// What is called: whether it is a native, its number, the tag of what it gives, and its head,
+/// unless that isn't known yet.
 #[derive(Clone, Copy)]
 pub struct Callee<'a> {
     pub is_native: bool,
@@ -164,8 +164,8 @@ fn made_in(alloc: Global, offers: Vec<Offer>) -> Result<Made, Memory>
 ///
 /// # Errors
 ///
-/// 50 for a name that no parameter has, 55 and 58 for an argument that doesn't fit its parameter, 59
-/// for a parameter without an argument, 60 for one that got two, 61 for an argument too many.
+/// 50 for a name that no parameter has, 55 and 58 for an argument that doesn't fit its parameter,
+/// 59 for a parameter without an argument, 60 for one that got two, 61 for an argument too many.
 #[tactic(auto, unfolding(pawn_calls::specs::Calls::call_rule))]
 pub fn call(
     alloc: Global,

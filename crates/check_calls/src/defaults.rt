@@ -83,8 +83,8 @@ fn tag_given(params: &[Param], shown: &[Option<Shown>], param: u32) -> u32
     }
 }
 
-/// The argument that a value of a tag is: for a reference it stands in a cell of its own, else it goes
-/// to the parameter as any value does.
+/// The argument that a value of a tag is: for a reference it stands in a cell of its own, else it
+/// goes to the parameter as any value does.
 fn default_arg(
     alloc: Global,
     cx: &Context,

@@ -39,8 +39,8 @@ pub enum Filled {
     Default,
 }
 
-/// The arguments so far: how many were positional, what each parameter got, those of `...`, and what was
-/// made and found in them.
+/// The arguments so far: how many were positional, what each parameter got, those of `...`, and
+/// what was made and found in them.
 #[derive(Drop)]
 pub struct Filling {
     pub next: usize,
@@ -108,7 +108,8 @@ fn for_param(
 ) -> Result<Filling, CheckFault>
     ensures { Answers filling_view
         (after (given_rule (around_view cx.now) at (param_view param.now) (typed_view x)) (λ it.
-        after (spec.put at i (spec.Argument (spec.in_slot it)) (slots_view done.slots.items)) (λ slots.
+        after (spec.put at i (spec.Argument (spec.in_slot it)) (slots_view done.slots.items))
+        (λ slots.
         Stands (spec.argued (filling_view done) (typed_view x) it slots next)))) result }
 {
     let it = give(alloc, cx, at, param, x)?;
@@ -179,7 +180,8 @@ fn positional(
     x: Typed,
 ) -> Result<Filling, CheckFault>
     ensures { Answers filling_view (spec.positional (around_view cx.now) at (head_view head.now)
-        (filling_view done) (slice_get (map param_view head.now.params) done.next) (typed_view x)) result }
+        (filling_view done) (slice_get (map param_view head.now.params) done.next)
+        (typed_view x)) result }
 {
     let i = done.next;
     match param_at(head, i) {
@@ -243,7 +245,8 @@ fn named(
     x: Typed,
 ) -> Result<Filling, CheckFault>
     ensures { Answers filling_view (spec.named (around_view cx.now) at (head_view head.now)
-        (filling_view done) (spec.number_of_param (around_view cx.now) at (head_view head.now) name.now)
+        (filling_view done)
+        (spec.number_of_param (around_view cx.now) at (head_view head.now) name.now)
         (typed_view x)) result }
 {
     let next = done.next;
@@ -260,8 +263,9 @@ fn named(
 ///
 /// # Errors
 ///
-/// 50 for a name that no parameter has, 55 and 58 for an argument that doesn't fit its parameter, 59
-/// for `_` behind all parameters, 60 for a parameter that got something, 61 for an argument too many.
+/// 50 for a name that no parameter has, 55 and 58 for an argument that doesn't fit its parameter,
+/// 59 for `_` behind all parameters, 60 for a parameter that got something, 61 for an argument too
+/// many.
 pub fn offered(
     alloc: Global,
     cx: &Context,

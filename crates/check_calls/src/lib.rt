@@ -1,5 +1,5 @@
-//! Calls and their arguments: each argument put to its parameter, parameters without one, and the typed
-//! call.
+//! Calls and their arguments: each argument put to its parameter, parameters without one, and the
+//! typed call.
 #![tactic(auto)]
 
 mod calls;

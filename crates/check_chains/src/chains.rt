@@ -251,7 +251,8 @@ pub fn chain(
     links: Vec<Compared>,
 ) -> Result<Typed, CheckFault>
     ensures { Answers typed_view
-        (spec.chain_rule (around_view cx.now) at (typed_view x) (map compared_view links.items)) result }
+        (spec.chain_rule (around_view cx.now) at (typed_view x)
+        (map compared_view links.items)) result }
 {
     let tag = chain_tag(cx, x.tag, links.as_slice());
     let first = cell(at, x.form)?;

@@ -1,4 +1,5 @@
-ghost use Rattle.std.specs.Prelude.{◌≡◌, [], ◌∷◌, ◌++◌, Some, map, slice_get, filter, filter_map, IfOk, OnOk};
+ghost use Rattle.std.specs.Prelude.{◌≡◌, [], ◌∷◌, ◌++◌, Some, map, slice_get, filter, filter_map};
+ghost use Rattle.std.specs.Prelude.{IfOk, OnOk};
 ghost use Rattle.pawn_automata.specs.Clauses as clauses;
 ghost use Rattle.pawn_states.specs.Classifier.{first_fault};
 ghost use Rattle.pawn_typed.specs.Functions as spec;

@@ -1,5 +1,5 @@
-//! What the bodies of one function have to keep together, apart from their heads: their classifiers,
-//! and that some have no parameters.
+//! What the bodies of one function have to keep together, apart from their heads: their
+//! classifiers, and that some have no parameters.
 #![tactic(auto)]
 
 mod bodies;

@@ -13,11 +13,12 @@ ghost use Rattle.check_contexts.specs.Own.{AreFirsts};
 use super::callables::{heading_name, is_native, told};
 use super::firsts::Firsts;
 use super::stated::tag_at;
-use check_keys::{Key, tag_number};
+use check_keys::Key;
 use check_scopes::{Scopes, Sight};
 use check_sources::{Heading, Role, Source};
 use check_types::Meaning;
 use pawn_base::Memory;
+use pawn_sight::tag_number;
 use std::alloc::Global;
 
 /// A name that means this.

@@ -1,4 +1,5 @@
-ghost use Rattle.std.specs.Prelude.{◌≡◌, ◌<◌, Some, [], map, suc, length, slice_get, if◌then◌else◌, IfOk};
+ghost use Rattle.std.specs.Prelude.{◌≡◌, ◌<◌, Some, [], map, suc, length, slice_get, if◌then◌else◌};
+ghost use Rattle.std.specs.Prelude.{IfOk};
 ghost use Rattle.pawn_automata.specs.Groups.{Group as PlainGroup};
 ghost use Rattle.pawn_typed.specs.Headings as headings;
 ghost use Rattle.pawn_typed.specs.Sources as spec;

@@ -1,4 +1,5 @@
-ghost use Rattle.std.specs.Prelude.{◌≡◌, [], ◌∷◌, ◌++◌, None, Some, map, length, option_map, position, if◌then◌else◌, replicate, List as ListOf, IfOk};
+ghost use Rattle.std.specs.Prelude.{◌≡◌, [], ◌∷◌, ◌++◌, None, Some, map, length, option_map};
+ghost use Rattle.std.specs.Prelude.{position, if◌then◌else◌, replicate, List as ListOf, IfOk};
 ghost use Rattle.std.specs.Option.{option_or};
 ghost use Rattle.pawn_typed.specs.Headings.{Heading as PlainHeading, belongs};
 ghost use Rattle.check_keys.specs.KeyView.{key_view};

@@ -7,10 +7,10 @@ ghost use Rattle.check_contexts.specs.HeadsView.{heads_view};
 ghost use Rattle.check_contexts.specs.Stated as spec;
 
 use super::copies::copied;
-use check_keys::{UNTAGGED, tag_number};
 use check_sources::{Heading, Source};
 use check_types::{Callable, Head};
 use pawn_base::Memory;
+use pawn_sight::{UNTAGGED, tag_number};
 use std::alloc::Global;
 
 /// The heading at a place.

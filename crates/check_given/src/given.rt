@@ -137,7 +137,8 @@ fn reference_given(
     x: Typed,
 ) -> Result<Given, CheckFault>
     ensures verdict { Answers given_view
-        (spec.reference_given (around_view cx.now) at (param_view param.now) (typed_view x)) result }
+        (spec.reference_given (around_view cx.now) at (param_view param.now)
+        (typed_view x)) result }
     ensures literals { IfOk result (λ it. it.made.literals ≡ x.made.literals) }
 {
     let place = place(at, param.constant, x.form)?;
@@ -206,7 +207,8 @@ fn is_open_line(it: Extent) -> bool
 
 /// The rest of an array from an element on, which any open array of one dimension takes.
 fn rest_from(at: At, wanted: Extent, place: Scalar) -> Result<Array, CheckFault>
-    ensures { Answers array_view (spec.rest_from at (extent_view wanted) (scalar_view place)) result }
+    ensures { Answers array_view
+        (spec.rest_from at (extent_view wanted) (scalar_view place)) result }
 {
     match place {
         Scalar::Element(array, index) => {
@@ -244,7 +246,8 @@ fn fitting(at: At, wanted: Extent, extent: Extent, array: Array) -> Result<Array
 
 #[tactic(auto, using(pawn_verdict::proofs::VerdictLaws::verdicts))]
 fn array(at: At, keeps: bool, wanted: Extent, form: Form) -> Result<Passed, CheckFault>
-    ensures { Answers passed_view (spec.array_in at keeps (extent_view wanted) (form_view form)) result }
+    ensures { Answers passed_view
+        (spec.array_in at keeps (extent_view wanted) (form_view form)) result }
 {
     match form {
         Form::Value(_) => Err(broken(ARGUMENT_KIND, at.place)),

@@ -1,7 +1,8 @@
 ghost use Rattle.std.specs.Prelude.{◌≡◌, [], Some, map};
 ghost use Rattle.pawn_automata.specs.Groups as spec;
 ghost use Rattle.check_keys.specs.KeyView.{states_view};
-ghost use Rattle.check_groups.specs.Distinct.{distinct_view, with_distinct, states_distinct, body_distinct, only_of};
+ghost use Rattle.check_groups.specs.Distinct.{distinct_view, with_distinct, states_distinct};
+ghost use Rattle.check_groups.specs.Distinct.{body_distinct, only_of};
 ghost use Rattle.check_groups.specs.WrittenView.{written_view};
 
 use super::written::Written;

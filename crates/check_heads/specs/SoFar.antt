@@ -50,6 +50,7 @@ UnlessMemory (Err Memory) holds = Unit {0}
 
 -- ---- parts that are only judged
 
+-- two parts that stand, one behind the other
 abbrev pub judged_behind : Judged → Judged → Judged
 judged_behind x y = judged
 
@@ -59,5 +60,6 @@ parts_view fell = so_far fell judged
 
 -- ---- parameters
 
+-- the parameters so far, or that one fell
 abbrev pub progress_view : Progress → Verdict plain.Headed
 progress_view it = so_far it.fell (headed_view it.done)

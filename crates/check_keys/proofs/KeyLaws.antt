@@ -15,7 +15,8 @@ use Rattle.pawn_tags.specs.declared.op.Op.TheVariants as op
 use Rattle.pawn_tags.specs.declared.op.Signature.{Signature}
 use Rattle.pawn_automata.specs.Clauses.{named_or}
 use Rattle.pawn_automata.specs.Keys.{entered, signature_of}
-use Rattle.check_keys.specs.Signatures.{right_of, signature_by}
+use Rattle.pawn_sight.specs.Operators.{right_of}
+use Rattle.check_keys.specs.Signatures.{signature_by}
 
 -- the automaton of a classifier is that of its first state
 pub entered_first : (fallback : List ℕ) (states : List StateName) (first : StateName) → 1 ≤ length states → first ≡ get_or states 0 first

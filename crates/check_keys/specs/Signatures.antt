@@ -1,15 +1,8 @@
 -- The signature of an operator, as code finds it.
 use Rattle.std.specs.Prelude.{ℕ, List, [], ◌∷◌, Option, Some, None}
-use Rattle.pawn_tags.specs.Tags.{untagged}
 use Rattle.pawn_tags.specs.declared.op.Op.{Op}
-use Rattle.pawn_tags.specs.declared.op.Op.TheVariants as op
 use Rattle.pawn_tags.specs.declared.op.Signature.{Signature}
 use Rattle.pawn_automata.specs.Keys.{signature_between}
-
--- the right one of its tags where it has one operand, by its result's tag
-abbrev pub right_of : Op → ℕ → ℕ
-right_of op.Assign result = result
-right_of _ result = untagged
 
 -- by the tags of its parameters, with the right one where it has one operand
 abbrev pub signature_by : Op → ℕ → Option (List ℕ) → Option Signature

@@ -6,5 +6,4 @@ mod operators;
 mod states;
 
 pub use key::{Key, is_entry, key_of};
-pub use operators::{UNTAGGED, tag_number};
 pub use states::{named_or, states_of};

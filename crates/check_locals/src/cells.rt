@@ -110,7 +110,8 @@ fn own_cell(
     init: &Option<Init>,
 ) -> Result<Option<Stood>, CheckFault>
     ensures { Tells stood_view (after
-        (values.local_value (around_view cx.now) (point_view point.now).scope point.now.objects at tag
+        (values.local_value (around_view cx.now) (point_view point.now).scope point.now.objects at
+        tag
         (option_map init_view init.now))
         (λ it. Stands (spec.new_cell (point_view point.now) it))) result }
 {
@@ -293,7 +294,8 @@ fn local_with(
     }
 }
 
-/// What a variable makes where it is declared (Language Guide, "Declarations"); None where it falls.
+/// What a variable makes where it is declared (Language Guide, "Declarations"); None where it
+/// falls.
 ///
 /// # Errors
 ///

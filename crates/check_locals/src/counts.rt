@@ -1,5 +1,6 @@
 ghost use Rattle.std.specs.Prelude.{◌≡◌, ◌+◌, [], map, option_map, sum_by, IfOk};
-ghost use Rattle.pawn_tree.specs.View.{arg_view, dim_view, expr_view, init_view, link_view, var_view};
+ghost use Rattle.pawn_tree.specs.View.{arg_view, dim_view, expr_view, init_view, link_view};
+ghost use Rattle.pawn_tree.specs.View.{var_view};
 ghost use Rattle.pawn_calls.specs.Literals as spec;
 ghost use Rattle.pawn_bodies.specs.Counts as counts;
 
@@ -141,8 +142,8 @@ fn objects_by(kind: Storage, dims: &[Dim], init: &Option<Init>) -> Result<usize,
     }
 }
 
-/// How many objects a variable makes: itself where it is an array or a `static`, else the literals of
-/// its value.
+/// How many objects a variable makes: itself where it is an array or a `static`, else the literals
+/// of its value.
 ///
 /// # Errors
 ///

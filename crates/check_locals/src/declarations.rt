@@ -114,8 +114,8 @@ pub fn locals<'a>(
 ///
 /// # Errors
 ///
-/// What breaks a rule in an expression of theirs; 51 for a name that the block has, and 53, 54, 55, 57,
-/// 68 as sizes and first values.
+/// What breaks a rule in an expression of theirs; 51 for a name that the block has, and 53, 54, 55,
+/// 57, 68 as sizes and first values.
 #[tactic(auto, using(crate::proofs::ToldLaws::parts))]
 pub fn local_vars<'a>(
     alloc: Global,
@@ -171,7 +171,8 @@ fn constant_stood(alloc: Global, cx: &Context, tag: u32, x: Value) -> Result<Sto
 ///
 /// # Errors
 ///
-/// 51 for a name that the block has, 57 for what is no constant, and what breaks a rule in its value.
+/// 51 for a name that the block has, 57 for what is no constant, and what breaks a rule in its
+/// value.
 pub fn local_constant<'a>(
     alloc: Global,
     cx: &Context,
@@ -179,10 +180,12 @@ pub fn local_constant<'a>(
     at: At,
     it: &'a Constant,
 ) -> Result<Option<Stood>, CheckFault>
-    ensures tells { Tells stood_view (spec.local_constant (around_view cx.now) (point_view point.old)
+    ensures tells { Tells stood_view
+        (spec.local_constant (around_view cx.now) (point_view point.old)
         at (constant_view it.now)) result }
     ensures behind { IfOk result (λ x. point_view point.new ≡
-        points.behind_constant (around_view cx.now) (point_view point.old) at (constant_view it.now)) }
+        points.behind_constant (around_view cx.now) (point_view point.old) at
+        (constant_view it.now)) }
 {
     let name = it.name.bytes.as_slice();
     let tag = tag_of(cx, &it.tag);

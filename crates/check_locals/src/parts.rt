@@ -37,8 +37,8 @@ fn judge(alloc: Global, cx: &Context, point: &Point, x: &Var) -> Result<Option<(
     told(judge_var(alloc, cx, &point.scopes, x))
 }
 
-/// The expressions in variables, each judged behind the variables before it, which are declared so; None
-/// where one falls.
+/// The expressions in variables, each judged behind the variables before it, which are declared so;
+/// None where one falls.
 ///
 /// # Errors
 ///

@@ -6,8 +6,8 @@ ghost use Rattle.check_locals.specs.PointView.{point_view};
 use check_scopes::{Scopes, Sight};
 use pawn_base::Memory;
 
-/// A place in a body: the declarations in sight there, and how many objects of the source and slots of
-/// the body stand before it.
+/// A place in a body: the declarations in sight there, and how many objects of the source and slots
+/// of the body stand before it.
 #[derive(Drop)]
 pub struct Point<'a> {
     pub scopes: Scopes<'a>,

@@ -38,7 +38,8 @@ fn size_at(extent: Extent, dimension: usize) -> Option<u32>
 
 /// The size of what a name means, in the dimension that so many `[]` tell.
 fn size_of(at: At, dimension: usize, means: Option<Meaning>) -> Result<u32, CheckFault>
-    ensures { Answers (λ size. size) (spec.size_of at dimension (option_map meaning_view means)) result }
+    ensures { Answers (λ size. size)
+        (spec.size_of at dimension (option_map meaning_view means)) result }
 {
     match means {
         Some(Meaning::Array(_, extent, _, _)) => match size_at(extent, dimension) {

@@ -11,13 +11,16 @@ use Rattle.pawn_typing.specs.Typed.{Typed, Form, Value, Place, Whole, Literal, H
 use Rattle.pawn_typing.specs.Assignments.{unless_constant, known_line, copied_cells, literal_cells, copied}
 use Rattle.check_places.specs.declared.assignments.Source as held
 
+-- the array that is copied, and how many of its cells
 pub record Source : Type 0 where
   pub array : code.Array
   pub cells : ℕ
 
+-- as code holds it
 abbrev pub source_view : held.Source → Source
 source_view it = record { array = array_view it.array; cells = it.cells }
 
+-- an array, where its count of cells stands
 abbrev pub with_cells : code.Array → Verdict ℕ → Verdict Source
 with_cells array cells = after cells (λ n. Stands (record { array = array; cells = n }))
 

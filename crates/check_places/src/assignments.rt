@@ -5,7 +5,8 @@ ghost use Rattle.check_types.specs.ContextView.{around_view};
 ghost use Rattle.check_types.specs.ExtentView.{extent_view};
 ghost use Rattle.check_types.specs.TypedView.{form_view, typed_view};
 ghost use Rattle.check_places.specs.Held.{held_view};
-ghost use Rattle.check_places.specs.Source.{array_target, copy_rule, is_array_form, source_in, source_view};
+ghost use Rattle.check_places.specs.Source.{array_target, copy_rule, is_array_form, source_in};
+ghost use Rattle.check_places.specs.Source.{source_view};
 
 use super::cells::Held;
 use super::signs::updater_of;

@@ -1,4 +1,5 @@
-ghost use Rattle.std.specs.Prelude.{◌≡◌, ◌<◌, ◌≤◌, ◌+◌, ◌*◌, ◌/◌, [], ◌∷◌, true, false, drop, length, IfOk};
+ghost use Rattle.std.specs.Prelude.{◌≡◌, ◌<◌, ◌≤◌, ◌+◌, ◌*◌, ◌/◌, [], ◌∷◌, true, false, drop};
+ghost use Rattle.std.specs.Prelude.{length, IfOk};
 ghost use Rattle.pawn_program.specs.View.{object_view};
 ghost use Rattle.pawn_typing.specs.Names as spec;
 ghost use Rattle.pawn_typing.specs.Texts.{packed_cell, packed_cells, text_cells, text_object};

@@ -1,4 +1,5 @@
-ghost use Rattle.std.specs.Prelude.{◌≡◌, ◌||◌, ◌&&◌, [], ◌∷◌, ◌++◌, map, replicate, false, List as ListOf, Some, IfOk};
+ghost use Rattle.std.specs.Prelude.{◌≡◌, ◌||◌, ◌&&◌, [], ◌∷◌, ◌++◌, map, replicate, false};
+ghost use Rattle.std.specs.Prelude.{List as ListOf, Some, IfOk};
 ghost use Rattle.pawn_typed.specs.Headings.{Heading as PlainHeading};
 ghost use Rattle.check_keys.specs.KeyView.{key_view};
 ghost use Rattle.check_groups.specs.GroupsView.{groups_view};

@@ -2,8 +2,6 @@
 #![tactic(auto)]
 
 mod reading;
-mod tags;
 
 pub use pawn_base::Memory;
 pub use reading::{read_source, source_tags};
-pub use tags::tags_of;

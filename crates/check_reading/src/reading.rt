@@ -9,12 +9,12 @@ ghost use Rattle.check_sources.specs.SourceView.{source_view};
 ghost use Rattle.check_contexts.specs.Distinct.{IsDistinct};
 ghost use Rattle.check_reading.specs.Parts.{AreParts};
 
-use super::tags::tags_of;
 use check_groups::{Written, entry_fallback, group_bodies, written_bodies};
 use check_sources::{Source, call_names, make_headings};
 use check_states::source_automata;
 use pawn_base::{List, Memory};
 use pawn_marks::tree_marks;
+use pawn_names::tags_of;
 use pawn_tags::TagTable;
 use pawn_tree::Tree;
 use std::alloc::Global;

@@ -1,4 +1,5 @@
-ghost use Rattle.std.specs.Prelude.{◌≡◌, [], ◌++◌, map, option_map, slice_get, position, unwrap_or, IfOk, OnOk};
+ghost use Rattle.std.specs.Prelude.{◌≡◌, [], ◌++◌, map, option_map, slice_get, position, unwrap_or};
+ghost use Rattle.std.specs.Prelude.{IfOk, OnOk};
 ghost use Rattle.std.specs.List.{position_from};
 ghost use Rattle.pawn_states.specs.Classifier.{is_fallback};
 ghost use Rattle.pawn_states.specs.Dispatch as dispatch;

@@ -37,7 +37,8 @@ pub fn choice(
     z: Typed,
 ) -> Result<Typed, CheckFault>
     ensures { Answers typed_view
-        (spec.choice_rule (around_view cx.now) at (typed_view x) (typed_view y) (typed_view z)) result }
+        (spec.choice_rule (around_view cx.now) at (typed_view x) (typed_view y)
+        (typed_view z)) result }
 {
     let test = cell(at, x.form)?;
     let first = cell(at, y.form)?;

@@ -265,8 +265,8 @@ fn prefix_value(it: Prefix, value: Option<i32>) -> Option<i32>
     }
 }
 
-/// A sign before an operand: the user operator if there is one, else the built-in one, which gives a
-/// value of this tag.
+/// A sign before an operand: the user operator if there is one, else the built-in one, which gives
+/// a value of this tag.
 #[tactic(auto, using(pawn_verdict::proofs::VerdictLaws::verdicts))]
 fn operate_one(
     alloc: Global,

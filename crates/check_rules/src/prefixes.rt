@@ -25,7 +25,8 @@ pub fn prefix(
     sign: Sign,
     x: Typed,
 ) -> Result<Typed, CheckFault>
-    ensures { Answers typed_view (spec.prefix_rule (around_view cx.now) at sign (typed_view x)) result }
+    ensures { Answers typed_view
+        (spec.prefix_rule (around_view cx.now) at sign (typed_view x)) result }
 {
     match sign {
         Sign::Exclamation => negate_truth(alloc, cx, at, x),
@@ -44,7 +45,8 @@ pub fn prefix(
 /// 54 for an array, 52 for what is no place, or a constant one.
 #[tactic(auto, using(crate::proofs::SignLaws::postfix_fails))]
 pub fn postfix(cx: &Context, at: At, sign: Sign, x: Typed) -> Result<Typed, CheckFault>
-    ensures { Answers typed_view (spec.postfix_rule (around_view cx.now) at sign (typed_view x)) result }
+    ensures { Answers typed_view
+        (spec.postfix_rule (around_view cx.now) at sign (typed_view x)) result }
 {
     match sign {
         Sign::Increment => step(cx, at, true, false, x),

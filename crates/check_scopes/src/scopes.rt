@@ -1,6 +1,7 @@
 ghost use Rattle.std.specs.Prelude.{◌≡◌, [], option_map, Some, OnOk};
 ghost use Rattle.pawn_typing.specs.Scope as spec;
-ghost use Rattle.check_scopes.specs.Scopes.{entered, here_in, nothing_declared, outer_of, scope_view, sight_view, with_name, without};
+ghost use Rattle.check_scopes.specs.Scopes.{entered, here_in, nothing_declared, outer_of};
+ghost use Rattle.check_scopes.specs.Scopes.{scope_view, sight_view, with_name, without};
 
 use check_names::{TRUTH_TAG, UNTAGGED};
 use check_types::Meaning;
@@ -114,7 +115,8 @@ impl<'a> Scopes<'a> {
 
     /// What a name means in the innermost block. That of the file has the predefined constants too.
     pub fn find_here(&self, name: &[u8]) -> Option<Sight>
-        ensures { option_map sight_view result ≡ spec.found_in_block (scope_view self.now) name.now }
+        ensures { option_map sight_view result ≡
+            spec.found_in_block (scope_view self.now) name.now }
     {
         if self.depth == 0 {
             return self.find(name);

@@ -2,6 +2,7 @@
 use Rattle.std.specs.Prelude.{Bool, true, false}
 use Rattle.pawn_program.specs.Program.{Stmt, Local, LocalArray}
 
+-- a statement that makes a slot
 abbrev pub is_variable : Stmt → Bool
 is_variable (Local slot value) = true
 is_variable (LocalArray slot object) = true

@@ -10,6 +10,7 @@ use Rattle.check_statements.specs.declared.stood.Stood.{Stood}
 use Rattle.check_statements.specs.declared.used.Used.{Used}
 use Rattle.check_statements.specs.declared.used.Maybe.{Maybe}
 
+-- where a body returns, and whether it gives a value there
 abbrev pub returned_view : Returned → plain.Returned
 returned_view it = record { at = it.at; gives = it.gives }
 
@@ -23,11 +24,13 @@ stood_of stmts parts = record {
   warned = parts.made.warned;
 }
 
+-- statements as code holds them
 abbrev pub stood_view : Stood → plain.Stood
 stood_view it = stood_of (map stmt_view it.stmts.items) it.parts
 
 -- ---- values
 
+-- a value that a statement uses
 abbrev pub used_view : Used → rules.Used
 used_view it = record {
   expr = expr_view it.expr;

@@ -4,7 +4,8 @@ ghost use Rattle.pawn_program.specs.View.{else_view, expr_view, object_view, slo
 ghost use Rattle.pawn_bodies.specs.Stood.{stood};
 ghost use Rattle.pawn_bodies.specs.Statements as spec;
 ghost use Rattle.pawn_verdict.specs.Answers.{Answers};
-ghost use Rattle.check_statements.specs.StoodView.{maybe_view, other_view, returned_view, stood_view, used_view};
+ghost use Rattle.check_statements.specs.StoodView.{maybe_view, other_view, returned_view};
+ghost use Rattle.check_statements.specs.StoodView.{stood_view, used_view};
 
 use super::stood::{Parts, Returned, Stood, one_of};
 use super::used::{Maybe, Used};
@@ -161,7 +162,8 @@ pub fn return_rule(
 /// The end of the run.
 pub fn exit_rule(alloc: Global, x: Used) -> Result<Stood, Memory>
     ensures { IfOk result (λ it. stood_view it ≡
-        stood (code.Exit (expr_view x.expr) x.tag ∷ []) (map object_view x.made.literals) x.made.warned) }
+        stood (code.Exit (expr_view x.expr) x.tag ∷ [])
+        (map object_view x.made.literals) x.made.warned) }
 {
     Ok(Stood::of(alloc, Stmt::Exit(x.expr, x.tag), x.made)?)
 }
@@ -169,7 +171,8 @@ pub fn exit_rule(alloc: Global, x: Used) -> Result<Stood, Memory>
 /// A sleep.
 pub fn sleep_rule(alloc: Global, x: Used) -> Result<Stood, Memory>
     ensures { IfOk result (λ it. stood_view it ≡
-        stood (code.Sleep (expr_view x.expr) x.tag ∷ []) (map object_view x.made.literals) x.made.warned) }
+        stood (code.Sleep (expr_view x.expr) x.tag ∷ [])
+        (map object_view x.made.literals) x.made.warned) }
 {
     Ok(Stood::of(alloc, Stmt::Sleep(x.expr, x.tag), x.made)?)
 }
@@ -177,7 +180,8 @@ pub fn sleep_rule(alloc: Global, x: Used) -> Result<Stood, Memory>
 /// A condition that has to hold.
 pub fn assert_rule(alloc: Global, x: Used) -> Result<Stood, Memory>
     ensures { IfOk result (λ it. stood_view it ≡
-        stood (code.Assert (expr_view x.expr) ∷ []) (map object_view x.made.literals) x.made.warned) }
+        stood (code.Assert (expr_view x.expr) ∷ [])
+        (map object_view x.made.literals) x.made.warned) }
 {
     Ok(Stood::of(alloc, Stmt::Assert(x.expr), x.made)?)
 }

@@ -62,7 +62,8 @@ fn add_fallback(
 ) -> Result<(), Memory>
     requires { IsKnown known.now }
     ensures { OnOk result (automata_view automata.new ≡
-        spec.with_fallback known.now.tags.now known.now.fallback.now (groups_view known.now.groups.now)
+        spec.with_fallback known.now.tags.now known.now.fallback.now
+        (groups_view known.now.groups.now)
         (automata_view automata.old) (written_view it.now)) }
 {
     if has_other(known, it) {
@@ -137,7 +138,8 @@ fn entry_of(groups: &Groups, it: &KnownAutomaton) -> Option<u32>
 
 /// Automata with their entry functions.
 fn enter_all(groups: &Groups, mut automata: Automata) -> Automata
-    ensures { automata_view result ≡ spec.entered (groups_view groups.now) (automata_view automata) }
+    ensures { automata_view result ≡
+        spec.entered (groups_view groups.now) (automata_view automata) }
 {
     for number in 0..automata.len() {
         let function = entry_of(groups, &automata.as_slice()[number]);
@@ -160,7 +162,8 @@ pub fn source_automata<'a>(
     bodies: &[Written<'a>],
 ) -> Result<Automata, Memory>
     ensures { IfOk result (λ automata. automata_view automata ≡
-        spec.automata tags.now fallback.now (groups_view groups.now) (map written_view bodies.now)) }
+        spec.automata tags.now fallback.now (groups_view groups.now)
+        (map written_view bodies.now)) }
 {
     let known = Known {
         tags,

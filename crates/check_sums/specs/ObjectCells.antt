@@ -12,6 +12,7 @@ abbrev pub cells_behind : ℕ → List Object → ℕ
 cells_behind sum objects =
     fold (λ a (it : StaticObject). a + cells_of it.sizes) sum (map object_view objects)
 
+-- all cells of objects
 abbrev pub cells_of_all : List Object → ℕ
 cells_of_all objects = cells_behind 0 objects
 

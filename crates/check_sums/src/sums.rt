@@ -1,4 +1,5 @@
-ghost use Rattle.std.specs.Prelude.{◌≡◌, ◌+◌, ◌-◌, ◌*◌, ◌^◌, ◌<◌, ◌≤◌, SomeIff, map, nat_le, unwrap_or};
+ghost use Rattle.std.specs.Prelude.{◌≡◌, ◌+◌, ◌-◌, ◌*◌, ◌^◌, ◌<◌, ◌≤◌, SomeIff, map, nat_le};
+ghost use Rattle.std.specs.Prelude.{unwrap_or};
 ghost use Rattle.pawn_arrays.specs.Sizes.{cell_count};
 ghost use Rattle.pawn_program.specs.View.{program_view};
 ghost use Rattle.pawn_meaning.specs.declared.limits.TheConstants as limit;
@@ -59,7 +60,8 @@ fn with_array(sum: u64, shape: &Shape) -> Option<u64>
 
 /// The cells of all objects, where they are no more than the limit.
 fn object_cells(objects: &[Object]) -> Option<u64>
-    ensures { SomeIff result (cells_of_all objects.now ≤ limit.DATA_LIMIT) (cells_of_all objects.now) }
+    ensures { SomeIff result (cells_of_all objects.now ≤ limit.DATA_LIMIT)
+        (cells_of_all objects.now) }
 {
     let mut sum = 0;
     for i in 0..objects.len() {
@@ -99,7 +101,8 @@ fn code_fits(program: &Program) -> bool
 ///
 /// 68 for the cells of its data, 69 for its weight, both at the source's first line.
 pub fn sums_stand(program: &Program) -> Result<(), CheckFault>
-    ensures { Answers passed_view (spec.unless (spec.sum_faults (program_view program.now))) result }
+    ensures { Answers passed_view
+        (spec.unless (spec.sum_faults (program_view program.now))) result }
 {
     if !data_fits(program) {
         return Err(broken(LIMIT_ARRAY, first_line()));

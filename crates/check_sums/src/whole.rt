@@ -24,8 +24,8 @@ fn is_room(dynamic: i32) -> bool
     0 <= dynamic && dynamic <= DYNAMIC_LIMIT
 }
 
-/// What is tested of a source as a whole, whatever its declarations are: its room for heap and stack
-/// in cells, and that it has `main` or a public function (Language Guide, "Functions").
+/// What is tested of a source as a whole, whatever its declarations are: its room for heap and
+/// stack in cells, and that it has `main` or a public function (Language Guide, "Functions").
 ///
 /// # Errors
 ///

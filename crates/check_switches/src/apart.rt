@@ -46,8 +46,8 @@ fn in_order(alloc: Global, ranges: &[(i32, i32)]) -> Result<Vec<(i32, i32)>, Mem
     Ok(all)
 }
 
-/// Whether some value stands in two ranges, none of which is empty: two ranges in order have a value in
-/// common only where neighbours do.
+/// Whether some value stands in two ranges, none of which is empty: two ranges in order have a
+/// value in common only where neighbours do.
 fn any_twice(alloc: Global, ranges: &[(i32, i32)]) -> Result<bool, Memory>
     requires { list_any spec.is_empty ranges.now ≡ false }
     ensures { IfOk result (λ twice. twice ≡ spec.has_twice ranges.now) }

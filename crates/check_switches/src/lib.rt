@@ -1,4 +1,5 @@
-//! The cases of a `switch` in code: their values, none of which stands twice, and the typed statement.
+//! The cases of a `switch` in code: their values, none of which stands twice, and the typed
+//! statement.
 #![tactic(auto)]
 
 mod apart;

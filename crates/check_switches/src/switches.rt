@@ -25,8 +25,8 @@ use pawn_tree::At;
 use pawn_verdict::CheckFault;
 use std::alloc::Global;
 
-/// Cases with their values: what the program does in each, all their ranges, and what they make beside
-/// that.
+/// Cases with their values: what the program does in each, all their ranges, and what they make
+/// beside that.
 #[derive(Drop)]
 pub struct Cases {
     pub cases: List<Case>,
@@ -147,8 +147,8 @@ fn switch_rule(alloc: Global, e: Used, it: Cases, other: Option<Stood>) -> Resul
 ///
 /// # Errors
 ///
-/// 54 for an array, 57 for what is no constant, 62 for a value that stands twice and for a range that ends
-/// below its start.
+/// 54 for an array, 57 for what is no constant, 62 for a value that stands twice and for a range
+/// that ends below its start.
 #[tactic(auto, using(pawn_verdict::proofs::VerdictLaws::verdicts))]
 fn switch_bare(
     alloc: Global,
@@ -185,12 +185,13 @@ fn switch_by(
     switch_bare(alloc, cx, at, x, parts, other)
 }
 
-/// A `switch` by its parts, which stand or fall (Language Guide, "Statements"); None where one falls.
+/// A `switch` by its parts, which stand or fall (Language Guide, "Statements"); None where one
+/// falls.
 ///
 /// # Errors
 ///
-/// 54 for an array, 57 for what is no constant, 62 for a value that stands twice and for a range that ends
-/// below its start.
+/// 54 for an array, 57 for what is no constant, 62 for a value that stands twice and for a range
+/// that ends below its start.
 #[tactic(auto, using(check_locals::proofs::ToldLaws::parts, crate::proofs::FallLaws::falls))]
 pub fn switch_told(
     alloc: Global,

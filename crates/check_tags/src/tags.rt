@@ -1,4 +1,5 @@
-ghost use Rattle.std.specs.Prelude.{◌≡◌, ◌∷◌, [], ◌++◌, ◌&&◌, not, nat_eq, List as ListOf, ℕ, map, IfOk, OnOk};
+ghost use Rattle.std.specs.Prelude.{◌≡◌, ◌∷◌, [], ◌++◌, ◌&&◌, not, nat_eq, List as ListOf, ℕ, map};
+ghost use Rattle.std.specs.Prelude.{IfOk, OnOk};
 ghost use Rattle.name_table.specs.Among.{is_among};
 ghost use Rattle.pawn_tags.specs.Tags.{untagged};
 ghost use Rattle.pawn_program.specs.View.{tag_view};

@@ -1,4 +1,5 @@
-ghost use Rattle.std.specs.Prelude.{◌≡◌, [], ◌∷◌, map, option_map, replicate, false, pos, IfOk, IfSome};
+ghost use Rattle.std.specs.Prelude.{◌≡◌, [], ◌∷◌, map, option_map, replicate, false, pos, IfOk};
+ghost use Rattle.std.specs.Prelude.{IfSome};
 ghost use Rattle.std.specs.Option.{option_to_list};
 ghost use Rattle.pawn_arrays.specs.Sizes.{elements_in, sizes};
 ghost use Rattle.pawn_program.specs.View.{object_view};

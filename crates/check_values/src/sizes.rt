@@ -7,7 +7,8 @@ ghost use Rattle.part_verdict.specs.PartAnswers.{PartAnswers};
 ghost use Rattle.check_types.specs.ContextView.{around_view};
 ghost use Rattle.check_scopes.specs.Scopes.{scope_view};
 ghost use Rattle.check_values.specs.Inner.{all_of, single, with_size};
-ghost use Rattle.check_values.specs.ValueViews.{dimension_view, dimensions_view, given_view, inner_view};
+ghost use Rattle.check_values.specs.ValueViews.{dimension_view, dimensions_view, given_view};
+ghost use Rattle.check_values.specs.ValueViews.{inner_view};
 
 use super::constants::constant_value;
 use super::faults::part_broken;

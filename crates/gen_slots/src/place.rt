@@ -10,8 +10,8 @@ use pawn_program::{Program, Slot};
 use std::alloc::Global;
 
 /// Where the statements of a body stand: its program, its slots, of which so many are parameters,
-/// the addresses of the program's objects, all their cells, behind which those of the automata stand,
-/// and where memory comes from.
+/// the addresses of the program's objects, all their cells, behind which those of the automata
+/// stand, and where memory comes from.
 #[derive(Clone, Copy)]
 pub struct Place<'a> {
     pub alloc: Global,

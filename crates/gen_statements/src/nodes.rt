@@ -63,7 +63,8 @@ pub fn condition(
 ) -> Result<Builder, Memory>
     requires { Stands place.now locals.now }
     ensures { IfOk result (λ r. r ≡ with_items (condition_items
-        (scope_in place.now locals.now.made.items) (4 * length code.code) (perhaps_view c.now)) code) }
+        (scope_in place.now locals.now.made.items) (4 * length code.code)
+        (perhaps_view c.now)) code) }
 {
     match c {
         Some(e) => valued(e, place, locals, code),
@@ -80,7 +81,8 @@ pub fn step(
 ) -> Result<Builder, Memory>
     requires { Stands place.now locals.now }
     ensures { IfOk result (λ r. r ≡ with_items (step_items
-        (scope_in place.now locals.now.made.items) (4 * length code.code) (perhaps_view c.now)) code) }
+        (scope_in place.now locals.now.made.items) (4 * length code.code)
+        (perhaps_view c.now)) code) }
 {
     match c {
         Some(e) => valued(e, place, locals, code),
@@ -230,7 +232,8 @@ pub fn halted(
 #[tactic(auto, using(gen_emit::proofs::GrowLaws::then_grow))]
 fn asserted(b: Builder) -> Result<Builder, Memory>
     ensures { IfOk result (λ r. let p = 4 * length b.code in r ≡ with_items
-        (taking Op.Jzer (pos (p + 16)) ∷ taking Op.Jump (pos (p + 24)) ∷ taking Op.Halt (pos 2) ∷ []) b) }
+        (taking Op.Jzer (pos (p + 16)) ∷ taking Op.Jump (pos (p + 24))
+        ∷ taking Op.Halt (pos 2) ∷ []) b) }
 {
     let begin = 4 * b.code().len() as u64;
     let fault = cell_of(begin + 16)?;
@@ -244,7 +247,8 @@ fn asserted(b: Builder) -> Result<Builder, Memory>
 /// An assertion.
 pub fn assertion(e: &Expr, place: &Place<'_>, locals: &Locals, b: Draft) -> Result<Draft, Memory>
     requires { Stands place.now locals.now }
-    ensures { IfOk result (λ r. Grown b r (λ exits. assert_code (4 * length b.code.code) (value_items
+    ensures { IfOk result (λ r. Grown b r (λ exits. assert_code (4 * length b.code.code)
+        (value_items
         (scope_in place.now locals.now.made.items) (4 * length b.code.code) (expr_view e.now)))) }
 {
     let Draft { code, holes } = b;

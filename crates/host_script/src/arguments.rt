@@ -5,7 +5,8 @@ ghost use Rattle.pawn_outside.specs.Said.{Said};
 ghost use Rattle.host_script.specs.declared.event.Seen.TheVariants as seen;
 ghost use Rattle.host_script.specs.Script.{bytes_of, characters};
 ghost use Rattle.host_script.specs.Text.{argument_text, character_text, values_text};
-ghost use Rattle.host_script.specs.Characters.{front, has_zero, is_packed, itself, unpacked, characters_text};
+ghost use Rattle.host_script.specs.Characters.{front, has_zero, is_packed, itself, unpacked};
+ghost use Rattle.host_script.specs.Characters.{characters_text};
 
 use super::lines::say_plain;
 use itoa::Buffer;

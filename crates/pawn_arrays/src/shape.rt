@@ -1,7 +1,8 @@
 ghost use Rattle.std.specs.Prelude.{◌≡◌, ◌+◌, ◌*◌, ◌^◌, ◌<◌, ◌≤◌, ℤ, List, IsSome, IfOk, unwrap_or};
 ghost use Rattle.std.specs.Option.{SomeIff};
 ghost use Rattle.pawn_arrays.specs.Sizes.{cell_count, cell_limit};
-ghost use Rattle.pawn_arrays.specs.Layout.{IsLayout, row_place, part_cells, inner_place, inner_cells};
+ghost use Rattle.pawn_arrays.specs.Layout.{IsLayout, row_place, part_cells, inner_place};
+ghost use Rattle.pawn_arrays.specs.Layout.{inner_cells};
 ghost use Rattle.pawn_arrays.specs.Vector.{HasVector};
 
 use pawn_base::{Cells, Memory};

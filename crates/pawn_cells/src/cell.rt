@@ -1,4 +1,5 @@
-ghost use Rattle.std.specs.Prelude.{◌≡◌, ◌<◌, ◌↔◌, ◌<ℤ◌, ◌≤ℤ◌, ℕ, pos, negsuc, IsTrue, IsNone, IfSome, ◌≢◌};
+ghost use Rattle.std.specs.Prelude.{◌≡◌, ◌<◌, ◌↔◌, ◌<ℤ◌, ◌≤ℤ◌, ℕ, pos, negsuc, IsTrue, IsNone};
+ghost use Rattle.std.specs.Prelude.{IfSome, ◌≢◌};
 ghost use Rattle.pawn_cells.specs.Cells as cells;
 ghost use Rattle.pawn_cells.specs.Signs.{IsOpposite};
 

@@ -1,5 +1,5 @@
-//! Cells, the one type of value in Pawn: 32 bits in two's complement; the operators on them, and the
-//! constants that every source has. Nothing here takes memory.
+//! Cells, the one type of value in Pawn: 32 bits in two's complement; the operators on them, and
+//! the constants that every source has. Nothing here takes memory.
 #![tactic(auto)]
 
 mod cell;

@@ -20,5 +20,6 @@ pub use laws::{
 pub use limits::{
     DATA_LIMIT, DYNAMIC_LIMIT, LOCALS_LIMIT, NODE_WEIGHT, PAIR_WEIGHT, ROUTE_WEIGHT, WEIGHT_LIMIT,
 };
+pub use locals::locals_fit;
 pub use needs::need;
 pub use weights::{lean, weight};

@@ -1,9 +1,11 @@
-ghost use Rattle.std.specs.Prelude.{◌≡◌, ◌+◌, ◌*◌, map, slice_get, sum_by, unwrap_or};
+ghost use Rattle.std.specs.Prelude.{◌≡◌, ◌+◌, ◌*◌, map, nat_le, slice_get, sum_by, unwrap_or};
 ghost use Rattle.pawn_arrays.specs.Sizes.{cell_count};
 ghost use Rattle.pawn_meaning.specs.Capped.{capped};
+ghost use Rattle.pawn_meaning.specs.declared.limits.TheConstants as limits;
 ghost use Rattle.pawn_meaning.specs.Need as spec;
 ghost use Rattle.pawn_program.specs.View.{slot_view, stmt_view, else_view};
 
+use super::limits::LOCALS_LIMIT;
 use pawn_base::List;
 use pawn_program::{Case, Shape, Slot, Stmt};
 
@@ -120,4 +122,13 @@ fn else_locals(other: &Option<Box<Stmt>>, slots: &[Slot]) -> u64
         Some(s) => locals(s, slots),
         None => 0,
     }
+}
+
+/// Whether the locals of a body with these slots are within the limit on one path of blocks
+/// (Language Guide, "Memory layout").
+pub fn locals_fit(stmt: &Stmt, slots: &[Slot]) -> bool
+    ensures { result ≡ nat_le (spec.locals (map slot_view slots.now) (stmt_view stmt.now))
+        limits.LOCALS_LIMIT }
+{
+    locals(stmt, slots) <= LOCALS_LIMIT
 }

@@ -7,3 +7,4 @@ mod tags;
 
 pub use names::{Names, resolve};
 pub use pawn_sight::CheckFault;
+pub use tags::tags_of;

@@ -14,7 +14,7 @@ mod tags;
 pub use context::Context;
 pub use fault::{BY_ZERO, CheckFault, Fault, NOT_CONSTANT, TWICE, UNKNOWN, broken};
 pub use known::{Kind, Known, Meant, MeantKind, Size};
-pub use operators::operators_of;
+pub use operators::{op_of, operators_of, plain_tag, right_tag};
 pub use outside::{FileNames, FirstHead, Role, file_names};
 pub use scopes::Scopes;
 pub use tags::{TRUTH_TAG, UNTAGGED, tag_number};

@@ -33,8 +33,9 @@ fn minus(count: usize) -> Option<Op>
     }
 }
 
-/// The operator that a function for a sign stands for, by the number of its parameters.
-fn op_of(sign: Sign, count: usize) -> Option<Op>
+/// The operator that a function for a sign stands for, by the number of its parameters (Language
+/// Guide, "User-defined operators").
+pub fn op_of(sign: Sign, count: usize) -> Option<Op>
     ensures { result ≡ spec.op_of sign count }
 {
     match sign {
@@ -57,8 +58,8 @@ fn op_of(sign: Sign, count: usize) -> Option<Op>
     }
 }
 
-/// The first tag of a parameter that takes a plain value.
-fn plain_tag(tags: &TagTable, x: &Param) -> Option<u32>
+/// The first tag of a parameter that takes a plain value; None for any other parameter.
+pub fn plain_tag(tags: &TagTable, x: &Param) -> Option<u32>
     ensures { result ≡ spec.plain_tag tags.now (param_view x.now) }
 {
     match x {
@@ -86,7 +87,7 @@ fn plain_tag(tags: &TagTable, x: &Param) -> Option<u32>
 
 /// The right one of an operator's tags where it has one operand, by its result's tag: a value is
 /// assigned to that.
-fn right_tag(op: Op, result_tag: u32) -> u32
+pub fn right_tag(op: Op, result_tag: u32) -> u32
     ensures { result ≡ right_of op result_tag }
 {
     match op {

@@ -1,4 +1,5 @@
-ghost use Rattle.std.specs.Prelude.{◌≡◌, ◌<◌, suc, length, [], map, option_map, not, true, false, IfOk};
+ghost use Rattle.std.specs.Prelude.{◌≡◌, ◌<◌, suc, length, [], map, option_map, not, true, false};
+ghost use Rattle.std.specs.Prelude.{IfOk};
 ghost use Rattle.pawn_token.specs.declared.sign.Sign.TheVariants as sign;
 ghost use Rattle.pawn_tree.specs.View.{stmt_view, first_view};
 ghost use Rattle.pawn_grammar.specs.Readers.{many};

@@ -1,6 +1,7 @@
 ghost use Rattle.std.specs.Prelude.{◌≡◌, ◌<◌, suc, length, [], ◌∷◌, map, option_map};
 ghost use Rattle.pawn_token.specs.declared.sign.Sign.TheVariants as sign;
-ghost use Rattle.pawn_tree.specs.View.{dim_view, init_view, var_view, variables_view, constant_view};
+ghost use Rattle.pawn_tree.specs.View.{dim_view, init_view, var_view, variables_view};
+ghost use Rattle.pawn_tree.specs.View.{constant_view};
 ghost use Rattle.pawn_grammar.specs.Readers.{behind, led, many};
 ghost use Rattle.pawn_grammar.specs.ReadExpressions.{expr};
 ghost use Rattle.pawn_grammar.specs.ReadVariables as spec;

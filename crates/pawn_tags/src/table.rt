@@ -1,4 +1,5 @@
-ghost use Rattle.std.specs.Prelude.{◌≡◌, ◌-◌, ◌^◌, ◌<◌, Some, length, option_map, slice_get, IfOk, OnOk, OnErr};
+ghost use Rattle.std.specs.Prelude.{◌≡◌, ◌-◌, ◌^◌, ◌<◌, Some, length, option_map, slice_get, IfOk};
+ghost use Rattle.std.specs.Prelude.{OnOk, OnErr};
 ghost use Rattle.name_table.specs.Among.{with_name};
 ghost use Rattle.pawn_tags.specs.Matching as matching;
 ghost use Rattle.pawn_tags.specs.Tags.{first_names, number_of, is_strong};

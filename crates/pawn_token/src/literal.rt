@@ -1,6 +1,7 @@
 ghost use Rattle.std.specs.Prelude.{◌≡◌, ◌<◌};
 ghost use Rattle.pawn_token.specs.Readers.{GivesCharacter};
-ghost use Rattle.pawn_token.specs.Literal.{named, escape, coded, past_semicolon, next, character_at};
+ghost use Rattle.pawn_token.specs.Literal.{named, escape, coded, past_semicolon, next};
+ghost use Rattle.pawn_token.specs.Literal.{character_at};
 ghost use Rattle.pawn_token.specs.Reading.{seen, unit_seen, ReadsText};
 
 use super::class::{Class, behind, byte_at, split};

@@ -1,7 +1,9 @@
-ghost use Rattle.std.specs.Prelude.{◌≡◌, ◌↔◌, codes, map, take, unwrap_or, Some, None, IfOk, IfErr, IsTrue};
+ghost use Rattle.std.specs.Prelude.{◌≡◌, ◌↔◌, codes, map, take, unwrap_or, Some, None, IfOk, IfErr};
+ghost use Rattle.std.specs.Prelude.{IsTrue};
 ghost use Rattle.std.specs.String.{string_bytes};
 ghost use Rattle.pawn_words.specs.Reading.{Reads, IsBad};
-ghost use Rattle.pawn_words.specs.Command.{command_of, command_by, verify_of, list_of, run_of, resume_of, go_of};
+ghost use Rattle.pawn_words.specs.Command.{command_of, command_by, verify_of, list_of, run_of};
+ghost use Rattle.pawn_words.specs.Command.{resume_of, go_of};
 ghost use Rattle.pawn_words.specs.Command.{alone, run_with, resume_with, go_with};
 ghost use Rattle.pawn_words.specs.Command.{is_plain, first_plain, optional_plain};
 

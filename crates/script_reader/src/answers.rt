@@ -5,8 +5,10 @@ ghost use Rattle.host_script.specs.declared.script.TheConstants.{ARGUMENT_LIMIT}
 ghost use Rattle.script_reader.specs.Verdict.{Follows, Leaves, each};
 ghost use Rattle.script_reader.specs.declared.fault.Field.TheVariants as field;
 ghost use Rattle.script_reader.specs.Rules.{optional, required, cell_rule, natural_rule};
-ghost use Rattle.script_reader.specs.Replies.{cell_step, cells_rule, write_rule, write_step, writes_rule};
-ghost use Rattle.script_reader.specs.Replies.{given_with, error_rule, answer_by, answer_rule, answer_step, answers_rule};
+ghost use Rattle.script_reader.specs.Replies.{cell_step, cells_rule, write_rule, write_step};
+ghost use Rattle.script_reader.specs.Replies.{writes_rule};
+ghost use Rattle.script_reader.specs.Replies.{given_with, error_rule, answer_by, answer_rule};
+ghost use Rattle.script_reader.specs.Replies.{answer_step, answers_rule};
 
 use super::fault::{Field, ScriptFault};
 use super::rules::{cell, fields, natural, whole};

@@ -2,7 +2,9 @@ ghost use Rattle.std.specs.Prelude.{◌≡◌, [], option_map};
 ghost use Rattle.serde_json.specs.View.{view, items_view};
 ghost use Rattle.script_reader.specs.Verdict.{Follows, Leaves, each};
 ghost use Rattle.script_reader.specs.declared.fault.Field.TheVariants as field;
-ghost use Rattle.script_reader.specs.Forms.{all_digits, is_plain, count_of, count_rule, after_cells, word_rule, form_rule, form_step, forms_rule};
+ghost use Rattle.script_reader.specs.Forms.{all_digits, is_plain, count_of, count_rule};
+ghost use Rattle.script_reader.specs.Forms.{after_cells, word_rule, form_rule, form_step};
+ghost use Rattle.script_reader.specs.Forms.{forms_rule};
 
 use super::fault::{Field, ScriptFault};
 use host_script::{CELL_LIMIT, FORM_LIMIT, Form};

@@ -5,7 +5,8 @@ ghost use Rattle.script_reader.specs.Verdict.{Follows, Leaves, each};
 ghost use Rattle.script_reader.specs.declared.fault.Field.TheVariants as field;
 ghost use Rattle.script_reader.specs.Rules.{optional, required, some_rule, cell_rule};
 ghost use Rattle.script_reader.specs.Forms.{form_rule, forms_rule};
-ghost use Rattle.script_reader.specs.Natives.{is_name, name_rule, native_rule, natives_rule, native_step, added_rule, names_of};
+ghost use Rattle.script_reader.specs.Natives.{is_name, name_rule, native_rule, natives_rule};
+ghost use Rattle.script_reader.specs.Natives.{native_step, added_rule, names_of};
 
 use super::fault::{Field, ScriptFault};
 use super::forms::{form, form_list};

@@ -2,7 +2,8 @@ ghost use Rattle.std.specs.Prelude.{◌≡◌, map};
 ghost use Rattle.serde_json.specs.Find.{as_object};
 ghost use Rattle.serde_json.specs.View.{view, members_view};
 ghost use Rattle.script_reader.specs.Verdict.{Follows};
-ghost use Rattle.script_reader.specs.Rules.{is_known, has_only, fields_rule, flag_rule, whole_rule, cell_rule, natural_rule};
+ghost use Rattle.script_reader.specs.Rules.{is_known, has_only, fields_rule, flag_rule, whole_rule};
+ghost use Rattle.script_reader.specs.Rules.{cell_rule, natural_rule};
 
 use super::fault::{Field, ScriptFault};
 use serde_json::{Map, Value};

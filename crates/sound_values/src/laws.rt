@@ -1,8 +1,8 @@
 ghost use Rattle.sound_values.specs.PlainExpressions.{ExpressionsArePlain};
 ghost use Rattle.sound_values.specs.GoodArrays.{ArraysAreGood};
 
-/// The value of an expression that stands is a cell, its tag a number, and its literals are the texts
-/// in it.
+/// The value of an expression that stands is a cell, its tag a number, and its literals are the
+/// texts in it.
 pub fn expressions_are_plain()
     ensures { ExpressionsArePlain }
 {}

@@ -11,7 +11,8 @@ use std::alloc::Global;
 
 /// The natives that are declared at the front, and what follows their lines.
 fn read_natives(alloc: Global, source: &[u8]) -> Result<(List<Bytes>, &[u8]), Memory>
-    ensures { IfOk result (λ it. parts.Begins spelling.native_line parts.IsWord source.now it.0 it.1.now
+    ensures { IfOk result (λ it. parts.Begins spelling.native_line parts.IsWord source.now it.0
+        it.1.now
         × parts.IsNativeLine it.1.now None) }
 {
     let mut natives = List::new(alloc);

@@ -1,4 +1,5 @@
-ghost use Rattle.std.specs.Prelude.{◌≡◌, ◌<◌, ◌≤◌, ◌^◌, ℕ, List, pos, true, map, filter, length, ◌++◌, All, IfOk, IfSome, OnOk};
+ghost use Rattle.std.specs.Prelude.{◌≡◌, ◌<◌, ◌≤◌, ◌^◌, ℕ, List, pos, true, map, filter, length};
+ghost use Rattle.std.specs.Prelude.{◌++◌, All, IfOk, IfSome, OnOk};
 ghost use Rattle.std.specs.Str.{bytes_eq};
 ghost use Rattle.pawn_program.specs.View.{program_view, stmts_view};
 ghost use Rattle.straight_source.specs.Parts.{IsSpelled};

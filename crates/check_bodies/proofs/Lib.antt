@@ -1,0 +1,4 @@
+pub mod PlaceLaws
+pub mod BlockLaws
+pub mod QuietLaws
+pub mod StmtLaws
