@@ -4,7 +4,7 @@ use Rattle.amx_ops.specs.declared.op.Op.{Op}
 use Rattle.amx_ops.specs.Table.{number_of, operand_of}
 use Rattle.amx_ops.specs.Instructions.{cells, encoded, IsProper, IsEncodable}
 use Rattle.amx_ops.proofs.Rows.{encoded_is, encodable}
-use Rattle.gen_steps.specs.Items.{Plain, item_cells, with}
+use Rattle.gen_sim.specs.Items.{Plain, item_cells, with}
 use Rattle.gen_builder.specs.Built.{Built, with_items}
 
 -- by the number of its operation, as code meets it

@@ -1,6 +1,6 @@
 -- Code that grows, and what waits in it.
 use Rattle.std.specs.Prelude.{ℕ, ℤ, List, ◌++◌, length}
-use Rattle.gen_steps.specs.Items.{Item, item_cells, waits_from}
+use Rattle.gen_sim.specs.Items.{Item, item_cells, waits_from}
 
 pub record Built : Type 0 where
   pub code : List ℤ

@@ -2,7 +2,7 @@ ghost use Rattle.std.specs.Prelude.{◌≡◌, ◌<◌, ◌+◌, ◌^◌, ◌++�
 ghost use Rattle.std.specs.Prelude.{IfOk};
 ghost use Rattle.amx_ops.specs.Instructions.{IsProper};
 ghost use Rattle.amx_ops.specs.Table.{operand_of};
-ghost use Rattle.gen_steps.specs.Items.{Plain, CallOf, with};
+ghost use Rattle.gen_sim.specs.Items.{Plain, CallOf, with};
 ghost use Rattle.gen_builder.specs.Built.{with_items};
 
 use amx_ops::{Op, encode};

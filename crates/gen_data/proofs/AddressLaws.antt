@@ -4,9 +4,9 @@ use Rattle.pawn_arrays.specs.Sizes.{inner_sizes, sizes, cell_count}
 use Rattle.pawn_arrays.specs.declared.shape.Shape.{Shape}
 use Rattle.pawn_program.specs.View.{object_view}
 use Rattle.pawn_program.specs.declared.program.Object.{Object}
-use Rattle.gen_memory.specs.Pieces.{total, objects_from}
-use Rattle.gen_memory.proofs.LayoutLaws.{extent_is}
-use Rattle.gen_places.specs.PlaceItems.{cells_by}
+use Rattle.gen_sim.specs.Pieces.{total, objects_from}
+use Rattle.gen_sim.proofs.LayoutLaws.{extent_is}
+use Rattle.gen_sim.specs.PlaceItems.{cells_by}
 
 -- the cells of a shape are those of its sizes
 pub array_size : (shape : Shape) → cells_by (sizes shape) ≡ cell_count shape

@@ -10,9 +10,9 @@ use Rattle.pawn_program.specs.declared.program.Program as held_program
 use Rattle.pawn_meaning.specs.Memory.{Memory, Object, Static}
 use Rattle.pawn_meaning.specs.Memory as memory
 use Rattle.pawn_meaning.specs.World.{first_object, first_memory}
-use Rattle.gen_memory.specs.Pieces.{vectors, object_cells, state_cells, image, objects_from, automata_from, data_pieces}
-use Rattle.gen_memory.proofs.LayoutLaws.{vectors_are_layout}
-use Rattle.gen_memory.proofs.PieceLaws.{image-append}
+use Rattle.gen_sim.specs.Pieces.{vectors, object_cells, state_cells, image, objects_from, automata_from, data_pieces}
+use Rattle.gen_sim.proofs.LayoutLaws.{vectors_are_layout}
+use Rattle.gen_sim.proofs.PieceLaws.{image-append}
 use Rattle.gen_data.specs.Data.{objects_data}
 
 -- ---- the offsets

@@ -1,7 +1,7 @@
 -- The cells of objects one behind another, each with the offsets of its rows.
 use Rattle.std.specs.Prelude.{ℤ, List, [], ◌∷◌, ◌++◌}
 use Rattle.pawn_program.specs.Program.{StaticObject}
-use Rattle.gen_memory.specs.Pieces.{vectors}
+use Rattle.gen_sim.specs.Pieces.{vectors}
 
 abbrev pub objects_data : List StaticObject → List ℤ
 objects_data [] = []

@@ -1,8 +1,8 @@
 -- Where the data of a program stand: the objects one behind another, and behind them a cell for each automaton.
 use Rattle.std.specs.Prelude.{◌≡◌, ℕ, ℤ, Some, length, slice_get}
 use Rattle.pawn_program.specs.Program.{Program}
-use Rattle.gen_memory.specs.Pieces.{total, objects_from}
-use Rattle.gen_places.specs.PlaceItems.{object_address}
+use Rattle.gen_sim.specs.Pieces.{total, objects_from}
+use Rattle.gen_sim.specs.PlaceItems.{object_address}
 use Rattle.gen_data.specs.declared.addresses.Addresses.{Addresses}
 
 -- the address of each object, and the cells of all of them

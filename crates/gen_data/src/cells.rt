@@ -2,7 +2,7 @@ ghost use Rattle.std.specs.Prelude.{◌≡◌, ◌++◌, map, pos, replicate, If
 ghost use Rattle.pawn_arrays.specs.Sizes.{sizes};
 ghost use Rattle.pawn_program.specs.View.{object_view, program_view};
 ghost use Rattle.pawn_meaning.specs.World.{first_memory};
-ghost use Rattle.gen_memory.specs.Pieces.{vectors, image, data_pieces};
+ghost use Rattle.gen_sim.specs.Pieces.{vectors, image, data_pieces};
 ghost use Rattle.gen_data.specs.Data.{objects_data};
 
 use pawn_arrays::{cells, layout};

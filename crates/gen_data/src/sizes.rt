@@ -1,6 +1,6 @@
 ghost use Rattle.std.specs.Prelude.{◌≡◌, ◌+◌, ◌*◌, pos, IfOk};
 ghost use Rattle.pawn_arrays.specs.Sizes.{sizes};
-ghost use Rattle.gen_places.specs.PlaceItems.{cells_by};
+ghost use Rattle.gen_sim.specs.PlaceItems.{cells_by};
 
 use gen_emit::put::cell_of;
 use pawn_arrays::cells;

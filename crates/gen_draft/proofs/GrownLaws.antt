@@ -1,9 +1,9 @@
 -- What is appended to drafts, one behind another.
 use Rattle.std.proofs.Common.{◌≡◌, ◌+◌, ◌*◌, ◌≤◌, ℕ, pos, List, [], ◌∷◌, ◌++◌, length, refl, sym, ap, subst, ◌∙◌, arith, length-append}
 use Rattle.amx_ops.specs.declared.op.Op.TheVariants as op
-use Rattle.gen_steps.specs.Items.{Item, item_cells, past}
-use Rattle.gen_nodes.specs.JumpCode.{jump_to}
-use Rattle.gen_flow.specs.Here.{Exits}
+use Rattle.gen_sim.specs.Items.{Item, item_cells, past}
+use Rattle.gen_sim.specs.JumpCode.{jump_to}
+use Rattle.gen_sim.specs.Here.{Exits}
 use Rattle.gen_builder.specs.Built.{Built, with_items}
 use Rattle.gen_emit.specs.Filled.{filled}
 use Rattle.gen_emit.proofs.GrowLaws.{then_grow, none_grow, next_at}

@@ -2,8 +2,8 @@
 use Rattle.std.proofs.Common.{◌≡◌, ◌+◌, ◌<◌, ◌≤◌, ℕ, zero, suc, ℤ, pos, List, [], ◌∷◌, ◌++◌, length, drop, get_or, slice_set, add-one, length-set, refl, sym, ap, subst, ◌∙◌, arith}
 use Rattle.std.proofs.Math.Seq.{drop-cons}
 use Rattle.std.proofs.lemmas.List.{set-append_left}
-use Rattle.gen_steps.specs.Items.{Item, item_cells, waits_from}
-use Rattle.gen_flow.specs.Here.{Exits}
+use Rattle.gen_sim.specs.Items.{Item, item_cells, waits_from}
+use Rattle.gen_sim.specs.Here.{Exits}
 use Rattle.gen_builder.specs.Built.{Built, with_items}
 use Rattle.gen_emit.specs.Filled.{filled}
 use Rattle.gen_draft.specs.declared.draft.Exit.{Exit}

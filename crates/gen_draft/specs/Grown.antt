@@ -1,7 +1,7 @@
 -- What was appended to code whose exits aren't known yet: items by the exits, whatever these are.
 use Rattle.std.specs.Prelude.{◌≡◌, ◌<◌, ◌≤◌, ℕ, List, length}
-use Rattle.gen_steps.specs.Items.{Item}
-use Rattle.gen_flow.specs.Here.{Exits}
+use Rattle.gen_sim.specs.Items.{Item}
+use Rattle.gen_sim.specs.Here.{Exits}
 use Rattle.gen_builder.specs.Built.{with_items}
 use Rattle.gen_draft.specs.declared.draft.Draft.{Draft}
 use Rattle.gen_draft.specs.Led.{AreIn, AreOthers, led}

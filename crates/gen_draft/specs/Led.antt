@@ -1,6 +1,6 @@
 -- Code whose exits aren't known yet: what it is once its jumps lead to them.
 use Rattle.std.specs.Prelude.{◌≡◌, ◌<◌, ℕ, ℤ, pos, List, [], ◌∷◌}
-use Rattle.gen_flow.specs.Here.{Exits}
+use Rattle.gen_sim.specs.Here.{Exits}
 use Rattle.gen_builder.specs.Built.{Built}
 use Rattle.gen_emit.specs.Filled.{filled}
 use Rattle.gen_draft.specs.declared.draft.Draft.{Draft}

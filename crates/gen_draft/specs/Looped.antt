@@ -1,10 +1,10 @@
 -- Loops by their parts, each by its address, and a body by its exits too.
 use Rattle.std.specs.Prelude.{◌+◌, ℕ, ℤ, List, [], ◌∷◌, ◌++◌, true}
 use Rattle.amx_ops.specs.declared.op.Op.TheVariants as op
-use Rattle.gen_steps.specs.Items.{Item, past}
-use Rattle.gen_nodes.specs.SimpleCode.{alone, taking}
-use Rattle.gen_nodes.specs.JumpCode.{jump_to}
-use Rattle.gen_flow.specs.Here.{Exits}
+use Rattle.gen_sim.specs.Items.{Item, past}
+use Rattle.gen_sim.specs.SimpleCode.{alone, taking}
+use Rattle.gen_sim.specs.JumpCode.{jump_to}
+use Rattle.gen_sim.specs.Here.{Exits}
 
 -- exits of a loop whose end isn't known yet
 abbrev pub nowhere : Exits

@@ -1,8 +1,8 @@
 ghost use Rattle.std.specs.Prelude.{◌≡◌, ◌+◌, ◌*◌, ◌<◌, [], ◌∷◌, pos, length, IfOk};
 ghost use Rattle.amx_ops.specs.Table.{operand_of};
 ghost use Rattle.amx_ops.specs.Instructions.{IsProper};
-ghost use Rattle.gen_nodes.specs.SimpleCode.{taking};
-ghost use Rattle.gen_nodes.specs.JumpCode.{jump_to};
+ghost use Rattle.gen_sim.specs.SimpleCode.{taking};
+ghost use Rattle.gen_sim.specs.JumpCode.{jump_to};
 ghost use Rattle.gen_builder.specs.Built.{with_items};
 ghost use Rattle.gen_emit.specs.Filled.{filled};
 ghost use Rattle.gen_draft.specs.Led.{exit_at};

@@ -1,8 +1,8 @@
 -- Items that are appended one behind another.
 use Rattle.std.proofs.Common.{◌≡◌, ◌+◌, ◌*◌, ℕ, List, [], ◌∷◌, ◌++◌, length, sym, ap, ◌∙◌, arith, append_assoc, append-nil, length-append, Result, Ok, Err, IfOk}
-use Rattle.gen_steps.specs.Items.{Item, Plain, CallOf, size, item_cells, past, waits_from, appended}
+use Rattle.gen_sim.specs.Items.{Item, Plain, CallOf, size, item_cells, past, waits_from, appended}
 use Rattle.amx_ops.specs.Written.{cells_of}
-use Rattle.gen_steps.proofs.ItemLaws.{cells-append, past_is}
+use Rattle.gen_sim.proofs.ItemLaws.{cells-append, past_is}
 use Rattle.gen_builder.specs.Built.{Built, with_items}
 
 pub waits-append : (at : ℕ) (is js : List Item) → waits_from at (is ++ js) ≡ waits_from at is ++ waits_from (at + length (item_cells is)) js

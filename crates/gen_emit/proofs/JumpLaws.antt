@@ -4,9 +4,9 @@ use Rattle.std.proofs.Math.Seq.{set-append_seam}
 use Rattle.amx_ops.specs.declared.op.Op.{Op}
 use Rattle.amx_ops.specs.declared.op.Op.TheVariants as op
 use Rattle.amx_ops.specs.Table.{number_of}
-use Rattle.gen_steps.specs.Items.{Item, item_cells, past, waits_from}
-use Rattle.gen_nodes.specs.SimpleCode.{taking}
-use Rattle.gen_nodes.specs.JumpCode.{jump_to, other_at, choice_code}
+use Rattle.gen_sim.specs.Items.{Item, item_cells, past, waits_from}
+use Rattle.gen_sim.specs.SimpleCode.{taking}
+use Rattle.gen_sim.specs.JumpCode.{jump_to, other_at, choice_code}
 use Rattle.gen_builder.specs.Built.{Built, with_items}
 use Rattle.gen_emit.specs.Filled.{filled}
 use Rattle.gen_emit.proofs.GrowLaws.{then_grow, next_at}

@@ -1,8 +1,8 @@
 -- Parts of a node, of which each begins where the one before it ends.
 use Rattle.std.proofs.Common.{◌≡◌, ◌+◌, ◌*◌, ◌≤◌, ℕ, List, ◌∷◌, ◌++◌, length, ap, ◌∙◌, arith, length-append}
 use Rattle.amx_ops.specs.declared.op.Op.TheVariants as op
-use Rattle.gen_steps.specs.Items.{Item, item_cells, past}
-use Rattle.gen_nodes.specs.SimpleCode.{alone, waiting_code}
+use Rattle.gen_sim.specs.Items.{Item, item_cells, past}
+use Rattle.gen_sim.specs.SimpleCode.{alone, waiting_code}
 use Rattle.gen_builder.specs.Built.{Built, with_items}
 use Rattle.gen_emit.proofs.GrowLaws.{then_grow, next_at}
 

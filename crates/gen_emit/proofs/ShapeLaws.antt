@@ -2,11 +2,11 @@
 use Rattle.std.proofs.Common.{◌≡◌, ◌+◌, ◌-◌, ◌*◌, ◌<◌, ℕ, ℤ, pos, neg_ℤ, suc, zero, List, [], ◌∷◌, ◌++◌, Some, ap, ◌∙◌, arith, append_assoc, append-nil}
 use Rattle.pawn_program.specs.Program.{Scalar}
 use Rattle.amx_ops.specs.declared.op.Op.TheVariants as op
-use Rattle.gen_steps.specs.Items.{Item}
-use Rattle.gen_nodes.specs.SimpleCode.{alone, taking, waiting_code}
-use Rattle.gen_nodes.specs.AccessCode.{load_code, store_code, changed_code}
-use Rattle.gen_arrays.specs.IndexCode.{bounds_code}
-use Rattle.gen_calls.specs.CallCode.{give_back_code}
+use Rattle.gen_sim.specs.Items.{Item}
+use Rattle.gen_sim.specs.SimpleCode.{alone, taking, waiting_code}
+use Rattle.gen_sim.specs.AccessCode.{load_code, store_code, changed_code}
+use Rattle.gen_sim.specs.IndexCode.{bounds_code}
+use Rattle.gen_sim.specs.CallCode.{give_back_code}
 use Rattle.gen_builder.specs.Built.{Built, with_items}
 use Rattle.gen_emit.specs.Opened.{opened_code}
 use Rattle.gen_emit.proofs.GrowLaws.{then_grow}

@@ -2,9 +2,9 @@
 use Rattle.std.specs.Prelude.{List, [], ◌∷◌, ◌++◌}
 use Rattle.pawn_program.specs.Program.{Scalar}
 use Rattle.amx_ops.specs.declared.op.Op.TheVariants as op
-use Rattle.gen_steps.specs.Items.{Item}
-use Rattle.gen_nodes.specs.SimpleCode.{alone}
-use Rattle.gen_nodes.specs.AccessCode.{load_code}
+use Rattle.gen_sim.specs.Items.{Item}
+use Rattle.gen_sim.specs.SimpleCode.{alone}
+use Rattle.gen_sim.specs.AccessCode.{load_code}
 
 abbrev pub opened_code : Scalar → List Item
 opened_code p = alone op.PopAlt ∷ alone op.PushAlt ∷ alone op.Xchg ∷ (load_code p ++ alone op.Xchg ∷ [])

@@ -3,7 +3,7 @@ use Rattle.std.specs.Prelude.{◌≡◌, ℕ, ℤ, map, Option, None, Some, slic
 use Rattle.pawn_arrays.specs.Sizes.{sizes, inner_sizes}
 use Rattle.pawn_program.specs.Scope.{Scope, Extent, known_extent, open_extent}
 use Rattle.pawn_program.specs.View.{program_view, slot_view}
-use Rattle.gen_places.specs.PlaceItems.{object_address, slot_offset}
+use Rattle.gen_sim.specs.PlaceItems.{object_address, slot_offset}
 use Rattle.gen_emit.specs.declared.frame.Frame.{Frame}
 use Rattle.gen_emit.specs.declared.reach.Reach.{Reach}
 use Rattle.gen_emit.specs.declared.reach.Reach.TheVariants as reach

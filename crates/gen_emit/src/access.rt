@@ -1,8 +1,8 @@
 ghost use Rattle.std.specs.Prelude.{◌≡◌, ◌++◌, [], ◌∷◌, pos, IfOk};
 ghost use Rattle.pawn_program.specs.View.{scalar_view};
-ghost use Rattle.gen_nodes.specs.SimpleCode.{alone, operator_code};
-ghost use Rattle.gen_nodes.specs.AccessCode.{load_code, store_code, changed_code};
-ghost use Rattle.gen_calls.specs.CallCode.{two_code, convert_code};
+ghost use Rattle.gen_sim.specs.SimpleCode.{alone, operator_code};
+ghost use Rattle.gen_sim.specs.AccessCode.{load_code, store_code, changed_code};
+ghost use Rattle.gen_sim.specs.CallCode.{two_code, convert_code};
 ghost use Rattle.gen_builder.specs.Built.{with_items};
 ghost use Rattle.gen_emit.specs.Opened.{opened_code};
 

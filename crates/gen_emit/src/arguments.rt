@@ -1,7 +1,7 @@
 ghost use Rattle.std.specs.Prelude.{◌≡◌, ◌+◌, ◌*◌, ◌++◌, [], ◌∷◌, pos, neg_ℤ, IfOk};
-ghost use Rattle.gen_steps.specs.Items.{CallOf};
-ghost use Rattle.gen_nodes.specs.SimpleCode.{alone, taking};
-ghost use Rattle.gen_calls.specs.CallCode.{give_back_code};
+ghost use Rattle.gen_sim.specs.Items.{CallOf};
+ghost use Rattle.gen_sim.specs.SimpleCode.{alone, taking};
+ghost use Rattle.gen_sim.specs.CallCode.{give_back_code};
 ghost use Rattle.gen_builder.specs.Built.{with_items};
 
 use super::operators::two;

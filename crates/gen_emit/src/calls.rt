@@ -1,7 +1,7 @@
 ghost use Rattle.std.specs.Prelude.{◌≡◌, ◌++◌, [], ◌∷◌, pos, IfOk};
-ghost use Rattle.gen_steps.specs.Items.{CallOf};
-ghost use Rattle.gen_nodes.specs.SimpleCode.{alone, taking};
-ghost use Rattle.gen_calls.specs.CallCode.{one_code, two_code, convert_code};
+ghost use Rattle.gen_sim.specs.Items.{CallOf};
+ghost use Rattle.gen_sim.specs.SimpleCode.{alone, taking};
+ghost use Rattle.gen_sim.specs.CallCode.{one_code, two_code, convert_code};
 ghost use Rattle.gen_builder.specs.Built.{with_items};
 
 use super::put::call;

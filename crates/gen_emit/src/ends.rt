@@ -1,6 +1,6 @@
 ghost use Rattle.std.specs.Prelude.{◌≡◌, ◌*◌, ◌++◌, [], ◌∷◌, pos, IfOk, Some};
-ghost use Rattle.gen_nodes.specs.SimpleCode.{alone, taking};
-ghost use Rattle.gen_arrays.specs.IndexCode.{bounds_code};
+ghost use Rattle.gen_sim.specs.SimpleCode.{alone, taking};
+ghost use Rattle.gen_sim.specs.IndexCode.{bounds_code};
 ghost use Rattle.gen_builder.specs.Built.{with_items};
 
 use super::operators::two;

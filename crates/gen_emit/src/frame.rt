@@ -1,7 +1,7 @@
 ghost use Rattle.std.specs.Prelude.{◌≡◌, ◌+◌, ◌*◌, ◌++◌, [], ◌∷◌, pos, IfOk, map, slice_get};
 ghost use Rattle.pawn_program.specs.Scope.{object_extent, slot_extent, param_extent};
-ghost use Rattle.gen_places.specs.PlaceItems.{object_address, slot_offset};
-ghost use Rattle.gen_places.specs.PlaceItems.{object_code, slot_code, through_code};
+ghost use Rattle.gen_sim.specs.PlaceItems.{object_address, slot_offset};
+ghost use Rattle.gen_sim.specs.PlaceItems.{object_code, slot_code, through_code};
 ghost use Rattle.gen_builder.specs.Built.{with_items};
 ghost use Rattle.gen_emit.specs.Standing.{scope_of, Serves, extent_of};
 

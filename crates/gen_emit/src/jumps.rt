@@ -1,5 +1,5 @@
 ghost use Rattle.std.specs.Prelude.{◌≡◌, ◌<◌, ◌+◌, ◌*◌, [], ◌∷◌, pos, length, IfOk};
-ghost use Rattle.gen_nodes.specs.JumpCode.{jump_to, truth_code};
+ghost use Rattle.gen_sim.specs.JumpCode.{jump_to, truth_code};
 ghost use Rattle.gen_builder.specs.Built.{with_items};
 ghost use Rattle.gen_emit.specs.Filled.{filled};
 

@@ -1,8 +1,8 @@
 ghost use Rattle.std.specs.Prelude.{◌≡◌, ◌++◌, [], ◌∷◌, pos, IfOk};
 ghost use Rattle.amx_ops.specs.Table.{operand_of};
 ghost use Rattle.amx_ops.specs.Instructions.{IsProper};
-ghost use Rattle.gen_nodes.specs.SimpleCode.{alone, prefix_op, operator_code};
-ghost use Rattle.gen_chains.specs.ChainCode.{compare_op};
+ghost use Rattle.gen_sim.specs.SimpleCode.{alone, prefix_op, operator_code};
+ghost use Rattle.gen_sim.specs.ChainCode.{compare_op};
 ghost use Rattle.gen_builder.specs.Built.{with_items};
 
 use amx_ops::Op;

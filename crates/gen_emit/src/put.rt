@@ -1,5 +1,5 @@
 ghost use Rattle.std.specs.Prelude.{◌≡◌, ◌*◌, [], ◌∷◌, pos, length, IfOk};
-ghost use Rattle.gen_steps.specs.Items.{CallOf};
+ghost use Rattle.gen_sim.specs.Items.{CallOf};
 ghost use Rattle.gen_builder.specs.Built.{with_items};
 
 use gen_builder::Builder;

@@ -1,7 +1,7 @@
 ghost use Rattle.std.specs.Prelude.{◌≡◌, ◌*◌, IfOk, Some, option_map};
 ghost use Rattle.pawn_arrays.specs.Sizes.{inner_sizes};
 ghost use Rattle.pawn_program.specs.Scope.{known_extent, open_extent, row_extent, rest_extent};
-ghost use Rattle.gen_arrays.specs.IndexCode.{in_characters};
+ghost use Rattle.gen_sim.specs.IndexCode.{in_characters};
 ghost use Rattle.gen_expr.specs.ExprCode.{known_size};
 ghost use Rattle.gen_emit.specs.Standing.{extent_of};
 

@@ -1,8 +1,8 @@
 ghost use Rattle.std.specs.Prelude.{◌≡◌, ℤ, ◌++◌, [], ◌∷◌, IfOk};
 ghost use Rattle.pawn_program.specs.View.{scalar_view};
-ghost use Rattle.gen_nodes.specs.SimpleCode.{alone, taking};
-ghost use Rattle.gen_nodes.specs.AccessCode.{load_code, store_code, stepped_code, turned_code};
-ghost use Rattle.gen_calls.specs.CallCode.{one_code};
+ghost use Rattle.gen_sim.specs.SimpleCode.{alone, taking};
+ghost use Rattle.gen_sim.specs.AccessCode.{load_code, store_code, stepped_code, turned_code};
+ghost use Rattle.gen_sim.specs.CallCode.{one_code};
 ghost use Rattle.gen_builder.specs.Built.{with_items};
 
 use super::access::{load, store, stored};

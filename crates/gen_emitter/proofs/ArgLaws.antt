@@ -5,7 +5,7 @@ use Rattle.pawn_program.specs.Scope.{Scope}
 use Rattle.pawn_program.specs.View.{arg_view, args_view}
 use Rattle.pawn_program.specs.declared.node.Arg.{Arg}
 use Rattle.pawn_meaning.specs.Need.{count_of}
-use Rattle.gen_steps.specs.Results.{is_temporary, temporaries_in}
+use Rattle.gen_sim.specs.Results.{is_temporary, temporaries_in}
 use Rattle.gen_expr.specs.ExprCode.{arg_items, args_items}
 use Rattle.gen_builder.specs.Built.{Built, with_items}
 use Rattle.gen_emit.proofs.GrowLaws.{none_grow}

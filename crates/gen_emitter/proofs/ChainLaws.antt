@@ -8,11 +8,11 @@ use Rattle.pawn_program.specs.Scope.{Scope}
 use Rattle.pawn_cells.specs.declared.operator.Comparison.{Comparison}
 use Rattle.std.specs.Prelude.{Option, Bool}
 use Rattle.amx_ops.specs.declared.op.Op.TheVariants as op
-use Rattle.gen_steps.specs.Items.{Item, item_cells, past}
-use Rattle.gen_steps.proofs.ItemLaws.{past-append}
-use Rattle.gen_nodes.specs.SimpleCode.{alone}
-use Rattle.gen_nodes.specs.JumpCode.{jump_to}
-use Rattle.gen_chains.specs.ChainCode.{link_code, last_link_code, middle_link_code, fail_at, chain_end_code}
+use Rattle.gen_sim.specs.Items.{Item, item_cells, past}
+use Rattle.gen_sim.proofs.ItemLaws.{past-append}
+use Rattle.gen_sim.specs.SimpleCode.{alone}
+use Rattle.gen_sim.specs.JumpCode.{jump_to}
+use Rattle.gen_sim.specs.ChainCode.{link_code, last_link_code, middle_link_code, fail_at, chain_end_code}
 use Rattle.gen_expr.specs.ExprCode.{value_items, links_items, others_at}
 use Rattle.gen_builder.specs.Built.{Built, with_items}
 use Rattle.gen_emit.specs.Filled.{filled}

@@ -3,9 +3,9 @@ use Rattle.std.proofs.Common.{◌≡◌, ◌*◌, length, sym, subst}
 use Rattle.pawn_program.specs.Program.{Expr}
 use Rattle.pawn_program.specs.Scope.{Scope}
 use Rattle.pawn_program.specs.ValidExprs.{IsValidExpr}
-use Rattle.gen_steps.specs.Contract.{Appended}
+use Rattle.gen_sim.specs.Contract.{Appended}
 use Rattle.gen_expr.specs.ExprCode.{value_items}
-use Rattle.gen_forms.specs.CodeMeans.{CodeMeans}
+use Rattle.gen_expr.specs.CodeMeans.{CodeMeans}
 use Rattle.gen_builder.specs.Built.{Built, with_items}
 
 pub means_so : CodeMeans → (scope : Scope) (e : Expr) (b r : Built) → r ≡ with_items (value_items scope (4 * length b.code) e) b

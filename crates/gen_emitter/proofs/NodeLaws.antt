@@ -11,12 +11,12 @@ use Rattle.pawn_program.specs.declared.node.Expr as held
 use Rattle.pawn_program.proofs.ViewLaws.{expr_view-Call, expr_view-Native, expr_view-Chain}
 use Rattle.pawn_meaning.specs.Need.{count_of}
 use Rattle.amx_ops.specs.declared.op.Op.TheVariants as op
-use Rattle.gen_steps.specs.Items.{Item, CallOf, past}
-use Rattle.gen_steps.specs.Results.{temporaries_in}
-use Rattle.gen_nodes.specs.SimpleCode.{alone, taking, waiting_code}
-use Rattle.gen_nodes.specs.JumpCode.{jump_to, other_at, choice_code, cond_code}
-use Rattle.gen_chains.specs.ChainCode.{last_link_code, middle_link_code}
-use Rattle.gen_calls.specs.CallCode.{give_back_code, call_code, native_code}
+use Rattle.gen_sim.specs.Items.{Item, CallOf, past}
+use Rattle.gen_sim.specs.Results.{temporaries_in}
+use Rattle.gen_sim.specs.SimpleCode.{alone, taking, waiting_code}
+use Rattle.gen_sim.specs.JumpCode.{jump_to, other_at, choice_code, cond_code}
+use Rattle.gen_sim.specs.ChainCode.{last_link_code, middle_link_code}
+use Rattle.gen_sim.specs.CallCode.{give_back_code, call_code, native_code}
 use Rattle.gen_expr.specs.ExprCode.{array_items, value_items, args_items}
 use Rattle.gen_builder.specs.Built.{Built, with_items}
 use Rattle.gen_emit.specs.Filled.{filled}

@@ -2,8 +2,8 @@
 use Rattle.std.specs.Prelude.{ℕ, List}
 use Rattle.pawn_program.specs.Program.{Links}
 use Rattle.pawn_program.specs.Scope.{Scope}
-use Rattle.gen_steps.specs.Items.{Item, past}
-use Rattle.gen_chains.specs.ChainCode.{fail_at}
+use Rattle.gen_sim.specs.Items.{Item, past}
+use Rattle.gen_sim.specs.ChainCode.{fail_at}
 use Rattle.gen_expr.specs.ExprCode.{links_items, linked_with}
 
 abbrev pub chain_items : Scope → ℕ → Links → List Item

@@ -2,8 +2,8 @@
 use Rattle.std.specs.Prelude.{◌+◌, ◌*◌, ◌/◌, ◌<◌, ℕ, ℤ, pos, List, [], ◌∷◌, length}
 use Rattle.pawn_program.specs.Program.{Links, no_links, then_link}
 use Rattle.pawn_program.specs.Scope.{Scope}
-use Rattle.gen_steps.specs.Items.{past}
-use Rattle.gen_chains.specs.ChainCode.{link_code, fail_at, chain_end_code}
+use Rattle.gen_sim.specs.Items.{past}
+use Rattle.gen_sim.specs.ChainCode.{link_code, fail_at, chain_end_code}
 use Rattle.gen_expr.specs.ExprCode.{value_items, others_at}
 use Rattle.gen_builder.specs.Built.{Built, with_items}
 use Rattle.gen_emit.specs.Filled.{filled}

@@ -1,6 +1,6 @@
 ghost use Rattle.std.specs.Prelude.{◌≡◌, ◌+◌, ◌*◌, [], ◌∷◌, pos, length, IfOk};
-ghost use Rattle.gen_nodes.specs.SimpleCode.{alone, taking};
-ghost use Rattle.gen_chains.specs.ChainCode.{link_code};
+ghost use Rattle.gen_sim.specs.SimpleCode.{alone, taking};
+ghost use Rattle.gen_sim.specs.ChainCode.{link_code};
 ghost use Rattle.gen_builder.specs.Built.{with_items};
 ghost use Rattle.gen_emitter.specs.Holes.{all_filled, ended_by, AreIn};
 

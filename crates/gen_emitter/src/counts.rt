@@ -1,6 +1,6 @@
 ghost use Rattle.std.specs.Prelude.{◌≡◌, length, IfOk};
 ghost use Rattle.pawn_program.specs.View.{args_view};
-ghost use Rattle.gen_steps.specs.Results.{temporaries_in};
+ghost use Rattle.gen_sim.specs.Results.{temporaries_in};
 
 use pawn_base::Memory;
 use pawn_program::Arg;

@@ -1,7 +1,7 @@
 ghost use Rattle.std.specs.Prelude.{◌≡◌, ◌*◌, length, IfOk};
 ghost use Rattle.pawn_program.specs.ValidExprs.{IsValidExpr};
 ghost use Rattle.pawn_program.specs.View.{expr_view};
-ghost use Rattle.gen_steps.specs.Contract.{Appended};
+ghost use Rattle.gen_sim.specs.Contract.{Appended};
 ghost use Rattle.gen_expr.specs.ExprCode.{value_items};
 ghost use Rattle.gen_builder.specs.Built.{with_items};
 ghost use Rattle.gen_emit.specs.Standing.{scope_of, Serves};
@@ -9,7 +9,7 @@ ghost use Rattle.gen_emit.specs.Standing.{scope_of, Serves};
 use super::emit::value;
 use gen_builder::Builder;
 use gen_emit::frame::Frame;
-use gen_forms::code_means;
+use gen_expr::code_means;
 use pawn_base::Memory;
 use pawn_program::Expr;
 

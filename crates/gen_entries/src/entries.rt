@@ -1,7 +1,7 @@
 ghost use Rattle.std.specs.Prelude.{◌≡◌, ◌==◌, Some, find, is_some, slice_get};
 ghost use Rattle.pawn_program.specs.View.{function_view, program_view, route_view};
 ghost use Rattle.pawn_meaning.specs.Calls as spec;
-ghost use Rattle.gen_states.specs.StateCode.{entry_of};
+ghost use Rattle.gen_sim.specs.StateCode.{entry_of};
 
 use pawn_program::{Function, Program, Route};
 

@@ -5,31 +5,31 @@ use Rattle.pawn_cells.specs.declared.operator.Comparison.{Comparison}
 use Rattle.pawn_program.specs.Program.{Slot, ScalarSlot, ReferenceSlot, ArraySlot, OpenSlot, Scalar, Global, Own, Through, Element, Char, Array, Object, SlotArray, ParamArray, Row, From, Expr, Const, Read, Unary, Binary, Chain, And, Or, Cond, Assign, Update, UpdateBy, Step, StepBy, Copy, Operate, OperateOne, Call, Native, Seq, Links, no_links, then_link, Arg, Value, Ref, Whole, Temp, Args, no_args, then_arg}
 use Rattle.pawn_program.specs.Scope.{Scope, extent}
 use Rattle.pawn_program.specs.ValidExprs.{IsOperator, IsValidScalar, IsValidArray, IsValidExpr, AreValidLinks, IsValidArg, AreValidArgs, ArgAgrees, ArgsAgree}
-use Rattle.gen_steps.specs.Items.{Item, past}
-use Rattle.gen_steps.specs.Contract.{ValueCode, PlaceCode, ArrayCode, ArgumentsCode}
-use Rattle.gen_steps.proofs.ItemLaws.{past-append}
-use Rattle.gen_steps.proofs.StepLaws.{given}
-use Rattle.gen_steps.proofs.ContractExamples as examples
-use Rattle.gen_nodes.specs.SimpleCode.{const_code}
-use Rattle.gen_nodes.specs.JumpCode.{other_at}
-use Rattle.gen_nodes.proofs.SimpleNodes.{unary_does, binary_does, comma_does}
-use Rattle.gen_nodes.proofs.AccessNodes.{read_does, assign_does, update_does}
-use Rattle.gen_nodes.proofs.StepNodes.{step_does}
-use Rattle.gen_nodes.proofs.JumpNodes.{cond_does, and_does, or_does}
-use Rattle.gen_places.proofs.PlaceNodes.{global_does, own_does, through_does}
-use Rattle.gen_places.proofs.ArrayNodes.{object_does, slot_array_does, param_array_does}
-use Rattle.gen_arrays.specs.IndexCode.{element_code, character_code, row_code}
-use Rattle.gen_arrays.proofs.ElementNodes.{element_does, character_does, rest_does, row_does}
-use Rattle.gen_arrays.proofs.CopyNodes.{copy_does}
-use Rattle.gen_calls.specs.ArgumentCode.{ArgumentCode, kinds_of}
-use Rattle.gen_calls.proofs.OperatorNodes.{operate_one_does, operate_does, update_by_does, step_by_does}
-use Rattle.gen_calls.proofs.TemporaryViews.{agree_count}
-use Rattle.gen_calls.proofs.ArgumentNodes.{value_argument, ref_argument, whole_argument, temporary_argument, no_arguments, then_argument}
-use Rattle.gen_calls.proofs.CallNodes.{call_node_does, native_node_does}
-use Rattle.gen_chains.specs.ChainCode.{link_code, fail_at, chain_end_code, middle_link_code}
-use Rattle.gen_chains.specs.LinksCode.{LinksCode}
-use Rattle.gen_chains.proofs.LinkLaws.{last_link_does, middle_link_does}
-use Rattle.gen_chains.proofs.ChainNodes.{short_chain_does, chain_does}
+use Rattle.gen_sim.specs.Items.{Item, past}
+use Rattle.gen_sim.specs.Contract.{ValueCode, PlaceCode, ArrayCode, ArgumentsCode}
+use Rattle.gen_sim.proofs.ItemLaws.{past-append}
+use Rattle.gen_sim.proofs.StepLaws.{given}
+use Rattle.gen_sim.proofs.ContractExamples as examples
+use Rattle.gen_sim.specs.SimpleCode.{const_code}
+use Rattle.gen_sim.specs.JumpCode.{other_at}
+use Rattle.gen_sim.proofs.SimpleNodes.{unary_does, binary_does, comma_does}
+use Rattle.gen_sim.proofs.AccessNodes.{read_does, assign_does, update_does}
+use Rattle.gen_sim.proofs.StepNodes.{step_does}
+use Rattle.gen_sim.proofs.JumpNodes.{cond_does, and_does, or_does}
+use Rattle.gen_sim.proofs.PlaceNodes.{global_does, own_does, through_does}
+use Rattle.gen_sim.proofs.ArrayNodes.{object_does, slot_array_does, param_array_does}
+use Rattle.gen_sim.specs.IndexCode.{element_code, character_code, row_code}
+use Rattle.gen_sim.proofs.ElementNodes.{element_does, character_does, rest_does, row_does}
+use Rattle.gen_sim.proofs.CopyNodes.{copy_does}
+use Rattle.gen_sim.specs.ArgumentCode.{ArgumentCode, kinds_of}
+use Rattle.gen_sim.proofs.OperatorNodes.{operate_one_does, operate_does, update_by_does, step_by_does}
+use Rattle.gen_sim.proofs.TemporaryViews.{agree_count}
+use Rattle.gen_sim.proofs.ArgumentNodes.{value_argument, ref_argument, whole_argument, temporary_argument, no_arguments, then_argument}
+use Rattle.gen_sim.proofs.CallNodes.{call_node_does, native_node_does}
+use Rattle.gen_sim.specs.ChainCode.{link_code, fail_at, chain_end_code, middle_link_code}
+use Rattle.gen_sim.specs.LinksCode.{LinksCode}
+use Rattle.gen_sim.proofs.LinkLaws.{last_link_does, middle_link_does}
+use Rattle.gen_sim.proofs.ChainNodes.{short_chain_does, chain_does}
 use Rattle.gen_expr.specs.ExprCode.{known_size, link_with, others_at, linked_with, place_items, array_items, value_items, links_items, arg_items, args_items}
 use Rattle.gen_expr.proofs.Extents.{of_line, of_rows, reaching, kinds_agree}
 

@@ -4,7 +4,7 @@ use Rattle.std.specs.Prelude.{IsSome}
 use Rattle.pawn_program.specs.Program.{Array, Object, SlotArray, ParamArray, Row, From, Arg, Value, Ref, Whole, Temp, Args, no_args, then_arg}
 use Rattle.pawn_program.specs.Scope.{Scope, Extent, extent, known_extent, row_extent, rest_extent, IsLine, HasRows}
 use Rattle.pawn_program.specs.ValidExprs.{IsValidArray, IsValidArg, AreValidArgs, ArgAgrees, ArgsAgree}
-use Rattle.gen_calls.specs.ArgumentCode.{kind_with, kind_of, kinds_of}
+use Rattle.gen_sim.specs.ArgumentCode.{kind_with, kind_of, kinds_of}
 
 pub record Reaching (found : Option Extent) : Type 0 where
   pub whole : Extent

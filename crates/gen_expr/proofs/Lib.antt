@@ -1,2 +1,11 @@
+pub mod AppendedLaws
+pub mod Counts
+pub mod ExprForms
 pub mod ExprNodes
 pub mod Extents
+pub mod FaultLaws
+pub mod FileLaws
+pub mod FineItems
+pub mod FineLaws
+pub mod Shapes
+pub mod WeightLaws

@@ -4,15 +4,15 @@ use Rattle.std.specs.Prelude.{◌+◌, ℕ, pos, List, [], ◌++◌, Option, Non
 use Rattle.pawn_program.specs.Program.{Scalar, Global, Own, Through, Element, Char, Array, Object, SlotArray, ParamArray, Row, From, Expr, Const, Read, Unary, Binary, Chain, And, Or, Cond, Assign, Update, UpdateBy, Step, StepBy, Copy, Operate, OperateOne, Call, Native, Seq, Links, no_links, then_link, Arg, Value, Ref, Whole, Temp, Args, no_args, then_arg}
 use Rattle.pawn_program.specs.Scope.{Scope, Extent, extent}
 use Rattle.pawn_meaning.specs.Need.{count_of}
-use Rattle.gen_steps.specs.Items.{Item, past}
-use Rattle.gen_steps.specs.Results.{temporaries_in}
-use Rattle.gen_nodes.specs.SimpleCode.{operator_code, const_code, unary_code, binary_code, comma_code}
-use Rattle.gen_nodes.specs.AccessCode.{read_code, assign_code, update_code, step_code, step_by_code}
-use Rattle.gen_nodes.specs.JumpCode.{other_at, cond_code, and_code, or_code}
-use Rattle.gen_places.specs.PlaceItems.{object_code, slot_code, through_code}
-use Rattle.gen_arrays.specs.IndexCode.{element_code, character_code, row_code, copy_code}
-use Rattle.gen_calls.specs.CallCode.{one_code, two_code, convert_code, operate_one_code, operate_code, pushed_code, temporary_code, call_code, native_code}
-use Rattle.gen_chains.specs.ChainCode.{link_code, last_link_code, middle_link_code, fail_at, chain_end_code}
+use Rattle.gen_sim.specs.Items.{Item, past}
+use Rattle.gen_sim.specs.Results.{temporaries_in}
+use Rattle.gen_sim.specs.SimpleCode.{operator_code, const_code, unary_code, binary_code, comma_code}
+use Rattle.gen_sim.specs.AccessCode.{read_code, assign_code, update_code, step_code, step_by_code}
+use Rattle.gen_sim.specs.JumpCode.{other_at, cond_code, and_code, or_code}
+use Rattle.gen_sim.specs.PlaceItems.{object_code, slot_code, through_code}
+use Rattle.gen_sim.specs.IndexCode.{element_code, character_code, row_code, copy_code}
+use Rattle.gen_sim.specs.CallCode.{one_code, two_code, convert_code, operate_one_code, operate_code, pushed_code, temporary_code, call_code, native_code}
+use Rattle.gen_sim.specs.ChainCode.{link_code, last_link_code, middle_link_code, fail_at, chain_end_code}
 
 -- the first size of an array, where it is known
 abbrev pub known_size : Option Extent → Option ℕ

@@ -1,1 +1,3 @@
+pub mod CodeMeans
 pub mod ExprCode
+pub mod Fine

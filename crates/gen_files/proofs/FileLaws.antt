@@ -15,8 +15,8 @@ use Rattle.amx_ops.specs.declared.amx.Amx.{Amx}
 use Rattle.amx_ops.specs.declared.amx.Record.{Record}
 use Rattle.gen_agrees.specs.Agrees.{Agrees}
 use Rattle.gen_agrees.specs.Shape.{native_record}
-use Rattle.gen_memory.specs.Pieces.{image, data_pieces}
-use Rattle.gen_steps.specs.Items.{cells_with}
+use Rattle.gen_sim.specs.Pieces.{image, data_pieces}
+use Rattle.gen_sim.specs.Items.{cells_with}
 use Rattle.gen_program.specs.CodeIsValid.{main_by}
 use Rattle.gen_program.specs.FileCode.{entry_of, program_items}
 use Rattle.gen_program.specs.FileOf.{file_of, ProgramsHaveFiles}

@@ -2,7 +2,7 @@
 use Rattle.std.proofs.Common.{◌≡◌, ◌+◌, ◌≤◌, ℕ, zero, suc, ℤ, pos, List, [], ◌∷◌, ◌++◌, length, slice_set, refl, sym, ap, subst, ◌∙◌, arith, append_assoc, length-append}
 use Rattle.amx_ops.specs.declared.op.Op.TheVariants as op
 use Rattle.amx_ops.specs.Written.{cells_of}
-use Rattle.gen_steps.specs.Items.{Item, Plain, CallOf, with, size, cells_with, item_cells, waits_from}
+use Rattle.gen_sim.specs.Items.{Item, Plain, CallOf, with, size, cells_with, item_cells, waits_from}
 use Rattle.gen_builder.specs.Built.{Built, with_items}
 use Rattle.gen_files.specs.Linked.{linked_with, AreIn, nothing}
 

@@ -18,8 +18,8 @@ use Rattle.amx_ops.specs.declared.amx.Amx.{Amx}
 use Rattle.amx_ops.specs.declared.amx.Record.{Record}
 use Rattle.amx_ops.specs.Writable.{table_size, names_size, over_tables, code_place, cells_of, memory_limit, IsWritableName, IsWritable}
 use Rattle.gen_agrees.specs.Shape.{native_record}
-use Rattle.gen_memory.specs.Pieces.{data_pieces}
-use Rattle.gen_memory.proofs.PieceLaws.{length_image}
+use Rattle.gen_sim.specs.Pieces.{data_pieces}
+use Rattle.gen_sim.proofs.PieceLaws.{length_image}
 use Rattle.gen_program.specs.FileCode.{entry_of, program_items}
 use Rattle.gen_program.specs.FileOf.{file_of}
 use Rattle.gen_program.proofs.DataCells.{data_small}

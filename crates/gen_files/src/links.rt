@@ -1,5 +1,5 @@
 ghost use Rattle.std.specs.Prelude.{◌≡◌, ℕ, List, length, IfOk};
-ghost use Rattle.gen_steps.specs.Items.{Item, cells_with};
+ghost use Rattle.gen_sim.specs.Items.{Item, cells_with};
 ghost use Rattle.gen_builder.specs.Built.{with_items};
 ghost use Rattle.gen_files.specs.Starts.{Finds};
 ghost use Rattle.gen_files.specs.Linked.{linked_with, AreIn, nothing};

@@ -1,9 +1,9 @@
 -- A body, by its parts.
 use Rattle.std.proofs.Common.{◌≡◌, ◌*◌, ℕ, List, [], length, ap, ◌∙◌}
 use Rattle.pawn_program.specs.Program.{Slot, Body, Program}
-use Rattle.gen_flow.specs.Here.{Here}
+use Rattle.gen_sim.specs.Here.{Here}
 use Rattle.gen_stmt.specs.StmtCode.{stmt_items}
-use Rattle.gen_functions.specs.BodyCode.{no_exits, body_here, end_code, body_items}
+use Rattle.gen_program.specs.BodyCode.{no_exits, body_here, end_code, body_items}
 use Rattle.gen_builder.specs.Built.{Built, with_items}
 use Rattle.gen_emit.proofs.GrowLaws.{then_grow}
 

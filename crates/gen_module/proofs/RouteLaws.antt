@@ -3,11 +3,11 @@ use Rattle.std.proofs.Common.{◌≡◌, ◌+◌, ◌*◌, ℕ, ℤ, pos, List, 
 use Rattle.std.proofs.lemmas.List.{length-replicate}
 use Rattle.pawn_program.specs.Program.{Function, Route, Program}
 use Rattle.amx_ops.specs.declared.op.Op.TheVariants as op
-use Rattle.gen_steps.specs.Items.{Item}
-use Rattle.gen_nodes.specs.SimpleCode.{alone, taking}
-use Rattle.gen_states.specs.StateCode.{automaton_cell}
+use Rattle.gen_sim.specs.Items.{Item}
+use Rattle.gen_sim.specs.SimpleCode.{alone, taking}
+use Rattle.gen_sim.specs.StateCode.{automaton_cell}
 use Rattle.gen_stmt.specs.SwitchCode.{table_item}
-use Rattle.gen_functions.specs.RouteCode.{bodies_items, body_begin, route_table, leads_to, fail_at, bodies_at, address_of, route_items}
+use Rattle.gen_program.specs.RouteCode.{bodies_items, body_begin, route_table, leads_to, fail_at, bodies_at, address_of, route_items}
 use Rattle.gen_builder.specs.Built.{Built, with_items}
 use Rattle.gen_emit.specs.Filled.{filled}
 use Rattle.gen_emit.proofs.GrowLaws.{both_grow, then_grow, next_at}

@@ -1,7 +1,7 @@
 -- Parts that are appended one behind another, and where they begin.
 use Rattle.std.proofs.Common.{◌≡◌, ◌+◌, ◌*◌, ◌<◌, ◌⊎◌, inl, inr, ℕ, zero, suc, ℤ, pos, List, [], ◌∷◌, ◌++◌, Some, length, drop, get_or, slice_get, add-one, refl, sym, ap, ◌∙◌, arith, length-append}
 use Rattle.std.proofs.Math.Seq.{drop-cons}
-use Rattle.gen_steps.specs.Items.{Item, past}
+use Rattle.gen_sim.specs.Items.{Item, past}
 use Rattle.gen_builder.specs.Built.{Built, with_items}
 use Rattle.gen_emit.proofs.GrowLaws.{both_grow, none_grow, next_at}
 use Rattle.gen_module.specs.Rows.{row_items, row_begin}

@@ -2,7 +2,7 @@
 use Rattle.std.proofs.Common.{◌≡◌, ◌*◌, ℕ, pos, List, [], length, ap, subst, ◌∙◌}
 use Rattle.pawn_program.specs.Program.{Stmt}
 use Rattle.gen_stmt.specs.StmtCode.{stmt_items}
-use Rattle.gen_functions.specs.BodyCode.{no_exits}
+use Rattle.gen_program.specs.BodyCode.{no_exits}
 use Rattle.gen_builder.specs.Built.{Built, with_items}
 use Rattle.gen_draft.specs.declared.draft.Draft.{Draft}
 use Rattle.gen_draft.specs.Grown.{Grown}

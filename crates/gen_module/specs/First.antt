@@ -1,7 +1,7 @@
 -- Where the statement of a body stands, with its parameters alone in force.
 use Rattle.std.specs.Prelude.{[]}
-use Rattle.gen_flow.specs.Here.{Here}
-use Rattle.gen_functions.specs.BodyCode.{no_exits}
+use Rattle.gen_sim.specs.Here.{Here}
+use Rattle.gen_program.specs.BodyCode.{no_exits}
 use Rattle.gen_slots.specs.Keeps.{scope_in}
 use Rattle.gen_slots.specs.declared.place.Place.{Place}
 

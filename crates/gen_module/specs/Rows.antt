@@ -1,6 +1,6 @@
 -- Parts of code one behind another, each made from where it begins.
 use Rattle.std.specs.Prelude.{ℕ, zero, suc, List, [], ◌∷◌, ◌++◌}
-use Rattle.gen_steps.specs.Items.{Item, past}
+use Rattle.gen_sim.specs.Items.{Item, past}
 
 abbrev pub row_items : {A : Type 0} → (ℕ → A → List Item) → ℕ → List A → List Item
 row_items part at [] = []

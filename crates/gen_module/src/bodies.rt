@@ -1,9 +1,9 @@
 ghost use Rattle.std.specs.Prelude.{◌≡◌, ◌*◌, [], length, map, IfOk};
 ghost use Rattle.pawn_program.specs.View.{body_view, program_view, slot_view, stmt_view};
-ghost use Rattle.gen_memory.specs.Pieces.{total, objects_from};
+ghost use Rattle.gen_sim.specs.Pieces.{total, objects_from};
 ghost use Rattle.gen_stmt.specs.StmtCode.{stmt_items};
-ghost use Rattle.gen_functions.specs.BodyCode.{body_items, single_items};
-ghost use Rattle.gen_functions.specs.RouteCode.{bodies_items, body_begin};
+ghost use Rattle.gen_program.specs.BodyCode.{body_items, single_items};
+ghost use Rattle.gen_program.specs.RouteCode.{bodies_items, body_begin};
 ghost use Rattle.gen_builder.specs.Built.{with_items};
 ghost use Rattle.gen_files.specs.Starts.{Finds};
 ghost use Rattle.gen_slots.specs.Keeps.{AreObjects};

@@ -1,6 +1,6 @@
 ghost use Rattle.std.specs.Prelude.{◌≡◌, ◌*◌, length, map, IfOk};
 ghost use Rattle.pawn_program.specs.View.{function_view};
-ghost use Rattle.gen_functions.specs.FunctionCode.{function_items};
+ghost use Rattle.gen_program.specs.FunctionCode.{function_items};
 ghost use Rattle.gen_builder.specs.Built.{with_items};
 ghost use Rattle.gen_program.specs.FileCode.{functions_items, function_begin};
 ghost use Rattle.gen_files.specs.Starts.{Finds};

@@ -1,10 +1,10 @@
 ghost use Rattle.std.specs.Prelude.{◌≡◌, ◌+◌, ◌*◌, ◌^◌, ◌<◌, ◌≤◌, [], ◌∷◌, ℕ, pos, length};
 ghost use Rattle.std.specs.Prelude.{replicate, IfOk};
 ghost use Rattle.pawn_program.specs.View.{function_view, route_view};
-ghost use Rattle.gen_nodes.specs.SimpleCode.{alone, taking};
-ghost use Rattle.gen_states.specs.StateCode.{automaton_cell};
+ghost use Rattle.gen_sim.specs.SimpleCode.{alone, taking};
+ghost use Rattle.gen_sim.specs.StateCode.{automaton_cell};
 ghost use Rattle.gen_stmt.specs.SwitchCode.{table_item};
-ghost use Rattle.gen_functions.specs.RouteCode.{route_items, route_table, leads_to};
+ghost use Rattle.gen_program.specs.RouteCode.{route_items, route_table, leads_to};
 ghost use Rattle.gen_builder.specs.Built.{with_items};
 ghost use Rattle.gen_case_tables.specs.Over.{over};
 ghost use Rattle.gen_files.specs.Starts.{Finds};

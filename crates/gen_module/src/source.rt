@@ -1,5 +1,5 @@
 ghost use Rattle.std.specs.Prelude.{◌≡◌, ◌+◌, ◌*◌, pos, length, IfOk};
-ghost use Rattle.gen_states.specs.StateCode.{automaton_cell};
+ghost use Rattle.gen_sim.specs.StateCode.{automaton_cell};
 ghost use Rattle.gen_module.specs.Source.{IsSource, program_of};
 
 use gen_data::Addresses;

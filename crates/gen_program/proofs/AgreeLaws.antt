@@ -22,10 +22,10 @@ use Rattle.gen_agrees.specs.AgreesOn.{Meanings, Mark, is_cut, AgreesOn}
 use Rattle.gen_sim.proofs.Fronts.{said_more}
 use Rattle.gen_sim.proofs.Marks.{mark_of, marked}
 use Rattle.gen_sim.proofs.Final as final
-use Rattle.gen_memory.specs.View.{all_cells}
-use Rattle.gen_memory.specs.Stands.{Stands}
-use Rattle.gen_steps.specs.Site.{IsSite}
-use Rattle.gen_functions.specs.FunctionCode.{HasFunctions}
+use Rattle.gen_sim.specs.View.{all_cells}
+use Rattle.gen_sim.specs.Stands.{Stands}
+use Rattle.gen_sim.specs.Site.{IsSite}
+use Rattle.gen_program.specs.FunctionCode.{HasFunctions}
 use Rattle.gen_program.specs.FilesAgree.{IsFileOf, site_of}
 use Rattle.gen_program.proofs.FirstLaws.{first_view, Started, store_count, starts, fails}
 use Rattle.gen_program.proofs.WholeLaws.{whole_does}

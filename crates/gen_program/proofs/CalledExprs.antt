@@ -6,14 +6,14 @@ use Rattle.pawn_program.specs.Scope.{Scope, extent}
 use Rattle.pawn_program.specs.ValidExprs.{Takes, IsOperator, IsValidScalar, IsValidArray, IsValidExpr, AreValidLinks, IsValidArg, AreValidArgs}
 use Rattle.pawn_meaning.specs.Need.{count_of}
 use Rattle.amx_ops.specs.declared.op.Op.TheVariants as op
-use Rattle.gen_steps.specs.Items.{Item, CallOf, past}
-use Rattle.gen_steps.specs.Results.{temporaries_in}
-use Rattle.gen_nodes.specs.SimpleCode.{alone, taking, operator_code, const_code, prefix_op}
-use Rattle.gen_nodes.specs.AccessCode.{load_code, store_code, changed_code, stepped_code, turned_code}
-use Rattle.gen_nodes.specs.JumpCode.{other_at, choice_code, truth_code}
-use Rattle.gen_arrays.specs.IndexCode.{bounds_code, in_characters}
-use Rattle.gen_calls.specs.CallCode.{one_code, two_code, convert_code, give_back_code}
-use Rattle.gen_chains.specs.ChainCode.{link_code, fail_at}
+use Rattle.gen_sim.specs.Items.{Item, CallOf, past}
+use Rattle.gen_sim.specs.Results.{temporaries_in}
+use Rattle.gen_sim.specs.SimpleCode.{alone, taking, operator_code, const_code, prefix_op}
+use Rattle.gen_sim.specs.AccessCode.{load_code, store_code, changed_code, stepped_code, turned_code}
+use Rattle.gen_sim.specs.JumpCode.{other_at, choice_code, truth_code}
+use Rattle.gen_sim.specs.IndexCode.{bounds_code, in_characters}
+use Rattle.gen_sim.specs.CallCode.{one_code, two_code, convert_code, give_back_code}
+use Rattle.gen_sim.specs.ChainCode.{link_code, fail_at}
 use Rattle.gen_expr.specs.ExprCode.{known_size, others_at, linked_with, place_items, array_items, value_items, links_items, arg_items, args_items}
 use Rattle.gen_program.specs.Called.{AreCalled}
 use Rattle.gen_program.proofs.CalledItems.{both_called, waiting_called, choice_called, operator_called, load_called, store_called, bounds_called, give_back_called, changed_called, stepped_called, turned_called, two_called, convert_called, link_called, link_with_called, linked_called}

@@ -6,15 +6,15 @@ use Rattle.pawn_cells.specs.declared.operator.Operator.TheVariants as between
 use Rattle.pawn_cells.specs.declared.operator.Comparison.{Comparison}
 use Rattle.pawn_program.specs.Program.{Scalar, Global, Own, Through, Element, Char, Slot, Links, no_links, then_link}
 use Rattle.amx_ops.specs.declared.op.Op.TheVariants as op
-use Rattle.gen_steps.specs.Items.{Item, Plain, CallOf}
-use Rattle.gen_nodes.specs.SimpleCode.{alone, operator_code, waiting_code}
-use Rattle.gen_nodes.specs.AccessCode.{load_code, store_code, changed_code, stepped_code, turned_code}
-use Rattle.gen_nodes.specs.JumpCode.{jump_to, end_at, choice_code}
-use Rattle.gen_arrays.specs.IndexCode.{bounds_code}
-use Rattle.gen_calls.specs.CallCode.{one_code, two_code, convert_code, give_back_code}
-use Rattle.gen_chains.specs.ChainCode.{link_code, chain_end_code}
+use Rattle.gen_sim.specs.Items.{Item, Plain, CallOf}
+use Rattle.gen_sim.specs.SimpleCode.{alone, operator_code, waiting_code}
+use Rattle.gen_sim.specs.AccessCode.{load_code, store_code, changed_code, stepped_code, turned_code}
+use Rattle.gen_sim.specs.JumpCode.{jump_to, end_at, choice_code}
+use Rattle.gen_sim.specs.IndexCode.{bounds_code}
+use Rattle.gen_sim.specs.CallCode.{one_code, two_code, convert_code, give_back_code}
+use Rattle.gen_sim.specs.ChainCode.{link_code, chain_end_code}
 use Rattle.gen_expr.specs.ExprCode.{link_with, linked_with}
-use Rattle.gen_flow.specs.FlowCode.{leave_code}
+use Rattle.gen_sim.specs.FlowCode.{leave_code}
 use Rattle.gen_program.specs.Called.{AreCalled}
 
 module _ (C : ℕ → Type 0) where

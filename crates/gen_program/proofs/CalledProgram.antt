@@ -6,13 +6,13 @@ use Rattle.pawn_program.specs.Program.{Slot, Body, Route, Function, Automaton, P
 use Rattle.pawn_program.specs.Valid.{IsValidBody, IsValidFunction, IsValid}
 use Rattle.pawn_program.specs.ValidExprs.{Takes}
 use Rattle.amx_ops.specs.declared.op.Op.TheVariants as op
-use Rattle.gen_steps.specs.Items.{past}
-use Rattle.gen_nodes.specs.SimpleCode.{taking}
+use Rattle.gen_sim.specs.Items.{past}
+use Rattle.gen_sim.specs.SimpleCode.{taking}
 use Rattle.gen_stmt.specs.Fresh.{Ready}
 use Rattle.gen_stmt.specs.StmtCode.{stmt_items}
-use Rattle.gen_functions.specs.BodyCode.{body_here, end_code, body_items}
-use Rattle.gen_functions.specs.RouteCode.{bodies_items, bodies_at}
-use Rattle.gen_functions.specs.FunctionCode.{one_of, function_by, function_items}
+use Rattle.gen_program.specs.BodyCode.{body_here, end_code, body_items}
+use Rattle.gen_program.specs.RouteCode.{bodies_items, bodies_at}
+use Rattle.gen_program.specs.FunctionCode.{one_of, function_by, function_items}
 use Rattle.gen_program.specs.FileCode.{functions_items, program_items}
 use Rattle.gen_program.specs.Called.{AreCalled}
 use Rattle.gen_program.proofs.CalledItems.{both_called}

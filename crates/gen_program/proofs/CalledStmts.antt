@@ -7,14 +7,14 @@ use Rattle.pawn_program.specs.Scope.{Scope}
 use Rattle.pawn_program.specs.ValidExprs.{Takes, IsValidPerhaps}
 use Rattle.pawn_program.specs.ValidStmts.{slots_made, slots_made_by, IsValidStmt, IsValidElse, AreValidCases, AreValidStmts}
 use Rattle.amx_ops.specs.declared.op.Op.TheVariants as op
-use Rattle.gen_steps.specs.Items.{Item, CallOf, past}
-use Rattle.gen_nodes.specs.SimpleCode.{alone, taking}
-use Rattle.gen_nodes.specs.JumpCode.{jump_to, other_at, choice_code}
+use Rattle.gen_sim.specs.Items.{Item, CallOf, past}
+use Rattle.gen_sim.specs.SimpleCode.{alone, taking}
+use Rattle.gen_sim.specs.JumpCode.{jump_to, other_at, choice_code}
 use Rattle.gen_expr.specs.ExprCode.{value_items}
-use Rattle.gen_flow.specs.Here.{Here, behind, within}
-use Rattle.gen_flow.specs.FlowCode.{leave_code}
-use Rattle.gen_loops.specs.LoopCode.{body_at, step_at, loop_end, loop_exits, loop_code, test_at, until_end, until_exits, until_code}
-use Rattle.gen_states.specs.StateCode.{entry_of, enter_code, switched_code}
+use Rattle.gen_sim.specs.Here.{Here, behind, within}
+use Rattle.gen_sim.specs.FlowCode.{leave_code}
+use Rattle.gen_sim.specs.LoopCode.{body_at, step_at, loop_end, loop_exits, loop_code, test_at, until_end, until_exits, until_code}
+use Rattle.gen_sim.specs.StateCode.{entry_of, enter_code, switched_code}
 use Rattle.gen_stmt.specs.SwitchCode.{cases_at, table_code}
 use Rattle.gen_stmt.specs.ClosedCode.{unknown}
 use Rattle.gen_stmt.specs.Fresh.{Ready}

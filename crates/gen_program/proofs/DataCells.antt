@@ -13,9 +13,9 @@ use Rattle.pawn_meaning.specs.Memory.{Memory, Object, Static}
 use Rattle.pawn_meaning.specs.Memory as memory
 use Rattle.pawn_meaning.specs.World.{first_object, first_memory}
 use Rattle.amx_ops.proofs.CellLaws.{small_cell}
-use Rattle.gen_memory.specs.Pieces.{offsets, vectors_of, vectors, object_cells, image, total, objects_from, automata_from, data_pieces}
-use Rattle.gen_memory.proofs.LayoutLaws.{extent_is}
-use Rattle.gen_memory.proofs.PieceLaws.{image-append, total-append}
+use Rattle.gen_sim.specs.Pieces.{offsets, vectors_of, vectors, object_cells, image, total, objects_from, automata_from, data_pieces}
+use Rattle.gen_sim.proofs.LayoutLaws.{extent_is}
+use Rattle.gen_sim.proofs.PieceLaws.{image-append, total-append}
 
 -- ---- offsets
 

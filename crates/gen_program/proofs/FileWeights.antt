@@ -4,17 +4,17 @@ use Rattle.std.specs.Prelude.{pos, sum_by}
 use Rattle.std.proofs.lemmas.List.Sums.{sum_by-cons}
 use Rattle.pawn_program.specs.Program.{Slot, Body, Route, Function, Program}
 use Rattle.pawn_meaning.specs.Weight.{stmt_weight, route_weight, function_weight, weight, never}
-use Rattle.gen_steps.specs.Items.{item_cells, past}
-use Rattle.gen_steps.proofs.ItemLaws.{count-append}
+use Rattle.gen_sim.specs.Items.{item_cells, past}
+use Rattle.gen_sim.proofs.ItemLaws.{count-append}
 use Rattle.amx_ops.specs.declared.op.Op.TheVariants as op
-use Rattle.gen_nodes.specs.SimpleCode.{taking}
-use Rattle.gen_forms.proofs.Counts.{count}
+use Rattle.gen_sim.specs.SimpleCode.{taking}
+use Rattle.gen_expr.proofs.Counts.{count}
 use Rattle.gen_stmt.specs.StmtCode.{stmt_items}
 use Rattle.gen_stmt.proofs.StmtWeights.{stmt_light}
-use Rattle.gen_functions.specs.BodyCode.{body_here, end_code, body_items}
-use Rattle.gen_functions.specs.RouteCode.{bodies_items, route_table, bodies_at, address_of}
-use Rattle.gen_functions.proofs.RouteLaws.{length_route}
-use Rattle.gen_functions.specs.FunctionCode.{one_of, function_by, function_items}
+use Rattle.gen_program.specs.BodyCode.{body_here, end_code, body_items}
+use Rattle.gen_program.specs.RouteCode.{bodies_items, route_table, bodies_at, address_of}
+use Rattle.gen_program.proofs.RouteLaws.{length_route}
+use Rattle.gen_program.specs.FunctionCode.{one_of, function_by, function_items}
 use Rattle.gen_program.specs.FileCode.{functions_items, program_items}
 
 module _ (program : Program) where

@@ -13,12 +13,12 @@ use Rattle.amx_ops.specs.declared.amx.Amx.{Amx}
 use Rattle.amx_ops.specs.State.{State}
 use Rattle.amx_ops.specs.Trace.{loaded, fresh, start_at, begun}
 use Rattle.amx_ops.proofs.CellLaws.{small_cell}
-use Rattle.gen_memory.specs.Pieces.{Piece, Each, IsThere, AreThere, image, total, objects_from, automata_from, data_pieces}
-use Rattle.gen_memory.specs.Mem.{row, Mem}
-use Rattle.gen_memory.specs.View.{View, Laid, all_cells, kept, low}
-use Rattle.gen_memory.specs.Stands.{Stands}
-use Rattle.gen_memory.proofs.PieceLaws.{each_both, length_image}
-use Rattle.gen_memory.proofs.ChangeLaws.{pushed_on, pushed_mem, there_row, image_row}
+use Rattle.gen_sim.specs.Pieces.{Piece, Each, IsThere, AreThere, image, total, objects_from, automata_from, data_pieces}
+use Rattle.gen_sim.specs.Mem.{row, Mem}
+use Rattle.gen_sim.specs.View.{View, Laid, all_cells, kept, low}
+use Rattle.gen_sim.specs.Stands.{Stands}
+use Rattle.gen_sim.proofs.PieceLaws.{each_both, length_image}
+use Rattle.gen_sim.proofs.ChangeLaws.{pushed_on, pushed_mem, there_row, image_row}
 use Rattle.gen_program.specs.FilesAgree.{IsFileOf}
 
 -- ---- the data are there

@@ -4,20 +4,20 @@ use Rattle.std.specs.Prelude.{All, IfSome, IfNone}
 use Rattle.pawn_program.specs.Program.{Slot, Body, Route, Function, Program}
 use Rattle.pawn_program.specs.Valid.{IsValidBody, IsValidRoute, IsValidFunction}
 use Rattle.amx_ops.specs.declared.op.Op.TheVariants as op
-use Rattle.gen_steps.specs.Items.{Item, Plain, CallOf, AreWritten, size, past}
-use Rattle.gen_nodes.specs.SimpleCode.{alone, taking}
-use Rattle.gen_states.specs.StateCode.{automaton_cell}
+use Rattle.gen_sim.specs.Items.{Item, Plain, CallOf, AreWritten, size, past}
+use Rattle.gen_sim.specs.SimpleCode.{alone, taking}
+use Rattle.gen_sim.specs.StateCode.{automaton_cell}
 use Rattle.gen_stmt.specs.SwitchCode.{table_item}
-use Rattle.gen_forms.proofs.FineLaws.{Nowhere}
-use Rattle.gen_forms.proofs.FineItems.{alone_fine, any_fine}
+use Rattle.gen_expr.proofs.FineLaws.{Nowhere}
+use Rattle.gen_expr.proofs.FineItems.{alone_fine, any_fine}
 use Rattle.gen_stmt.specs.StmtCode.{stmt_items}
 use Rattle.gen_stmt.specs.Well.{AreWell, ArePairsLed}
 use Rattle.gen_stmt.proofs.WellLaws.{holds_here, well_both, own_well, no_call}
 use Rattle.gen_stmt.proofs.StmtWells.{stmt_well}
-use Rattle.gen_functions.specs.BodyCode.{body_here, end_code, body_items, single_items}
-use Rattle.gen_functions.specs.RouteCode.{bodies_items, body_begin, route_table, leads_to, fail_at, bodies_at, address_of, route_items}
-use Rattle.gen_functions.proofs.RouteLaws.{length_route}
-use Rattle.gen_functions.specs.FunctionCode.{one_of, function_by, function_items}
+use Rattle.gen_program.specs.BodyCode.{body_here, end_code, body_items, single_items}
+use Rattle.gen_program.specs.RouteCode.{bodies_items, body_begin, route_table, leads_to, fail_at, bodies_at, address_of, route_items}
+use Rattle.gen_program.proofs.RouteLaws.{length_route}
+use Rattle.gen_program.specs.FunctionCode.{one_of, function_by, function_items}
 use Rattle.gen_program.specs.FileCode.{functions_items, program_items}
 use Rattle.gen_program.specs.Inner.{HoldsIn}
 use Rattle.gen_program.proofs.InnerLaws.{in_first, in_rest, in_next, in_here, holds_before}

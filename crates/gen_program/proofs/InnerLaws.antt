@@ -1,7 +1,7 @@
 -- Parts of items, of whose starts something holds.
 use Rattle.std.proofs.Common.{◌≡◌, ◌+◌, ◌*◌, inl, inr, ℕ, List, [], ◌∷◌, ◌++◌, refl}
-use Rattle.gen_steps.specs.Items.{Item, size, past}
-use Rattle.gen_forms.specs.Fine.{StartsAt}
+use Rattle.gen_sim.specs.Items.{Item, size, past}
+use Rattle.gen_expr.specs.Fine.{StartsAt}
 use Rattle.gen_stmt.specs.Well.{TableAt, Holds}
 use Rattle.gen_program.specs.Inner.{InnerAt, HoldsIn}
 

@@ -6,15 +6,15 @@ use Rattle.pawn_program.specs.Valid.{IsValidFunction}
 use Rattle.amx_ops.specs.declared.op.Op.TheVariants as op
 use Rattle.amx_ops.specs.Instructions.{Placed, placed}
 use Rattle.gen_agrees.specs.Shape.{last_of, IsSleep}
-use Rattle.gen_steps.specs.Items.{Item, size, past, AreWritten}
-use Rattle.gen_nodes.specs.SimpleCode.{alone, taking}
-use Rattle.gen_forms.proofs.FaultLaws.{stand}
-use Rattle.gen_states.specs.StateCode.{automaton_cell}
+use Rattle.gen_sim.specs.Items.{Item, size, past, AreWritten}
+use Rattle.gen_sim.specs.SimpleCode.{alone, taking}
+use Rattle.gen_expr.proofs.FaultLaws.{stand}
+use Rattle.gen_sim.specs.StateCode.{automaton_cell}
 use Rattle.gen_stmt.specs.SwitchCode.{table_item}
 use Rattle.gen_stmt.specs.StmtCode.{stmt_items}
-use Rattle.gen_functions.specs.BodyCode.{body_here, end_code, body_items, single_items}
-use Rattle.gen_functions.specs.RouteCode.{bodies_items, route_table, leads_to, fail_at, bodies_at, address_of, route_items}
-use Rattle.gen_functions.specs.FunctionCode.{one_of, function_by, function_items}
+use Rattle.gen_program.specs.BodyCode.{body_here, end_code, body_items, single_items}
+use Rattle.gen_program.specs.RouteCode.{bodies_items, route_table, leads_to, fail_at, bodies_at, address_of, route_items}
+use Rattle.gen_program.specs.FunctionCode.{one_of, function_by, function_items}
 use Rattle.gen_program.specs.FileCode.{functions_items, entry_of, program_items, code_of}
 use Rattle.gen_program.proofs.StandLaws.{placed_are}
 

@@ -12,13 +12,13 @@ use Rattle.amx_ops.specs.declared.op.Op.TheVariants as op
 use Rattle.amx_ops.specs.Instructions.{fetched}
 use Rattle.amx_ops.specs.Written.{cells_of, read_as}
 use Rattle.amx_ops.specs.Moves as machine
-use Rattle.gen_memory.specs.Pieces.{image, data_pieces}
-use Rattle.gen_steps.specs.Items.{Item, Plain, CallOf, placed_in, size, cells_with, item_cells, past, AreWritten, LieIn, with}
-use Rattle.gen_steps.proofs.ItemLaws.{past-append, count-append}
-use Rattle.gen_nodes.specs.SimpleCode.{taking}
-use Rattle.gen_forms.proofs.FileLaws.{lie_there}
+use Rattle.gen_sim.specs.Pieces.{image, data_pieces}
+use Rattle.gen_sim.specs.Items.{Item, Plain, CallOf, placed_in, size, cells_with, item_cells, past, AreWritten, LieIn, with}
+use Rattle.gen_sim.proofs.ItemLaws.{past-append, count-append}
+use Rattle.gen_sim.specs.SimpleCode.{taking}
+use Rattle.gen_expr.proofs.FileLaws.{lie_there}
 use Rattle.gen_stmt.specs.Well.{TableAt}
-use Rattle.gen_functions.specs.FunctionCode.{function_items}
+use Rattle.gen_program.specs.FunctionCode.{function_items}
 use Rattle.gen_program.specs.FilesAgree.{IsFileOf, site_of}
 use Rattle.gen_program.specs.FileCode.{functions_items, function_begin, entry_of, program_items, code_of}
 use Rattle.gen_program.specs.Inner.{InnerAt}

@@ -8,8 +8,8 @@ use Rattle.amx_ops.specs.Instructions.{Placed, cells_by, placed_from}
 use Rattle.amx_ops.specs.Written.{IsWrittenBy, cells_of, read_as}
 use Rattle.amx_ops.specs.Valid.{first_of, leads, is_table, all_lead, link_fault, linked}
 use Rattle.amx_ops.proofs.Rows.{has_row}
-use Rattle.gen_steps.specs.Items.{Item, Plain, CallOf, size, placed_in, cells_with}
-use Rattle.gen_forms.proofs.FaultLaws.{stand}
+use Rattle.gen_sim.specs.Items.{Item, Plain, CallOf, size, placed_in, cells_with}
+use Rattle.gen_expr.proofs.FaultLaws.{stand}
 use Rattle.gen_stmt.specs.Well.{IsLed, ArePairsLed, IsTableLed, LeadsWith, AreWell}
 use Rattle.gen_program.specs.Called.{AreCalled}
 

@@ -11,9 +11,9 @@ use Rattle.amx_ops.specs.Written.{IsWritten, cells_of, read_as, places}
 use Rattle.amx_ops.specs.Valid.{first_of, proper, is_cases}
 use Rattle.amx_ops.proofs.Rows.{has_row}
 use Rattle.amx_ops.proofs.WrittenLaws.{code_is_instructions}
-use Rattle.gen_steps.specs.Items.{Item, Plain, CallOf, size, placed_in, cells_with, AreWritten}
-use Rattle.gen_forms.proofs.FileLaws.{written_in}
-use Rattle.gen_forms.proofs.FaultLaws.{stand}
+use Rattle.gen_sim.specs.Items.{Item, Plain, CallOf, size, placed_in, cells_with, AreWritten}
+use Rattle.gen_expr.proofs.FileLaws.{written_in}
+use Rattle.gen_expr.proofs.FaultLaws.{stand}
 use Rattle.gen_stmt.specs.Well.{AreWell, IsTable, TableAt}
 use Rattle.gen_program.specs.Inner.{InnerAt}
 

@@ -7,11 +7,11 @@ use Rattle.pawn_program.specs.Valid.{IsValid, IsValidFunction}
 use Rattle.amx_ops.specs.Instructions.{is_start, placed, cells_in, Placed}
 use Rattle.amx_ops.specs.Valid as machine
 use Rattle.amx_ops.specs.Valid.{first_of, proper, linked, piece_fault, entry_fault, main_fault, publics_fault, is_table}
-use Rattle.gen_memory.proofs.Lists.{all_dropped}
-use Rattle.gen_steps.specs.Items.{Item, size, past, AreWritten}
-use Rattle.gen_forms.proofs.FaultLaws.{stand, all_cells}
+use Rattle.gen_sim.proofs.Lists.{all_dropped}
+use Rattle.gen_sim.specs.Items.{Item, size, past, AreWritten}
+use Rattle.gen_expr.proofs.FaultLaws.{stand, all_cells}
 use Rattle.gen_stmt.specs.Well.{AreWell, TableAt}
-use Rattle.gen_functions.specs.FunctionCode.{one_of, function_by, function_items}
+use Rattle.gen_program.specs.FunctionCode.{one_of, function_by, function_items}
 use Rattle.gen_program.specs.FileCode.{entry_of, program_items, code_of}
 use Rattle.gen_program.specs.Inner.{InnerAt}
 use Rattle.gen_program.proofs.FunctionWells.{written_of, program_well}

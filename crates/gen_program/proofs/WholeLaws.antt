@@ -14,16 +14,16 @@ use Rattle.amx_ops.specs.Runs as runs
 use Rattle.amx_ops.specs.Moves.{Config, move}
 use Rattle.gen_sim.specs.Does.{nothing}
 use Rattle.gen_sim.proofs.Sim.{stops, ends_one, in_turn, wider}
-use Rattle.gen_memory.specs.View.{kept, used}
-use Rattle.gen_memory.specs.Pieces.{total}
-use Rattle.gen_memory.specs.Stands.{Stands, With}
-use Rattle.gen_steps.specs.Site.{Site, Starts, DoesAt, scene_at}
-use Rattle.gen_steps.specs.Items.{item_cells, with}
-use Rattle.gen_steps.specs.Results.{SuitAll}
-use Rattle.gen_steps.specs.Code.{with_turns}
-use Rattle.gen_steps.proofs.StepLaws.{move_is, stray}
-use Rattle.gen_functions.specs.FunctionCode.{function_items, HasFunctions}
-use Rattle.gen_functions.proofs.FunctionNodes.{function_runs, calls_do}
+use Rattle.gen_sim.specs.View.{kept, used}
+use Rattle.gen_sim.specs.Pieces.{total}
+use Rattle.gen_sim.specs.Stands.{Stands, With}
+use Rattle.gen_sim.specs.Site.{Site, Starts, DoesAt, scene_at}
+use Rattle.gen_sim.specs.Items.{item_cells, with}
+use Rattle.gen_sim.specs.Results.{SuitAll}
+use Rattle.gen_sim.specs.Code.{with_turns}
+use Rattle.gen_sim.proofs.StepLaws.{move_is, stray}
+use Rattle.gen_program.specs.FunctionCode.{function_items, HasFunctions}
+use Rattle.gen_program.proofs.FunctionNodes.{function_runs, calls_do}
 use Rattle.gen_program.proofs.FirstLaws.{first_view, low_is}
 
 module _ (x : Site) (has : HasFunctions x) (first : fetched x.amx.code 0 ≡ Some (read_as (with op.Halt (pos 0))))

@@ -1,6 +1,6 @@
 -- What holds of the number of each call in some items.
 use Rattle.std.specs.Prelude.{ℕ, List, [], ◌∷◌}
-use Rattle.gen_steps.specs.Items.{Item, Plain, CallOf}
+use Rattle.gen_sim.specs.Items.{Item, Plain, CallOf}
 
 abbrev pub AreCalled : (ℕ → Type 0) → List Item → Type 0
 AreCalled C [] = Unit {0}

@@ -2,9 +2,9 @@
 use Rattle.std.specs.Prelude.{ℕ, zero, suc, ℤ, pos, List, [], ◌∷◌, ◌++◌}
 use Rattle.pawn_program.specs.Program.{Function, Program}
 use Rattle.amx_ops.specs.declared.op.Op.TheVariants as op
-use Rattle.gen_steps.specs.Items.{Item, cells_with, past}
-use Rattle.gen_nodes.specs.SimpleCode.{taking}
-use Rattle.gen_functions.specs.FunctionCode.{function_items}
+use Rattle.gen_sim.specs.Items.{Item, cells_with, past}
+use Rattle.gen_sim.specs.SimpleCode.{taking}
+use Rattle.gen_program.specs.FunctionCode.{function_items}
 
 -- one behind another
 abbrev pub functions_items : Program → ℕ → List Function → List Item

@@ -16,10 +16,10 @@ use Rattle.amx_ops.specs.Moves as machine
 use Rattle.amx_ops.specs.Trace.{trace_from}
 use Rattle.gen_agrees.specs.Agrees.{IsRoom}
 use Rattle.gen_agrees.specs.AgreesOn.{AgreesOn}
-use Rattle.gen_memory.specs.Pieces.{image, data_pieces}
-use Rattle.gen_steps.specs.Site.{Site}
-use Rattle.gen_steps.specs.Items.{item_cells, LieIn, with}
-use Rattle.gen_functions.specs.FunctionCode.{function_items}
+use Rattle.gen_sim.specs.Pieces.{image, data_pieces}
+use Rattle.gen_sim.specs.Site.{Site}
+use Rattle.gen_sim.specs.Items.{item_cells, LieIn, with}
+use Rattle.gen_program.specs.FunctionCode.{function_items}
 
 -- a file with its functions at these addresses, and all else of a run
 abbrev pub site_of : Program → Amx → (ℕ → ℕ) → Script → (room limit : ℕ) → Site

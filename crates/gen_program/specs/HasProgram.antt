@@ -9,7 +9,7 @@ use Rattle.amx_ops.specs.declared.amx.Amx.{Amx}
 use Rattle.amx_ops.specs.Writable.{IsWritable}
 use Rattle.gen_agrees.specs.Shape.{names, native_record}
 use Rattle.gen_agrees.specs.Agrees.{Agrees}
-use Rattle.gen_memory.specs.Pieces.{image, data_pieces}
+use Rattle.gen_sim.specs.Pieces.{image, data_pieces}
 use Rattle.gen_program.specs.FileCode.{code_of}
 use Rattle.gen_program.specs.CodeIsValid.{main_by, publics_of}
 

@@ -1,6 +1,6 @@
 -- Addresses in some items: where one of them starts, and not their end.
 use Rattle.std.specs.Prelude.{◌≡◌, ◌+◌, ◌*◌, ◌⊎◌, ℕ, List, [], ◌∷◌}
-use Rattle.gen_steps.specs.Items.{Item, size}
+use Rattle.gen_sim.specs.Items.{Item, size}
 use Rattle.gen_stmt.specs.Well.{TableAt}
 
 abbrev pub InnerAt : ℕ → List Item → ℕ → Type 0

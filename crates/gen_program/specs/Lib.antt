@@ -1,7 +1,10 @@
-pub mod FilesAgree
-pub mod FileCode
-pub mod Inner
+pub mod BodyCode
 pub mod Called
 pub mod CodeIsValid
+pub mod FileCode
 pub mod FileOf
+pub mod FilesAgree
+pub mod FunctionCode
 pub mod HasProgram
+pub mod Inner
+pub mod RouteCode

@@ -4,8 +4,8 @@ use Rattle.pawn_arrays.specs.Sizes.{sizes, inner_sizes, cell_count}
 use Rattle.pawn_arrays.specs.declared.shape.Shape.{Shape}
 use Rattle.pawn_program.specs.View.{slot_view}
 use Rattle.pawn_program.specs.declared.program.Slot.{Slot}
-use Rattle.gen_memory.proofs.LayoutLaws.{extent_is}
-use Rattle.gen_places.specs.PlaceItems.{cells_by}
+use Rattle.gen_sim.proofs.LayoutLaws.{extent_is}
+use Rattle.gen_sim.specs.PlaceItems.{cells_by}
 use Rattle.gen_emit.proofs.ViewedLaws as viewed
 
 pub shape_cells : (shape : Shape) → cell_count shape ≡ cells_by (sizes shape)

@@ -1,8 +1,8 @@
 -- Elements of a list that is written, or that has one more.
 use Rattle.std.proofs.Common.{◌≡◌, ◌+◌, ◌⊎◌, inl, inr, ℕ, zero, suc, List, [], ◌∷◌, ◌++◌, None, Some, length, slice_get, slice_set, refl, sym, ap, arith}
 use Rattle.std.specs.Prelude.{Any}
-use Rattle.gen_steps.specs.Fits.{AreOnce}
-use Rattle.gen_scopes.proofs.LocalScopes.{any_here, any_there, any_cases}
+use Rattle.gen_sim.specs.Fits.{AreOnce}
+use Rattle.gen_sim.proofs.LocalScopes.{any_here, any_there, any_cases}
 
 pub none_some : {A : Type 0} (x : A) → None ≡ Some x → ⊥
 none_some x e = cc

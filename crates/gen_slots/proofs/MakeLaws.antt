@@ -3,9 +3,9 @@ use Rattle.std.proofs.Common.{◌≡◌, ◌+◌, ◌*◌, ◌<◌, ◌≤◌, �
 use Rattle.std.proofs.lemmas.Bool.{cases_eq}
 use Rattle.std.specs.Prelude.{Any, neg_ℤ}
 use Rattle.pawn_program.specs.Program.{Slot}
-use Rattle.gen_places.specs.PlaceItems.{cells_by}
-use Rattle.gen_steps.specs.Fits.{own_sizes}
-use Rattle.gen_flow.specs.FlowCode.{made_cells}
+use Rattle.gen_sim.specs.PlaceItems.{cells_by}
+use Rattle.gen_sim.specs.Fits.{own_sizes}
+use Rattle.gen_sim.specs.FlowCode.{made_cells}
 use Rattle.gen_slots.specs.Keeps.{offset_in, HasFirst, AreOffsets, Keeps}
 use Rattle.gen_slots.specs.declared.locals.Locals.{Locals}
 use Rattle.gen_slots.proofs.ListLaws.{none_some, some_same, get_set_same, get_set_other, get_set_is, get_more, any_both, any_left, any_last, any_one, once_more}

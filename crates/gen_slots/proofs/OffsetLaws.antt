@@ -3,11 +3,11 @@ use Rattle.std.proofs.Common.{◌≡◌, ◌+◌, ◌*◌, ◌<◌, ◌≤◌, �
 use Rattle.std.proofs.lemmas.Bool.{eq-eqb, eqb-true, eqb-false, lt-ltb, le-ltb}
 use Rattle.std.specs.Prelude.{Any, neg_ℤ}
 use Rattle.pawn_program.specs.Program.{Slot}
-use Rattle.gen_places.specs.PlaceItems.{cells_by, cells_to}
-use Rattle.gen_steps.specs.Fits.{own_sizes}
-use Rattle.gen_scopes.proofs.LocalScopes.{any_here, any_there, any_cases}
-use Rattle.gen_flow.specs.FlowCode.{made_cells}
-use Rattle.gen_flow.proofs.MadeViews.{count_more}
+use Rattle.gen_sim.specs.PlaceItems.{cells_by, cells_to}
+use Rattle.gen_sim.specs.Fits.{own_sizes}
+use Rattle.gen_sim.proofs.LocalScopes.{any_here, any_there, any_cases}
+use Rattle.gen_sim.specs.FlowCode.{made_cells}
+use Rattle.gen_sim.proofs.MadeViews.{count_more}
 use Rattle.gen_slots.specs.Keeps.{offset_in}
 
 abbrev own : List Slot → ℕ → ℕ

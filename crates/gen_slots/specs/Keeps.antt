@@ -3,9 +3,9 @@ use Rattle.std.specs.Prelude.{◌≡◌, ◌+◌, ◌*◌, ◌<◌, ◌⊎◌, �
 use Rattle.pawn_program.specs.Program.{Slot}
 use Rattle.pawn_program.specs.Scope.{Scope}
 use Rattle.pawn_program.specs.View.{program_view, slot_view}
-use Rattle.gen_places.specs.PlaceItems.{object_address, cells_to}
-use Rattle.gen_steps.specs.Fits.{AreOnce}
-use Rattle.gen_flow.specs.FlowCode.{made_cells}
+use Rattle.gen_sim.specs.PlaceItems.{object_address, cells_to}
+use Rattle.gen_sim.specs.Fits.{AreOnce}
+use Rattle.gen_sim.specs.FlowCode.{made_cells}
 use Rattle.gen_slots.specs.declared.locals.Locals.{Locals}
 use Rattle.gen_slots.specs.declared.place.Place.{Place}
 

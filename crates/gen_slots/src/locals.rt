@@ -2,7 +2,7 @@ ghost use Rattle.std.specs.Prelude.{◌≡◌, ◌≤◌, ◌+◌, ◌-◌, ◌*
 ghost use Rattle.std.specs.Prelude.{None, Some, length, take, IfOk, map, slice_get};
 ghost use Rattle.pawn_program.specs.Program.{Slot as PlainSlot};
 ghost use Rattle.pawn_program.specs.View.{slot_view};
-ghost use Rattle.gen_flow.specs.FlowCode.{made_cells};
+ghost use Rattle.gen_sim.specs.FlowCode.{made_cells};
 ghost use Rattle.gen_emit.specs.Standing.{scope_of, Serves};
 ghost use Rattle.gen_slots.specs.Keeps.{AreOffsets, Keeps, AreObjects};
 ghost use Rattle.gen_slots.specs.Keeps.{scope_in, HasFirst, Without};

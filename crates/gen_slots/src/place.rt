@@ -1,8 +1,8 @@
 ghost use Rattle.std.specs.Prelude.{◌≡◌, IfOk, map, slice_get};
 ghost use Rattle.pawn_arrays.specs.Sizes.{sizes};
 ghost use Rattle.pawn_program.specs.View.{slot_view};
-ghost use Rattle.gen_steps.specs.Fits.{own_sizes};
-ghost use Rattle.gen_places.specs.PlaceItems.{cells_by};
+ghost use Rattle.gen_sim.specs.Fits.{own_sizes};
+ghost use Rattle.gen_sim.specs.PlaceItems.{cells_by};
 
 use pawn_arrays::{Shape, cells};
 use pawn_base::Memory;

@@ -7,10 +7,10 @@ use Rattle.pawn_program.specs.View.{stmt_view, cases_view}
 use Rattle.pawn_program.specs.declared.node.Case.{Case}
 use Rattle.pawn_meaning.specs.Weight.{values_in}
 use Rattle.amx_ops.specs.declared.op.Op.TheVariants as op
-use Rattle.gen_steps.specs.Items.{Item, past}
-use Rattle.gen_steps.proofs.ItemLaws.{past-append}
-use Rattle.gen_nodes.specs.JumpCode.{jump_to}
-use Rattle.gen_flow.specs.Here.{Exits, Here}
+use Rattle.gen_sim.specs.Items.{Item, past}
+use Rattle.gen_sim.proofs.ItemLaws.{past-append}
+use Rattle.gen_sim.specs.JumpCode.{jump_to}
+use Rattle.gen_sim.specs.Here.{Exits, Here}
 use Rattle.gen_stmt.specs.SwitchCode.{values_from, ranges_table, case_code}
 use Rattle.gen_stmt.specs.StmtCode.{stmt_items, cases_items, cases_table}
 use Rattle.gen_builder.specs.Built.{with_items}

@@ -2,8 +2,8 @@
 use Rattle.std.proofs.Common.{◌≡◌, ◌-◌, ◌*◌, ◌<◌, ℕ, zero, suc, ℤ, pos, List, [], ◌∷◌, drop, length, refl, sym, ap, ◌∙◌, arith}
 use Rattle.pawn_program.specs.Program.{Slot}
 use Rattle.amx_ops.specs.declared.op.Op.TheVariants as op
-use Rattle.gen_nodes.specs.SimpleCode.{taking}
-use Rattle.gen_flow.specs.FlowCode.{made_cells, leave_code}
+use Rattle.gen_sim.specs.SimpleCode.{taking}
+use Rattle.gen_sim.specs.FlowCode.{made_cells, leave_code}
 use Rattle.gen_builder.specs.Built.{with_items}
 use Rattle.gen_draft.specs.declared.draft.Draft.{Draft}
 use Rattle.gen_draft.specs.Grown.{Grown}

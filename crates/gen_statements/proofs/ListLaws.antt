@@ -6,8 +6,8 @@ use Rattle.pawn_program.specs.Program.{no_stmts, then_stmt}
 use Rattle.pawn_program.specs.View.{stmt_view, stmts_view}
 use Rattle.pawn_program.specs.ValidStmts.{slots_made, slots_made_by}
 use Rattle.pawn_program.specs.declared.node.Stmt.{Stmt}
-use Rattle.gen_steps.specs.Items.{Item}
-use Rattle.gen_flow.specs.Here.{Exits, behind}
+use Rattle.gen_sim.specs.Items.{Item}
+use Rattle.gen_sim.specs.Here.{Exits, behind}
 use Rattle.gen_stmt.specs.StmtCode.{stmt_items, stmts_items}
 use Rattle.gen_draft.specs.declared.draft.Draft.{Draft}
 use Rattle.gen_draft.specs.Grown.{Grown}

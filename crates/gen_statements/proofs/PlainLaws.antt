@@ -2,10 +2,10 @@
 use Rattle.std.proofs.Common.{◌≡◌, ◌+◌, ◌*◌, ℕ, ℤ, pos, List, [], ◌∷◌, ◌++◌, length, ap, ◌∙◌, arith}
 use Rattle.std.specs.Prelude.{neg_ℤ}
 use Rattle.amx_ops.specs.declared.op.Op.TheVariants as op
-use Rattle.gen_steps.specs.Items.{Item}
-use Rattle.gen_nodes.specs.SimpleCode.{alone, taking}
-use Rattle.gen_nodes.specs.JumpCode.{jump_to, choice_code, cond_code}
-use Rattle.gen_flow.specs.FlowCode.{assert_code}
+use Rattle.gen_sim.specs.Items.{Item}
+use Rattle.gen_sim.specs.SimpleCode.{alone, taking}
+use Rattle.gen_sim.specs.JumpCode.{jump_to, choice_code, cond_code}
+use Rattle.gen_sim.specs.FlowCode.{assert_code}
 use Rattle.gen_stmt.specs.MadeCode.{taken_code}
 use Rattle.gen_builder.specs.Built.{Built, with_items}
 use Rattle.gen_emit.specs.Filled.{filled}

@@ -3,9 +3,9 @@ use Rattle.std.proofs.Common.{◌≡◌, ◌+◌, ◌-◌, ◌≤◌, ℕ, List,
 use Rattle.std.proofs.lemmas.List.{take-append-le, drop-append-le, take_all, drop_all, take-append-drop, drop_at, take_at}
 use Rattle.pawn_program.specs.Program.{Slot}
 use Rattle.pawn_program.specs.View.{slot_view}
-use Rattle.gen_flow.specs.Here.{Exits, behind}
-use Rattle.gen_flow.specs.FlowCode.{made_cells}
-use Rattle.gen_flow.proofs.MadeViews.{count_more}
+use Rattle.gen_sim.specs.Here.{Exits, behind}
+use Rattle.gen_sim.specs.FlowCode.{made_cells}
+use Rattle.gen_sim.proofs.MadeViews.{count_more}
 use Rattle.gen_slots.specs.Keeps.{Keeps, scope_in}
 use Rattle.gen_slots.specs.declared.locals.Locals.{Locals}
 use Rattle.gen_slots.specs.declared.locals.Mark.{Mark}

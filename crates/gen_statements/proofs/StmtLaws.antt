@@ -4,11 +4,11 @@ use Rattle.pawn_program.specs.Program.{Expr, Stmt, Stmts, Perhaps}
 use Rattle.pawn_program.specs.View.{slot_view}
 use Rattle.pawn_program.specs.ValidStmts.{slots_made_by}
 use Rattle.amx_ops.specs.declared.op.Op.TheVariants as op
-use Rattle.gen_steps.specs.Items.{Item, past}
-use Rattle.gen_nodes.specs.SimpleCode.{alone, taking}
-use Rattle.gen_nodes.specs.JumpCode.{jump_to, other_at, choice_code}
-use Rattle.gen_flow.specs.Here.{Exits}
-use Rattle.gen_flow.specs.FlowCode.{leave_code}
+use Rattle.gen_sim.specs.Items.{Item, past}
+use Rattle.gen_sim.specs.SimpleCode.{alone, taking}
+use Rattle.gen_sim.specs.JumpCode.{jump_to, other_at, choice_code}
+use Rattle.gen_sim.specs.Here.{Exits}
+use Rattle.gen_sim.specs.FlowCode.{leave_code}
 use Rattle.gen_expr.specs.ExprCode.{value_items}
 use Rattle.gen_stmt.specs.ClosedCode.{closed_if, closed_loop, closed_until}
 use Rattle.gen_stmt.specs.StmtCode.{condition_items, step_items, stmt_items, stmts_items, for_items}

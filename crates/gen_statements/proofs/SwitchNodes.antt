@@ -1,8 +1,8 @@
 -- A switch, by what its parts appended.
 use Rattle.std.proofs.Common.{◌≡◌, ◌+◌, ◌*◌, ℕ, ℤ, List, [], ◌∷◌, ◌++◌, length, refl, ap, arith, length-append, Result, Ok, Err, IfOk}
 use Rattle.pawn_program.specs.Program.{Cases, no_cases, then_case, Else}
-use Rattle.gen_steps.specs.Items.{Item, past}
-use Rattle.gen_flow.specs.Here.{Exits, Here}
+use Rattle.gen_sim.specs.Items.{Item, past}
+use Rattle.gen_sim.specs.Here.{Exits, Here}
 use Rattle.gen_stmt.specs.SwitchCode.{cases_values, cases_at, table_code}
 use Rattle.gen_stmt.specs.ClosedCode.{closed_switch}
 use Rattle.gen_stmt.specs.StmtCode.{else_items, cases_items, cases_table}

@@ -1,7 +1,7 @@
 -- Cases that were appended to a draft, whose jumps to the end are led and whose table is written when that is known.
 use Rattle.std.specs.Prelude.{◌≡◌, ◌+◌, ◌*◌, ℕ, pos, List, ◌∷◌, length}
 use Rattle.pawn_program.specs.Program.{Cases, no_cases, then_case}
-use Rattle.gen_flow.specs.Here.{Exits}
+use Rattle.gen_sim.specs.Here.{Exits}
 use Rattle.gen_stmt.specs.StmtCode.{cases_items, cases_table}
 use Rattle.gen_builder.specs.Built.{with_items}
 use Rattle.gen_case_tables.specs.Over.{over, cases_pairs}

@@ -1,7 +1,7 @@
 -- What stands behind a loop's parts, with its body's jumps led to its exits.
 use Rattle.std.specs.Prelude.{◌+◌, ◌*◌, ℕ, ℤ, pos, List, [], ◌∷◌, length}
 use Rattle.amx_ops.specs.declared.op.Op.TheVariants as op
-use Rattle.gen_nodes.specs.SimpleCode.{taking}
+use Rattle.gen_sim.specs.SimpleCode.{taking}
 use Rattle.gen_builder.specs.Built.{Built, with_items}
 use Rattle.gen_emit.specs.Filled.{filled}
 use Rattle.gen_draft.specs.declared.draft.Hole.{Hole}

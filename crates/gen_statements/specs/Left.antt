@@ -1,8 +1,8 @@
 -- So many locals leave the stack, which take so many cells.
 use Rattle.std.specs.Prelude.{◌*◌, ℕ, zero, suc, pos, List, [], ◌∷◌}
 use Rattle.amx_ops.specs.declared.op.Op.TheVariants as op
-use Rattle.gen_steps.specs.Items.{Item}
-use Rattle.gen_nodes.specs.SimpleCode.{taking}
+use Rattle.gen_sim.specs.Items.{Item}
+use Rattle.gen_sim.specs.SimpleCode.{taking}
 
 abbrev pub left_code : (count cells : ℕ) → List Item
 left_code zero cells = []

@@ -2,9 +2,9 @@
 use Rattle.std.specs.Prelude.{◌≡◌, ◌≤◌, ℕ, List, [], drop, length, map, take}
 use Rattle.pawn_program.specs.Program.{Slot}
 use Rattle.pawn_program.specs.View.{program_view, slot_view}
-use Rattle.gen_memory.specs.Pieces.{total, objects_from}
-use Rattle.gen_flow.specs.Here.{Exits, Here}
-use Rattle.gen_flow.specs.FlowCode.{made_cells}
+use Rattle.gen_sim.specs.Pieces.{total, objects_from}
+use Rattle.gen_sim.specs.Here.{Exits, Here}
+use Rattle.gen_sim.specs.FlowCode.{made_cells}
 use Rattle.gen_slots.specs.Keeps.{Keeps, AreObjects, scope_in}
 use Rattle.gen_slots.specs.declared.locals.Locals.{Locals}
 use Rattle.gen_slots.specs.declared.locals.Mark.{Mark}

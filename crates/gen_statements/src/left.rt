@@ -1,7 +1,7 @@
 ghost use Rattle.std.specs.Prelude.{◌≡◌, ◌++◌, [], ◌∷◌, drop, map, take, IfOk};
 ghost use Rattle.pawn_program.specs.View.{slot_view};
-ghost use Rattle.gen_nodes.specs.JumpCode.{jump_to};
-ghost use Rattle.gen_flow.specs.FlowCode.{leave_code};
+ghost use Rattle.gen_sim.specs.JumpCode.{jump_to};
+ghost use Rattle.gen_sim.specs.FlowCode.{leave_code};
 ghost use Rattle.gen_draft.specs.Grown.{Grown};
 ghost use Rattle.gen_draft.specs.Led.{exit_at};
 ghost use Rattle.gen_statements.specs.Left.{left_code};

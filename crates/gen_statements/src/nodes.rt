@@ -1,10 +1,10 @@
 ghost use Rattle.std.specs.Prelude.{◌≡◌, ◌+◌, ◌*◌, ◌++◌, [], ◌∷◌, pos, neg_ℤ, length, IfOk};
 ghost use Rattle.pawn_cells.specs.Cells.{cell_of as bits_as_cell};
 ghost use Rattle.pawn_program.specs.View.{expr_view, perhaps_view};
-ghost use Rattle.gen_nodes.specs.SimpleCode.{alone, taking};
-ghost use Rattle.gen_places.specs.PlaceItems.{object_code};
+ghost use Rattle.gen_sim.specs.SimpleCode.{alone, taking};
+ghost use Rattle.gen_sim.specs.PlaceItems.{object_code};
 ghost use Rattle.gen_expr.specs.ExprCode.{value_items};
-ghost use Rattle.gen_flow.specs.FlowCode.{leave_code, local_code, assert_code};
+ghost use Rattle.gen_sim.specs.FlowCode.{leave_code, local_code, assert_code};
 ghost use Rattle.gen_stmt.specs.MadeCode.{local_array_code};
 ghost use Rattle.gen_stmt.specs.StmtCode.{condition_items, step_items};
 ghost use Rattle.gen_builder.specs.Built.{with_items};

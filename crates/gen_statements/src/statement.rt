@@ -3,7 +3,7 @@ ghost use Rattle.pawn_program.specs.View.{expr_view, perhaps_view, stmt_view, st
 ghost use Rattle.pawn_program.specs.View.{cases_view, else_view};
 ghost use Rattle.pawn_program.specs.Program.{While, DoWhile};
 ghost use Rattle.pawn_program.specs.ValidStmts.{slots_made, slots_made_by};
-ghost use Rattle.gen_nodes.specs.JumpCode.{jump_to, other_at};
+ghost use Rattle.gen_sim.specs.JumpCode.{jump_to, other_at};
 ghost use Rattle.gen_stmt.specs.StmtCode.{stmt_items, stmts_items, else_items, for_items};
 ghost use Rattle.gen_draft.specs.Grown.{IsDraft, Grown};
 ghost use Rattle.gen_draft.specs.Led.{AreOthers};

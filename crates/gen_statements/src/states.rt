@@ -1,10 +1,10 @@
 ghost use Rattle.std.specs.Prelude.{◌≡◌, ◌*◌, [], ◌∷◌, pos, length, IfOk};
 ghost use Rattle.pawn_program.specs.View.{perhaps_view, program_view};
-ghost use Rattle.gen_memory.specs.Pieces.{total, objects_from};
-ghost use Rattle.gen_steps.specs.Items.{CallOf};
-ghost use Rattle.gen_nodes.specs.SimpleCode.{taking};
-ghost use Rattle.gen_nodes.specs.JumpCode.{choice_code};
-ghost use Rattle.gen_states.specs.StateCode.{enter_code, switched_code, state_code};
+ghost use Rattle.gen_sim.specs.Pieces.{total, objects_from};
+ghost use Rattle.gen_sim.specs.Items.{CallOf};
+ghost use Rattle.gen_sim.specs.SimpleCode.{taking};
+ghost use Rattle.gen_sim.specs.JumpCode.{choice_code};
+ghost use Rattle.gen_sim.specs.StateCode.{enter_code, switched_code, state_code};
 ghost use Rattle.gen_stmt.specs.StmtCode.{condition_items};
 ghost use Rattle.gen_builder.specs.Built.{with_items};
 ghost use Rattle.gen_draft.specs.Grown.{Grown};

@@ -16,27 +16,27 @@ use Rattle.pawn_meaning.proofs.Grows.{give_grows, after_grows, change_grows}
 use Rattle.host_script.specs.declared.event.End.TheVariants as end_of
 use Rattle.amx_ops.specs.declared.op.Op.TheVariants as op
 use Rattle.amx_ops.specs.Moves.{Config}
-use Rattle.gen_memory.specs.Pieces.{Thing, HasSized, IsSized, object_cells, extent, vectors, total}
-use Rattle.gen_memory.specs.View.{View, kept, used, low}
-use Rattle.gen_memory.specs.Next.{with_local}
-use Rattle.gen_memory.specs.Stands.{Stands}
-use Rattle.gen_memory.proofs.LayoutLaws.{extent_is}
-use Rattle.gen_memory.proofs.DataLaws.{object_first}
-use Rattle.gen_memory.proofs.MemLaws.{mem_there}
-use Rattle.gen_steps.specs.Site.{Site, DoesAt}
-use Rattle.gen_steps.specs.Items.{Item, item_cells, with}
-use Rattle.gen_steps.specs.Fits.{own_sizes, Fits}
-use Rattle.gen_steps.proofs.CallLaws.{small_cell}
-use Rattle.gen_steps.proofs.StepLaws.{given, stray}
-use Rattle.gen_nodes.specs.Lies.{Lies}
-use Rattle.gen_nodes.specs.SimpleCode.{alone, taking}
-use Rattle.gen_nodes.proofs.ItemSteps.{one_item, next_lies, item_sets}
-use Rattle.gen_places.specs.PlaceItems.{object_address, object_code}
-use Rattle.gen_places.proofs.PlaceNodes.{object_placed, object_address_is}
-use Rattle.gen_locals.proofs.MadeLaws.{made_stands}
-use Rattle.gen_flow.specs.Here.{Here}
-use Rattle.gen_flow.specs.Ways.{made_view, Left}
-use Rattle.gen_flow.specs.Flow.{StmtCode}
+use Rattle.gen_sim.specs.Pieces.{Thing, HasSized, IsSized, object_cells, extent, vectors, total}
+use Rattle.gen_sim.specs.View.{View, kept, used, low}
+use Rattle.gen_sim.specs.Next.{with_local}
+use Rattle.gen_sim.specs.Stands.{Stands}
+use Rattle.gen_sim.proofs.LayoutLaws.{extent_is}
+use Rattle.gen_sim.proofs.DataLaws.{object_first}
+use Rattle.gen_sim.proofs.MemLaws.{mem_there}
+use Rattle.gen_sim.specs.Site.{Site, DoesAt}
+use Rattle.gen_sim.specs.Items.{Item, item_cells, with}
+use Rattle.gen_sim.specs.Fits.{own_sizes, Fits}
+use Rattle.gen_sim.proofs.CallLaws.{small_cell}
+use Rattle.gen_sim.proofs.StepLaws.{given, stray}
+use Rattle.gen_sim.specs.Lies.{Lies}
+use Rattle.gen_sim.specs.SimpleCode.{alone, taking}
+use Rattle.gen_sim.proofs.ItemSteps.{one_item, next_lies, item_sets}
+use Rattle.gen_sim.specs.PlaceItems.{object_address, object_code}
+use Rattle.gen_sim.proofs.PlaceNodes.{object_placed, object_address_is}
+use Rattle.gen_sim.proofs.MadeLaws.{made_stands}
+use Rattle.gen_sim.specs.Here.{Here}
+use Rattle.gen_sim.specs.Ways.{made_view, Left}
+use Rattle.gen_sim.specs.Flow.{StmtCode}
 use Rattle.gen_stmt.specs.MadeCode.{array_cells, local_array_code}
 use Rattle.gen_stmt.proofs.TakenLaws.{takes}
 use Rattle.gen_stmt.proofs.FilledLaws.{fills}

@@ -3,13 +3,13 @@ use Rattle.std.proofs.Common.{◌≡◌, ◌+◌, ◌*◌, ℕ, ℤ, pos, List, 
 use Rattle.pawn_program.specs.Program.{Stmt, Block, Local, LocalArray, Do, If, While, DoWhile, For, Switch, Return, Break, Continue, Exit, Sleep, Assert, State, Empty, Else, no_else, otherwise, Cases, no_cases, then_case, Stmts, no_stmts, then_stmt}
 use Rattle.pawn_program.specs.ValidStmts.{slots_made, slots_made_by}
 use Rattle.amx_ops.specs.declared.op.Op.TheVariants as op
-use Rattle.gen_steps.specs.Items.{Item, size, past}
-use Rattle.gen_steps.proofs.ItemLaws.{past-append}
-use Rattle.gen_nodes.specs.JumpCode.{jump_to, other_at, end_at, choice_code}
+use Rattle.gen_sim.specs.Items.{Item, size, past}
+use Rattle.gen_sim.proofs.ItemLaws.{past-append}
+use Rattle.gen_sim.specs.JumpCode.{jump_to, other_at, end_at, choice_code}
 use Rattle.gen_expr.specs.ExprCode.{value_items}
-use Rattle.gen_flow.specs.Here.{Exits, Here, behind, within}
-use Rattle.gen_flow.specs.FlowCode.{leave_code}
-use Rattle.gen_loops.specs.LoopCode.{body_at, test_at, loop_exits, until_exits}
+use Rattle.gen_sim.specs.Here.{Exits, Here, behind, within}
+use Rattle.gen_sim.specs.FlowCode.{leave_code}
+use Rattle.gen_sim.specs.LoopCode.{body_at, test_at, loop_exits, until_exits}
 use Rattle.gen_stmt.specs.SwitchCode.{ranges_table, cases_values, table_item, cases_at, case_code, table_code}
 use Rattle.gen_stmt.proofs.TableLaws.{length_ranges}
 use Rattle.gen_stmt.specs.ClosedCode.{closed_switch}

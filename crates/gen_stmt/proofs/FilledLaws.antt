@@ -12,19 +12,19 @@ use Rattle.amx_ops.specs.Written.{read_as}
 use Rattle.amx_ops.specs.State.{State, stp}
 use Rattle.amx_ops.specs.Access.{are_live}
 use Rattle.amx_ops.specs.Moves.{Config}
-use Rattle.gen_memory.specs.Pieces.{Piece, Thing, AreThere, cells_in, image, extent, total}
-use Rattle.gen_memory.specs.Mem.{row, Mem}
-use Rattle.gen_memory.specs.View.{View, PlacedIn, all_cells, low}
-use Rattle.gen_memory.specs.Stands.{Stands}
-use Rattle.gen_memory.proofs.Lists.{all_dropped, put-after, put-before, put_fits}
-use Rattle.gen_memory.proofs.PieceLaws.{length_cells, length_image}
-use Rattle.gen_memory.proofs.MemLaws.{placed_inside, count_cells, mem_holds, mem_there}
-use Rattle.gen_memory.proofs.ChangeLaws.{there_low, there_high, there_row, image_row}
-use Rattle.gen_steps.specs.Site.{Site, DoesAt}
-use Rattle.gen_steps.specs.Items.{with}
-use Rattle.gen_steps.proofs.MoveLaws.{moved_cells}
-use Rattle.gen_steps.proofs.CopyLaws.{part_live}
-use Rattle.gen_steps.proofs.StepLaws.{goes}
+use Rattle.gen_sim.specs.Pieces.{Piece, Thing, AreThere, cells_in, image, extent, total}
+use Rattle.gen_sim.specs.Mem.{row, Mem}
+use Rattle.gen_sim.specs.View.{View, PlacedIn, all_cells, low}
+use Rattle.gen_sim.specs.Stands.{Stands}
+use Rattle.gen_sim.proofs.Lists.{all_dropped, put-after, put-before, put_fits}
+use Rattle.gen_sim.proofs.PieceLaws.{length_cells, length_image}
+use Rattle.gen_sim.proofs.MemLaws.{placed_inside, count_cells, mem_holds, mem_there}
+use Rattle.gen_sim.proofs.ChangeLaws.{there_low, there_high, there_row, image_row}
+use Rattle.gen_sim.specs.Site.{Site, DoesAt}
+use Rattle.gen_sim.specs.Items.{with}
+use Rattle.gen_sim.proofs.MoveLaws.{moved_cells}
+use Rattle.gen_sim.proofs.CopyLaws.{part_live}
+use Rattle.gen_sim.proofs.StepLaws.{goes}
 
 third_of : (a b c d : Bool) → c ≡ true → (a || b || c || d) ≡ true
 third_of true b c d e = refl

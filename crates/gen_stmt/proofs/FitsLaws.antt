@@ -3,9 +3,9 @@ use Rattle.std.proofs.Common.{◌≡◌, ◌+◌, ◌≤◌, ◌⊎◌, inl, inr
 use Rattle.pawn_program.specs.Program.{Stmt}
 use Rattle.pawn_program.specs.ValidStmts.{IsValidStmt}
 use Rattle.pawn_meaning.specs.Weight.{stmt_weight, never}
-use Rattle.gen_steps.specs.Items.{item_cells}
-use Rattle.gen_forms.specs.Fine.{StartsAt}
-use Rattle.gen_flow.specs.Here.{Here}
+use Rattle.gen_sim.specs.Items.{item_cells}
+use Rattle.gen_expr.specs.Fine.{StartsAt}
+use Rattle.gen_sim.specs.Here.{Here}
 use Rattle.gen_stmt.specs.StmtCode.{stmt_items}
 use Rattle.gen_stmt.specs.StmtFits.{IsExit}
 use Rattle.gen_stmt.specs.Well.{AreWell, TableAt}

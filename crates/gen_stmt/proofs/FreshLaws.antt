@@ -8,9 +8,9 @@ use Rattle.pawn_program.specs.Valid.{AreSizes, IsSlot, IsValidAutomaton}
 use Rattle.pawn_program.specs.ValidExprs.{Takes}
 use Rattle.pawn_program.specs.ValidStmts.{slots_made, slots_made_by, all_slots_made, all_slots_made_by, IsValidStmt, IsLocalArray, IsStateOf}
 use Rattle.pawn_meaning.specs.Calls.{serves, enter_of, entry_for}
-use Rattle.gen_steps.specs.Fits.{AreOnce}
-use Rattle.gen_scopes.proofs.LocalScopes.{any_here, any_there, any_cases}
-use Rattle.gen_states.specs.StateCode.{entry_of}
+use Rattle.gen_sim.specs.Fits.{AreOnce}
+use Rattle.gen_sim.proofs.LocalScopes.{any_here, any_there, any_cases}
+use Rattle.gen_sim.specs.StateCode.{entry_of}
 use Rattle.gen_stmt.specs.Fresh.{Fresh, Ready}
 
 -- ---- some element of two lists

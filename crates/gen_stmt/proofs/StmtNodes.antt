@@ -4,21 +4,21 @@ use Rattle.pawn_program.specs.Program.{Expr, Perhaps, Absent, Present, Stmt, Blo
 use Rattle.pawn_program.specs.Scope.{Scope}
 use Rattle.pawn_program.specs.ValidExprs.{IsValidPerhaps}
 use Rattle.pawn_program.specs.ValidStmts.{slots_made, slots_made_by, all_slots_made, all_slots_made_else, all_slots_made_in, all_slots_made_by, IsValidStmt, IsValidElse, AreValidCases, AreValidStmts}
-use Rattle.gen_steps.specs.Items.{Item, past}
-use Rattle.gen_steps.specs.Contract.{ValueCode}
-use Rattle.gen_nodes.specs.JumpCode.{other_at}
+use Rattle.gen_sim.specs.Items.{Item, past}
+use Rattle.gen_sim.specs.Contract.{ValueCode}
+use Rattle.gen_sim.specs.JumpCode.{other_at}
 use Rattle.gen_expr.specs.ExprCode.{value_items}
 use Rattle.gen_expr.proofs.ExprNodes.{value_does}
-use Rattle.gen_flow.specs.Here.{Exits, Here, behind, within}
-use Rattle.gen_flow.specs.FlowCode.{leave_code}
-use Rattle.gen_flow.specs.Flow.{StmtCode, StmtsCode, ElseCode, ConditionCode, PerhapsCode}
-use Rattle.gen_flow.proofs.FlowNodes.{empty_does, do_does, local_node_does, no_stmts_does, then_stmt_does, no_else_does, otherwise_does, if_does, exit_node_does, assert_does}
-use Rattle.gen_flow.proofs.LeaveNodes.{block_does, break_does, continue_does, return_does}
-use Rattle.gen_loops.specs.LoopCode.{body_at, step_at, loop_exits, test_at, until_exits}
-use Rattle.gen_loops.proofs.LoopNodes.{while_does, for_does}
-use Rattle.gen_loops.proofs.UntilNodes.{do_while_does, absent_condition, present_condition, absent_step, present_step}
-use Rattle.gen_states.proofs.StateNodes.{state_does}
-use Rattle.gen_states.proofs.SleepNodes.{sleep_node_does}
+use Rattle.gen_sim.specs.Here.{Exits, Here, behind, within}
+use Rattle.gen_sim.specs.FlowCode.{leave_code}
+use Rattle.gen_sim.specs.Flow.{StmtCode, StmtsCode, ElseCode, ConditionCode, PerhapsCode}
+use Rattle.gen_sim.proofs.FlowNodes.{empty_does, do_does, local_node_does, no_stmts_does, then_stmt_does, no_else_does, otherwise_does, if_does, exit_node_does, assert_does}
+use Rattle.gen_sim.proofs.LeaveNodes.{block_does, break_does, continue_does, return_does}
+use Rattle.gen_sim.specs.LoopCode.{body_at, step_at, loop_exits, test_at, until_exits}
+use Rattle.gen_sim.proofs.LoopNodes.{while_does, for_does}
+use Rattle.gen_sim.proofs.UntilNodes.{do_while_does, absent_condition, present_condition, absent_step, present_step}
+use Rattle.gen_sim.proofs.StateNodes.{state_does}
+use Rattle.gen_sim.proofs.SleepNodes.{sleep_node_does}
 use Rattle.gen_stmt.proofs.ArrayNodes.{local_array_does}
 use Rattle.gen_stmt.specs.SwitchCode.{ranges_table, cases_at, switch_code}
 use Rattle.gen_stmt.specs.SwitchFlow.{CasesCode}

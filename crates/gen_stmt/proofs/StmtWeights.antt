@@ -8,18 +8,18 @@ use Rattle.pawn_program.specs.ValidStmts.{slots_made, slots_made_by}
 use Rattle.pawn_meaning.specs.Weight.{perhaps_weight, stmt_weight, else_weight, cases_weight, stmts_weight, ranges_weight, values_in, never}
 use Rattle.amx_ops.specs.declared.op.Op.TheVariants as op
 use Rattle.amx_ops.specs.Written.{cells_of}
-use Rattle.gen_steps.specs.Items.{Item, appended, item_cells, past}
-use Rattle.gen_steps.proofs.ItemLaws.{count-append}
-use Rattle.gen_nodes.specs.SimpleCode.{alone, taking}
-use Rattle.gen_nodes.specs.JumpCode.{jump_to, other_at, choice_code}
+use Rattle.gen_sim.specs.Items.{Item, appended, item_cells, past}
+use Rattle.gen_sim.proofs.ItemLaws.{count-append}
+use Rattle.gen_sim.specs.SimpleCode.{alone, taking}
+use Rattle.gen_sim.specs.JumpCode.{jump_to, other_at, choice_code}
 use Rattle.gen_expr.specs.ExprCode.{value_items}
-use Rattle.gen_flow.specs.Here.{Here, behind, within}
-use Rattle.gen_flow.specs.FlowCode.{leave_code}
-use Rattle.gen_loops.specs.LoopCode.{body_at, step_at, loop_end, loop_exits, loop_code, test_at, until_end, until_exits, until_code}
-use Rattle.gen_states.specs.StateCode.{entry_of, enter_code, switched_code}
+use Rattle.gen_sim.specs.Here.{Here, behind, within}
+use Rattle.gen_sim.specs.FlowCode.{leave_code}
+use Rattle.gen_sim.specs.LoopCode.{body_at, step_at, loop_end, loop_exits, loop_code, test_at, until_end, until_exits, until_code}
+use Rattle.gen_sim.specs.StateCode.{entry_of, enter_code, switched_code}
 use Rattle.gen_stmt.specs.SwitchCode.{values_of, cases_values, table_item, cases_at, table_code}
-use Rattle.gen_forms.proofs.Counts.{count, choice_count}
-use Rattle.gen_forms.proofs.WeightLaws.{value_light}
+use Rattle.gen_expr.proofs.Counts.{count, choice_count}
+use Rattle.gen_expr.proofs.WeightLaws.{value_light}
 use Rattle.gen_stmt.specs.ClosedCode.{unknown}
 use Rattle.gen_stmt.specs.StmtCode.{condition_items, step_items, stmt_items, for_items, else_items, cases_items, cases_table, stmts_items}
 use Rattle.gen_stmt.proofs.EndLaws.{length_table}

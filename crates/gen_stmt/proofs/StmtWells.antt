@@ -6,22 +6,22 @@ use Rattle.pawn_program.specs.Scope.{Scope}
 use Rattle.pawn_program.specs.ValidExprs.{IsValidExpr, IsValidPerhaps}
 use Rattle.pawn_program.specs.ValidStmts.{slots_made, slots_made_by, IsValidStmt, IsValidElse, AreValidCases, AreValidStmts}
 use Rattle.amx_ops.specs.declared.op.Op.TheVariants as op
-use Rattle.gen_steps.specs.Items.{Item, past}
-use Rattle.gen_nodes.specs.SimpleCode.{alone, taking, const_code}
-use Rattle.gen_nodes.specs.JumpCode.{jump_to, other_at, choice_code}
-use Rattle.gen_places.specs.PlaceItems.{object_address}
+use Rattle.gen_sim.specs.Items.{Item, past}
+use Rattle.gen_sim.specs.SimpleCode.{alone, taking, const_code}
+use Rattle.gen_sim.specs.JumpCode.{jump_to, other_at, choice_code}
+use Rattle.gen_sim.specs.PlaceItems.{object_address}
 use Rattle.gen_expr.specs.ExprCode.{value_items}
-use Rattle.gen_flow.specs.Here.{Exits, Here, behind, within}
-use Rattle.gen_flow.specs.FlowCode.{leave_code}
-use Rattle.gen_loops.specs.LoopCode.{body_at, step_at, loop_exits, test_at, until_exits}
-use Rattle.gen_states.specs.StateCode.{entry_of, automaton_cell, enter_code, switched_code}
+use Rattle.gen_sim.specs.Here.{Exits, Here, behind, within}
+use Rattle.gen_sim.specs.FlowCode.{leave_code}
+use Rattle.gen_sim.specs.LoopCode.{body_at, step_at, loop_exits, test_at, until_exits}
+use Rattle.gen_sim.specs.StateCode.{entry_of, automaton_cell, enter_code, switched_code}
 use Rattle.gen_stmt.specs.MadeCode.{array_cells}
 use Rattle.gen_stmt.specs.SwitchCode.{cases_at, case_code, table_code}
-use Rattle.gen_forms.specs.Fine.{IsFine, AreFine}
-use Rattle.gen_forms.proofs.FineLaws.{Nowhere, fine_both}
-use Rattle.gen_forms.proofs.FineItems.{alone_fine, any_fine, length_fine, push_pri}
-use Rattle.gen_forms.proofs.Shapes.{const_fine}
-use Rattle.gen_forms.proofs.ExprForms.{value_closed}
+use Rattle.gen_expr.specs.Fine.{IsFine, AreFine}
+use Rattle.gen_expr.proofs.FineLaws.{Nowhere, fine_both}
+use Rattle.gen_expr.proofs.FineItems.{alone_fine, any_fine, length_fine, push_pri}
+use Rattle.gen_expr.proofs.Shapes.{const_fine}
+use Rattle.gen_expr.proofs.ExprForms.{value_closed}
 use Rattle.gen_stmt.specs.ClosedCode.{unknown}
 use Rattle.gen_stmt.specs.StmtCode.{condition_items, step_items, stmt_items, for_items, else_items, cases_items, cases_table, stmts_items}
 use Rattle.gen_stmt.proofs.EndLaws.{loop_alike, until_alike, stmt_ends, cases_ends, length_table}

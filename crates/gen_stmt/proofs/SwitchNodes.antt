@@ -16,28 +16,28 @@ use Rattle.amx_ops.specs.State.{State}
 use Rattle.amx_ops.specs.Effects.{paired, case_of}
 use Rattle.amx_ops.specs.Moves.{Config, move}
 use Rattle.gen_sim.proofs.Sim.{after_it, size_is, wider}
-use Rattle.gen_memory.specs.View.{View, kept, used}
-use Rattle.gen_memory.specs.Stands.{Stands, With}
-use Rattle.gen_memory.proofs.WorldLaws.{stands_on}
-use Rattle.gen_steps.specs.Site.{Site, DoesAt, scene_at}
-use Rattle.gen_steps.specs.Items.{Item, size, placed_in, item_cells, past, with}
-use Rattle.gen_steps.specs.Code.{with_turns}
-use Rattle.gen_steps.specs.Contract.{ValueCode}
-use Rattle.gen_steps.proofs.ItemLaws.{past-append, count-append, past_is}
-use Rattle.gen_steps.proofs.StepLaws.{goes, given}
-use Rattle.gen_nodes.specs.Lies.{Lies}
-use Rattle.gen_nodes.specs.SimpleCode.{taking}
-use Rattle.gen_nodes.specs.JumpCode.{jump_to}
-use Rattle.gen_nodes.proofs.ItemSteps.{one_item, first_lies, rest_lies, next_lies}
-use Rattle.gen_nodes.proofs.PartLaws.{nodes_of, then_items}
-use Rattle.gen_nodes.proofs.JumpNodes.{choose_grows}
-use Rattle.gen_nodes.proofs.JumpSteps.{past_small, jump_does}
-use Rattle.gen_flow.specs.Here.{Here}
-use Rattle.gen_flow.specs.Ways.{Outer, made_view, Left}
-use Rattle.gen_flow.specs.FlowCode.{made_cells}
-use Rattle.gen_flow.specs.Flow.{Begins, StmtCode, ElseCode}
-use Rattle.gen_flow.proofs.WayLaws.{ends_left}
-use Rattle.gen_flow.proofs.FlowNodes.{value_at}
+use Rattle.gen_sim.specs.View.{View, kept, used}
+use Rattle.gen_sim.specs.Stands.{Stands, With}
+use Rattle.gen_sim.proofs.WorldLaws.{stands_on}
+use Rattle.gen_sim.specs.Site.{Site, DoesAt, scene_at}
+use Rattle.gen_sim.specs.Items.{Item, size, placed_in, item_cells, past, with}
+use Rattle.gen_sim.specs.Code.{with_turns}
+use Rattle.gen_sim.specs.Contract.{ValueCode}
+use Rattle.gen_sim.proofs.ItemLaws.{past-append, count-append, past_is}
+use Rattle.gen_sim.proofs.StepLaws.{goes, given}
+use Rattle.gen_sim.specs.Lies.{Lies}
+use Rattle.gen_sim.specs.SimpleCode.{taking}
+use Rattle.gen_sim.specs.JumpCode.{jump_to}
+use Rattle.gen_sim.proofs.ItemSteps.{one_item, first_lies, rest_lies, next_lies}
+use Rattle.gen_sim.proofs.NodesPartLaws.{nodes_of, then_items}
+use Rattle.gen_sim.proofs.JumpNodes.{choose_grows}
+use Rattle.gen_sim.proofs.JumpSteps.{past_small, jump_does}
+use Rattle.gen_sim.specs.Here.{Here}
+use Rattle.gen_sim.specs.Ways.{Outer, made_view, Left}
+use Rattle.gen_sim.specs.FlowCode.{made_cells}
+use Rattle.gen_sim.specs.Flow.{Begins, StmtCode, ElseCode}
+use Rattle.gen_sim.proofs.WayLaws.{ends_left}
+use Rattle.gen_sim.proofs.FlowNodes.{value_at}
 use Rattle.gen_stmt.specs.SwitchCode.{ranges_table, values_of, cases_values, table_item, cases_at, case_code, table_code, switch_code}
 use Rattle.gen_stmt.specs.SwitchFlow.{LedBy, CasesCode}
 use Rattle.gen_stmt.proofs.TableLaws.{bits_are, chosen, left_out, ranges_lead, length_ranges, table_leads}

@@ -6,9 +6,9 @@ use Rattle.pawn_cells.specs.Cells.{bits_of, equal, less_eq}
 use Rattle.pawn_meaning.specs.Weight.{counted, values_in}
 use Rattle.pawn_meaning.specs.Meaning.{in_ranges}
 use Rattle.amx_ops.specs.Effects.{paired, case_in, case_of}
-use Rattle.gen_memory.proofs.Lists.{take_drop}
-use Rattle.gen_steps.specs.Site.{Site}
-use Rattle.gen_steps.specs.Items.{Item, size, LieIn}
+use Rattle.gen_sim.proofs.Lists.{take_drop}
+use Rattle.gen_sim.specs.Site.{Site}
+use Rattle.gen_sim.specs.Items.{Item, size, LieIn}
 use Rattle.gen_stmt.specs.SwitchCode.{values_from, ranges_table, values_of, table_item}
 
 pub bits_are : (n : ℕ) → n < 2 ^ 31 → bits_of (pos n) ≡ n

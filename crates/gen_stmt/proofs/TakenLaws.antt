@@ -16,15 +16,15 @@ use Rattle.amx_ops.specs.State.{State, Goes, Errs}
 use Rattle.amx_ops.specs.Step.{act}
 use Rattle.amx_ops.specs.Moves.{Config, moved, move}
 use Rattle.gen_sim.proofs.Sim.{short_here}
-use Rattle.gen_memory.specs.Pieces.{Piece, AreThere, image, total}
-use Rattle.gen_memory.specs.Mem.{row, Mem}
-use Rattle.gen_memory.specs.View.{View, kept, used}
-use Rattle.gen_memory.specs.Stands.{Stands}
-use Rattle.gen_memory.proofs.Lists.{take_drop}
-use Rattle.gen_memory.proofs.MemLaws.{count_cells}
-use Rattle.gen_steps.specs.Site.{Site, DoesAt}
-use Rattle.gen_steps.specs.Items.{with}
-use Rattle.gen_steps.proofs.StepLaws.{move_is, goes}
+use Rattle.gen_sim.specs.Pieces.{Piece, AreThere, image, total}
+use Rattle.gen_sim.specs.Mem.{row, Mem}
+use Rattle.gen_sim.specs.View.{View, kept, used}
+use Rattle.gen_sim.specs.Stands.{Stands}
+use Rattle.gen_sim.proofs.Lists.{take_drop}
+use Rattle.gen_sim.proofs.MemLaws.{count_cells}
+use Rattle.gen_sim.specs.Site.{Site, DoesAt}
+use Rattle.gen_sim.specs.Items.{with}
+use Rattle.gen_sim.proofs.StepLaws.{move_is, goes}
 
 less_small : (a b : ℕ) → b ≤ a → pos a +ℤ neg_ℤ (pos b) ≡ pos (a - b)
 less_small a b h = omega (arith, ints, h)

@@ -10,15 +10,15 @@ use Rattle.amx_ops.specs.declared.op.Op.TheVariants as op
 use Rattle.amx_ops.specs.declared.table.Operand.{Operand}
 use Rattle.amx_ops.specs.declared.table.Operand.TheVariants as operand
 use Rattle.amx_ops.specs.Table.{operand_of}
-use Rattle.gen_steps.specs.Items.{Item, Plain, CallOf, size, past}
-use Rattle.gen_nodes.specs.SimpleCode.{alone, taking}
-use Rattle.gen_nodes.specs.JumpCode.{jump_to, other_at, end_at, choice_code}
-use Rattle.gen_flow.specs.FlowCode.{made_cells, leave_code}
-use Rattle.gen_loops.specs.LoopCode.{body_at, step_at, loop_end, loop_code, test_at, until_end, until_code}
+use Rattle.gen_sim.specs.Items.{Item, Plain, CallOf, size, past}
+use Rattle.gen_sim.specs.SimpleCode.{alone, taking}
+use Rattle.gen_sim.specs.JumpCode.{jump_to, other_at, end_at, choice_code}
+use Rattle.gen_sim.specs.FlowCode.{made_cells, leave_code}
+use Rattle.gen_sim.specs.LoopCode.{body_at, step_at, loop_end, loop_code, test_at, until_end, until_code}
 use Rattle.gen_stmt.specs.SwitchCode.{values_from, ranges_table, cases_values, table_item, cases_at, table_code}
-use Rattle.gen_forms.specs.Fine.{LeadsBy, AreFine, AreClosed, StartsAt}
-use Rattle.gen_forms.proofs.FineLaws.{starts_here, starts_end, starts_first, starts_rest, Nowhere}
-use Rattle.gen_forms.proofs.FineItems.{is_call, alone_fine, multiple_fine, multiple_up}
+use Rattle.gen_expr.specs.Fine.{LeadsBy, AreFine, AreClosed, StartsAt}
+use Rattle.gen_expr.proofs.FineLaws.{starts_here, starts_end, starts_first, starts_rest, Nowhere}
+use Rattle.gen_expr.proofs.FineItems.{is_call, alone_fine, multiple_fine, multiple_up}
 use Rattle.gen_stmt.specs.Well.{IsLed, ArePairsLed, LeadsWith, IsWell, AreWell, TableAt, Holds}
 
 -- ---- parts

@@ -2,11 +2,11 @@
 -- taken once with any exits, and then with the true ones.
 use Rattle.std.specs.Prelude.{◌+◌, ℕ, ℤ, List, ◌++◌, true}
 use Rattle.pawn_program.specs.Program.{Cases}
-use Rattle.gen_steps.specs.Items.{Item, past}
-use Rattle.gen_nodes.specs.JumpCode.{other_at}
-use Rattle.gen_flow.specs.Here.{Exits}
-use Rattle.gen_flow.specs.FlowCode.{if_code}
-use Rattle.gen_loops.specs.LoopCode.{step_at, loop_exits, loop_code, test_at, until_exits, until_code}
+use Rattle.gen_sim.specs.Items.{Item, past}
+use Rattle.gen_sim.specs.JumpCode.{other_at}
+use Rattle.gen_sim.specs.Here.{Exits}
+use Rattle.gen_sim.specs.FlowCode.{if_code}
+use Rattle.gen_sim.specs.LoopCode.{step_at, loop_exits, loop_code, test_at, until_exits, until_code}
 use Rattle.gen_stmt.specs.SwitchCode.{cases_at, switch_code}
 
 -- the exits of a loop whose end isn't known yet

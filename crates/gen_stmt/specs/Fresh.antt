@@ -3,7 +3,7 @@ use Rattle.std.specs.Prelude.{◌≡◌, ◌+◌, ◌^◌, ◌<◌, ℕ, List, A
 use Rattle.pawn_program.specs.Program.{Slot, Automaton, Program}
 use Rattle.pawn_program.specs.Scope.{Scope, IsMade}
 use Rattle.pawn_program.specs.Valid.{IsSlot, IsValid}
-use Rattle.gen_steps.specs.Fits.{AreOnce}
+use Rattle.gen_sim.specs.Fits.{AreOnce}
 
 -- slots that weren't made before, each of them once
 pub record Fresh (scope : Scope) (slots : List ℕ) : Type 0 where

@@ -3,10 +3,10 @@
 use Rattle.std.specs.Prelude.{◌*◌, ℕ, pos, neg_ℤ, List, [], ◌∷◌, ◌++◌, slice_get}
 use Rattle.pawn_program.specs.Scope.{Scope}
 use Rattle.amx_ops.specs.declared.op.Op.TheVariants as op
-use Rattle.gen_steps.specs.Items.{Item}
-use Rattle.gen_steps.specs.Fits.{own_sizes}
-use Rattle.gen_nodes.specs.SimpleCode.{alone, taking}
-use Rattle.gen_places.specs.PlaceItems.{cells_by, object_code}
+use Rattle.gen_sim.specs.Items.{Item}
+use Rattle.gen_sim.specs.Fits.{own_sizes}
+use Rattle.gen_sim.specs.SimpleCode.{alone, taking}
+use Rattle.gen_sim.specs.PlaceItems.{cells_by, object_code}
 
 abbrev pub array_cells : Scope → ℕ → ℕ
 array_cells scope slot = cells_by (own_sizes (slice_get scope.slots slot))

@@ -3,13 +3,13 @@ use Rattle.std.specs.Prelude.{◌+◌, ℕ, ℤ, pos, List, [], ◌++◌}
 use Rattle.pawn_program.specs.Program.{Perhaps, Absent, Present, Stmt, Block, Local, LocalArray, Do, If, While, DoWhile, For, Switch, Return, Break, Continue, Exit, Sleep, Assert, State, Empty, Else, no_else, otherwise, Cases, no_cases, then_case, Stmts, no_stmts, then_stmt}
 use Rattle.pawn_program.specs.Scope.{Scope}
 use Rattle.pawn_program.specs.ValidStmts.{slots_made, slots_made_by}
-use Rattle.gen_steps.specs.Items.{Item, past}
-use Rattle.gen_nodes.specs.SimpleCode.{const_code}
+use Rattle.gen_sim.specs.Items.{Item, past}
+use Rattle.gen_sim.specs.SimpleCode.{const_code}
 use Rattle.gen_expr.specs.ExprCode.{value_items}
-use Rattle.gen_flow.specs.Here.{Here, behind, within}
-use Rattle.gen_flow.specs.FlowCode.{leave_code, local_code, block_code, break_code, continue_code, return_code, exit_code, assert_code}
-use Rattle.gen_loops.specs.LoopCode.{body_at}
-use Rattle.gen_states.specs.StateCode.{state_code, sleep_code}
+use Rattle.gen_sim.specs.Here.{Here, behind, within}
+use Rattle.gen_sim.specs.FlowCode.{leave_code, local_code, block_code, break_code, continue_code, return_code, exit_code, assert_code}
+use Rattle.gen_sim.specs.LoopCode.{body_at}
+use Rattle.gen_sim.specs.StateCode.{state_code, sleep_code}
 use Rattle.gen_stmt.specs.MadeCode.{local_array_code}
 use Rattle.gen_stmt.specs.SwitchCode.{ranges_table, cases_at, case_code}
 use Rattle.gen_stmt.specs.ClosedCode.{closed_loop, closed_until, closed_if, closed_switch}

@@ -2,8 +2,8 @@
 use Rattle.std.specs.Prelude.{ℕ, Bool}
 use Rattle.pawn_program.specs.Program.{Stmt}
 use Rattle.pawn_program.specs.ValidStmts.{all_slots_made, IsValidStmt}
-use Rattle.gen_flow.specs.Here.{Here}
-use Rattle.gen_flow.specs.Flow.{StmtCode}
+use Rattle.gen_sim.specs.Here.{Here}
+use Rattle.gen_sim.specs.Flow.{StmtCode}
 use Rattle.gen_stmt.specs.Fresh.{Fresh, Ready}
 use Rattle.gen_stmt.specs.StmtCode.{stmt_items}
 

@@ -4,9 +4,9 @@ use Rattle.std.specs.Prelude.{◌+◌, ◌*◌, ℕ, zero, suc, ℤ, pos, ◌+�
 use Rattle.pawn_program.specs.Program.{Cases, no_cases, then_case}
 use Rattle.pawn_meaning.specs.Weight.{values_in}
 use Rattle.amx_ops.specs.declared.op.Op.TheVariants as op
-use Rattle.gen_steps.specs.Items.{Item, Plain}
-use Rattle.gen_nodes.specs.SimpleCode.{taking}
-use Rattle.gen_nodes.specs.JumpCode.{jump_to}
+use Rattle.gen_sim.specs.Items.{Item, Plain}
+use Rattle.gen_sim.specs.SimpleCode.{taking}
+use Rattle.gen_sim.specs.JumpCode.{jump_to}
 
 -- so many values from one on lead to an address
 abbrev pub values_from : ℤ → ℕ → ℕ → List ℤ

@@ -8,15 +8,15 @@ use Rattle.pawn_meaning.specs.Meaning.{run_case}
 use Rattle.pawn_meaning.specs.Need.{cases_load, cases_locals}
 use Rattle.amx_ops.specs.Effects.{paired}
 use Rattle.amx_ops.specs.Moves.{Config}
-use Rattle.gen_memory.specs.View.{View, kept, used}
-use Rattle.gen_memory.specs.Stands.{Stands}
-use Rattle.gen_steps.specs.Site.{Site, DoesAt, scene_at}
-use Rattle.gen_steps.specs.Items.{Item, item_cells}
-use Rattle.gen_steps.specs.Code.{with_turns}
-use Rattle.gen_nodes.specs.Lies.{Lies}
-use Rattle.gen_flow.specs.Here.{Here}
-use Rattle.gen_flow.specs.Ways.{Outer, Left}
-use Rattle.gen_flow.specs.Flow.{Begins}
+use Rattle.gen_sim.specs.View.{View, kept, used}
+use Rattle.gen_sim.specs.Stands.{Stands}
+use Rattle.gen_sim.specs.Site.{Site, DoesAt, scene_at}
+use Rattle.gen_sim.specs.Items.{Item, item_cells}
+use Rattle.gen_sim.specs.Code.{with_turns}
+use Rattle.gen_sim.specs.Lies.{Lies}
+use Rattle.gen_sim.specs.Here.{Here}
+use Rattle.gen_sim.specs.Ways.{Outer, Left}
+use Rattle.gen_sim.specs.Flow.{Begins}
 use Rattle.gen_stmt.specs.SwitchCode.{cases_values}
 
 -- the machine stands where a table leads a value

@@ -7,8 +7,8 @@ use Rattle.amx_ops.specs.declared.table.Operand.TheVariants as operand
 use Rattle.amx_ops.specs.Table.{operand_of}
 use Rattle.amx_ops.specs.Written.{IsWritten}
 use Rattle.amx_ops.specs.Valid.{operand_fault}
-use Rattle.gen_steps.specs.Items.{Item, Plain, CallOf, size}
-use Rattle.gen_forms.specs.Fine.{StartsAt}
+use Rattle.gen_sim.specs.Items.{Item, Plain, CallOf, size}
+use Rattle.gen_expr.specs.Fine.{StartsAt}
 
 -- a cell is an address of which something holds
 abbrev pub IsLed : (ℕ → Type 0) → ℤ → Type 0

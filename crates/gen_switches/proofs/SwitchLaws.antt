@@ -4,9 +4,9 @@ use Rattle.std.proofs.lemmas.List.{length-replicate}
 use Rattle.pawn_program.specs.Program.{Cases}
 use Rattle.amx_ops.specs.declared.op.Op.TheVariants as op
 use Rattle.amx_ops.specs.Table.{number_of}
-use Rattle.gen_steps.specs.Items.{Item, item_cells, waits_from, past}
-use Rattle.gen_nodes.specs.SimpleCode.{taking}
-use Rattle.gen_flow.specs.Here.{Exits}
+use Rattle.gen_sim.specs.Items.{Item, item_cells, waits_from, past}
+use Rattle.gen_sim.specs.SimpleCode.{taking}
+use Rattle.gen_sim.specs.Here.{Exits}
 use Rattle.gen_stmt.specs.SwitchCode.{cases_values, table_item, cases_at, table_code}
 use Rattle.gen_builder.specs.Built.{Built, with_items}
 use Rattle.gen_emit.specs.Filled.{filled}

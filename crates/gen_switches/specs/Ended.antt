@@ -1,7 +1,7 @@
 -- Cases that were appended to a draft: items by the address behind the whole, to which some jumps lead, and by the exits.
 use Rattle.std.specs.Prelude.{◌≡◌, ◌<◌, ◌≤◌, ℕ, pos, List, [], ◌∷◌, length}
-use Rattle.gen_steps.specs.Items.{Item}
-use Rattle.gen_flow.specs.Here.{Exits}
+use Rattle.gen_sim.specs.Items.{Item}
+use Rattle.gen_sim.specs.Here.{Exits}
 use Rattle.gen_builder.specs.Built.{with_items}
 use Rattle.gen_draft.specs.declared.draft.Draft.{Draft}
 use Rattle.gen_draft.specs.declared.draft.Hole.{Hole}

@@ -2,8 +2,8 @@
 use Rattle.std.specs.Prelude.{◌+◌, ◌*◌, ℕ, pos, List, [], ◌∷◌, replicate}
 use Rattle.pawn_program.specs.Program.{Cases}
 use Rattle.amx_ops.specs.declared.op.Op.TheVariants as op
-use Rattle.gen_steps.specs.Items.{Item}
-use Rattle.gen_nodes.specs.SimpleCode.{taking}
+use Rattle.gen_sim.specs.Items.{Item}
+use Rattle.gen_sim.specs.SimpleCode.{taking}
 use Rattle.gen_stmt.specs.SwitchCode.{cases_values, table_item}
 
 abbrev pub unled_table : ℕ → Cases → List Item

@@ -3,7 +3,7 @@ use Rattle.std.proofs.Common.{◌≡◌, ℕ, zero, suc, ℤ, pos, Some, [], ◌
 use Rattle.std.specs.Prelude.{slice_get}
 use Rattle.pawn_program.specs.Program.{Program}
 use Rattle.pawn_program.specs.Scope.{Scope}
-use Rattle.gen_places.specs.PlaceItems.{object_address, slot_offset}
+use Rattle.gen_sim.specs.PlaceItems.{object_address, slot_offset}
 use Rattle.gen_emit.specs.declared.frame.Frame.{Frame}
 use Rattle.gen_emit.specs.Standing.{scope_of, Serves}
 

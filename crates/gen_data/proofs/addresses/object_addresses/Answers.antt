@@ -1,7 +1,7 @@
 use Rattle.std.proofs.Common.{rules, ◌≡◌, ◌+◌, [], ◌∷◌, ◌++◌, FitsSigned, w32, sym, subst, arith}
 use Rattle.std.proofs.lemmas.Int.{to_z-of_z}
 use Rattle.pawn_arrays.specs.Sizes.{sizes}
-use Rattle.gen_places.specs.PlaceItems.{cells_by}
+use Rattle.gen_sim.specs.PlaceItems.{cells_by}
 use Rattle.gen_data.proofs.AddressLaws.{Addressed, more_addressed}
 use Rattle.gen_data.proofs.addresses.object_addresses.Goals as goal
 

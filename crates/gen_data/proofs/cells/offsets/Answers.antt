@@ -1,5 +1,5 @@
 use Rattle.pawn_arrays.specs.Sizes.{sizes}
-use Rattle.gen_memory.specs.Pieces.{vectors}
+use Rattle.gen_sim.specs.Pieces.{vectors}
 use Rattle.gen_data.proofs.DataLaws.{shape_layout}
 use Rattle.gen_data.proofs.cells.offsets.Goals as goal
 

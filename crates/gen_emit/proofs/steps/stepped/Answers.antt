@@ -2,8 +2,8 @@ use Rattle.std.proofs.Common.{w32, FitsSigned, [], ◌∷◌, ◌++◌}
 use Rattle.std.proofs.lemmas.Int.{to_z-of_z}
 use Rattle.pawn_program.specs.View.{scalar_view}
 use Rattle.amx_ops.specs.declared.op.Op.TheVariants as op
-use Rattle.gen_nodes.specs.SimpleCode.{alone}
-use Rattle.gen_nodes.specs.AccessCode.{load_code, stepped_code}
+use Rattle.gen_sim.specs.SimpleCode.{alone}
+use Rattle.gen_sim.specs.AccessCode.{load_code, stepped_code}
 use Rattle.gen_emit.proofs.GrowLaws.{then_grow}
 use Rattle.gen_emit.proofs.steps.stepped.Goals as goal
 

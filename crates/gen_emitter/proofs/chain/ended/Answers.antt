@@ -2,8 +2,8 @@ use Rattle.std.proofs.Common.{◌<◌, [], ◌∷◌, length, w32, FitsSigned, a
 use Rattle.std.proofs.lemmas.Grind.{common_steps}
 use Rattle.std.proofs.lemmas.Int.{to_z-of_z}
 use Rattle.amx_ops.specs.declared.op.Op.TheVariants as op
-use Rattle.gen_nodes.specs.SimpleCode.{alone, taking}
-use Rattle.gen_nodes.specs.JumpCode.{truth_code}
+use Rattle.gen_sim.specs.SimpleCode.{alone, taking}
+use Rattle.gen_sim.specs.JumpCode.{truth_code}
 use Rattle.gen_emit.proofs.PartLaws.{keeps_cells}
 use Rattle.gen_emitter.proofs.ChainLaws.{more_in}
 use Rattle.gen_emitter.proofs.HoleLaws.{ended_done}

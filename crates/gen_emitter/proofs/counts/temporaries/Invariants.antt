@@ -1,6 +1,6 @@
 use Rattle.std.proofs.Common.{◌≡◌, ◌+◌, ◌≤◌, drop}
 use Rattle.pawn_program.specs.View.{args_view}
-use Rattle.gen_steps.specs.Results.{temporaries_in}
+use Rattle.gen_sim.specs.Results.{temporaries_in}
 use Rattle.gen_emitter.proofs.counts.temporaries.Given as goal
 
 abbrev pub invariant-loop-arg : goal.invariant-loop-arg

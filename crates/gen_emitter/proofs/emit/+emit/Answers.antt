@@ -6,12 +6,12 @@ use Rattle.pawn_program.specs.Scope.{row_extent, rest_extent}
 use Rattle.pawn_program.specs.View.{scalar_view, array_view, expr_view, args_view, links_view}
 use Rattle.pawn_program.specs.declared.node.Link.{Link}
 use Rattle.amx_ops.specs.declared.op.Op.TheVariants as op
-use Rattle.gen_nodes.specs.SimpleCode.{alone, taking, prefix_op, operator_code, const_code}
-use Rattle.gen_nodes.specs.AccessCode.{load_code, store_code, changed_code, stepped_code, turned_code}
-use Rattle.gen_nodes.specs.JumpCode.{truth_code, choice_code, other_at}
-use Rattle.gen_arrays.specs.IndexCode.{bounds_code, in_characters}
-use Rattle.gen_calls.specs.CallCode.{one_code, two_code, convert_code}
-use Rattle.gen_chains.specs.ChainCode.{link_code}
+use Rattle.gen_sim.specs.SimpleCode.{alone, taking, prefix_op, operator_code, const_code}
+use Rattle.gen_sim.specs.AccessCode.{load_code, store_code, changed_code, stepped_code, turned_code}
+use Rattle.gen_sim.specs.JumpCode.{truth_code, choice_code, other_at}
+use Rattle.gen_sim.specs.IndexCode.{bounds_code, in_characters}
+use Rattle.gen_sim.specs.CallCode.{one_code, two_code, convert_code}
+use Rattle.gen_sim.specs.ChainCode.{link_code}
 use Rattle.gen_expr.specs.ExprCode.{known_size, args_items, place_items, array_items, value_items}
 use Rattle.gen_emit.specs.Standing.{scope_of}
 use Rattle.gen_emit.proofs.GrowLaws.{then_grow, then_ok}

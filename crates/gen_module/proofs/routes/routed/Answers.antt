@@ -1,7 +1,7 @@
 use Rattle.std.proofs.Common.{rules, ◌≡◌, ◌+◌, ◌-◌, ◌*◌, pos, length, map, FitsSigned, w32, sym, ap, subst, ◌∙◌, arith}
 use Rattle.std.proofs.lemmas.Int.{to_z-of_z}
 use Rattle.pawn_program.specs.View.{body_view, slot_view, function_view, route_view}
-use Rattle.gen_functions.specs.RouteCode.{bodies_items, body_begin, route_table, leads_to, fail_at, address_of, route_items}
+use Rattle.gen_program.specs.RouteCode.{bodies_items, body_begin, route_table, leads_to, fail_at, address_of, route_items}
 use Rattle.gen_builder.specs.Built.{Built, with_items}
 use Rattle.gen_emit.specs.Filled.{filled}
 use Rattle.gen_case_tables.specs.Over.{over}

@@ -1,5 +1,5 @@
 use Rattle.std.proofs.Common.{◌≡◌, ◌+◌, ◌*◌, ℕ, length, drop}
-use Rattle.gen_functions.specs.RouteCode.{route_table}
+use Rattle.gen_program.specs.RouteCode.{route_table}
 use Rattle.gen_case_tables.specs.Over.{over}
 use Rattle.gen_files.specs.Starts.{Finds}
 use Rattle.gen_module.proofs.routes.write_pairs.Given as goal

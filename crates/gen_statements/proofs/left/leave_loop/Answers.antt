@@ -1,8 +1,8 @@
 use Rattle.std.proofs.Common.{[], ◌∷◌, drop, map}
 use Rattle.pawn_program.specs.View.{slot_view}
 use Rattle.amx_ops.specs.declared.op.Op.TheVariants as op
-use Rattle.gen_nodes.specs.JumpCode.{jump_to}
-use Rattle.gen_flow.specs.FlowCode.{leave_code}
+use Rattle.gen_sim.specs.JumpCode.{jump_to}
+use Rattle.gen_sim.specs.FlowCode.{leave_code}
 use Rattle.gen_draft.specs.Led.{exit_at}
 use Rattle.gen_draft.proofs.GrownLaws.{then_grown}
 use Rattle.gen_statements.proofs.left.leave_loop.Goals as goal

@@ -1,6 +1,6 @@
 use Rattle.std.proofs.Common.{◌≡◌, ◌≤◌, [], ◌∷◌, length, w32, to_z, of_z, ap, ◌∙◌, arith}
 use Rattle.amx_ops.specs.declared.op.Op.TheVariants as op
-use Rattle.gen_nodes.specs.SimpleCode.{taking}
+use Rattle.gen_sim.specs.SimpleCode.{taking}
 use Rattle.gen_builder.specs.Built.{Built}
 use Rattle.gen_emit.proofs.PartLaws.{keeps_cells}
 use Rattle.gen_draft.proofs.LedLaws.{in_more, led_cells}

@@ -1,7 +1,7 @@
 use Rattle.std.proofs.Common.{◌≡◌, ◌≤◌, ◌+◌, ◌*◌, pos, [], ◌∷◌, length, w32, to_z, of_z, FitsSigned, ap, ◌∙◌, arith, rules}
 use Rattle.std.proofs.lemmas.Int.{to_z-of_z}
 use Rattle.amx_ops.specs.declared.op.Op.TheVariants as op
-use Rattle.gen_nodes.specs.SimpleCode.{taking}
+use Rattle.gen_sim.specs.SimpleCode.{taking}
 use Rattle.gen_emit.proofs.PartLaws.{keeps_cells}
 use Rattle.gen_draft.proofs.LedLaws.{in_more}
 use Rattle.gen_statements.proofs.StmtLaws.{until_ended}

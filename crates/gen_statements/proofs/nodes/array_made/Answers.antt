@@ -1,6 +1,6 @@
 use Rattle.std.proofs.Common.{w32, FitsSigned, rules}
 use Rattle.std.proofs.lemmas.Int.{to_z-of_z}
-use Rattle.gen_places.specs.PlaceItems.{object_code}
+use Rattle.gen_sim.specs.PlaceItems.{object_code}
 use Rattle.gen_slots.specs.Keeps.{scope_in}
 use Rattle.gen_stmt.specs.MadeCode.{array_cells}
 use Rattle.gen_statements.proofs.PlainLaws.{array_done}

@@ -1,7 +1,7 @@
 use Rattle.std.proofs.Common.{◌*◌, [], ◌∷◌, length}
 use Rattle.pawn_program.specs.View.{expr_view}
 use Rattle.amx_ops.specs.declared.op.Op.TheVariants as op
-use Rattle.gen_nodes.specs.SimpleCode.{alone}
+use Rattle.gen_sim.specs.SimpleCode.{alone}
 use Rattle.gen_expr.specs.ExprCode.{value_items}
 use Rattle.gen_slots.specs.Keeps.{scope_in}
 use Rattle.gen_statements.proofs.OkLaws.{then_plain}

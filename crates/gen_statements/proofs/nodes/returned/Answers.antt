@@ -1,9 +1,9 @@
 use Rattle.std.proofs.Common.{◌*◌, [], ◌∷◌, length, map, ap}
 use Rattle.pawn_program.specs.View.{expr_view, slot_view}
 use Rattle.amx_ops.specs.declared.op.Op.TheVariants as op
-use Rattle.gen_nodes.specs.SimpleCode.{alone}
+use Rattle.gen_sim.specs.SimpleCode.{alone}
 use Rattle.gen_expr.specs.ExprCode.{value_items}
-use Rattle.gen_flow.specs.FlowCode.{leave_code}
+use Rattle.gen_sim.specs.FlowCode.{leave_code}
 use Rattle.gen_slots.specs.Keeps.{scope_in}
 use Rattle.gen_slots.specs.declared.locals.Mark.{Mark}
 use Rattle.gen_statements.proofs.LeftLaws.{all_dropped}

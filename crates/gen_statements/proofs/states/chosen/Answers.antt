@@ -1,5 +1,5 @@
 use Rattle.pawn_program.specs.View.{program_view}
-use Rattle.gen_states.specs.StateCode.{switched_code}
+use Rattle.gen_sim.specs.StateCode.{switched_code}
 use Rattle.gen_statements.proofs.PlainLaws.{chosen_done}
 use Rattle.gen_statements.proofs.states.chosen.Goals as goal
 

@@ -1,6 +1,6 @@
 use Rattle.std.proofs.Common.{◌*◌, length}
 use Rattle.pawn_program.specs.View.{perhaps_view}
-use Rattle.gen_states.specs.StateCode.{switched_code}
+use Rattle.gen_sim.specs.StateCode.{switched_code}
 use Rattle.gen_stmt.specs.StmtCode.{condition_items}
 use Rattle.gen_slots.specs.Keeps.{scope_in}
 use Rattle.gen_statements.proofs.PlainLaws.{state_done}

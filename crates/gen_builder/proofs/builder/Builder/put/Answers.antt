@@ -1,6 +1,6 @@
 use Rattle.std.proofs.Common.{[], ◌∷◌, w32, FitsSigned, to_z, of_z, ap, ◌∙◌}
 use Rattle.std.proofs.lemmas.Int.{to_z-of_z}
-use Rattle.gen_steps.specs.Items.{Plain, with}
+use Rattle.gen_sim.specs.Items.{Plain, with}
 use Rattle.gen_builder.specs.Built.{with_items}
 use Rattle.gen_builder.proofs.BuilderLaws.{encodable_as, put_is}
 use Rattle.gen_builder.proofs.builder.Builder.put.Goals as goal

@@ -1,7 +1,7 @@
 use Rattle.std.proofs.Common.{◌≡◌, ◌<◌, ◌≤◌, ◌-◌, length, take, sym, ap, ◌∙◌, arith}
 use Rattle.std.proofs.lemmas.Grind.{common_steps}
 use Rattle.std.proofs.lemmas.List.{take_all, take-take}
-use Rattle.gen_flow.specs.FlowCode.{made_cells}
+use Rattle.gen_sim.specs.FlowCode.{made_cells}
 use Rattle.gen_slots.proofs.locals.Locals.leave.Goals as goal
 
 pub loop-self-preserved : goal.loop-self-preserved

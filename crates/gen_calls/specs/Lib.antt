@@ -1,2 +1,0 @@
-pub mod ArgumentCode
-pub mod CallCode

@@ -1,2 +1,0 @@
-pub mod ChainNodes
-pub mod LinkLaws

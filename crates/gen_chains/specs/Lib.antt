@@ -1,2 +1,0 @@
-pub mod ChainCode
-pub mod LinksCode

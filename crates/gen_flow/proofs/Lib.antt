@@ -1,4 +1,0 @@
-pub mod FlowNodes
-pub mod LeaveNodes
-pub mod MadeViews
-pub mod WayLaws

@@ -1,4 +1,0 @@
-pub mod Flow
-pub mod FlowCode
-pub mod Here
-pub mod Ways

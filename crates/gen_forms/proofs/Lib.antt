@@ -1,9 +1,0 @@
-pub mod AppendedLaws
-pub mod Counts
-pub mod ExprForms
-pub mod FaultLaws
-pub mod FileLaws
-pub mod FineItems
-pub mod FineLaws
-pub mod Shapes
-pub mod WeightLaws

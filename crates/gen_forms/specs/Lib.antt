@@ -1,2 +1,0 @@
-pub mod CodeMeans
-pub mod Fine

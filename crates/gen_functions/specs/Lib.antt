@@ -1,3 +1,0 @@
-pub mod BodyCode
-pub mod RouteCode
-pub mod FunctionCode

@@ -1,2 +1,0 @@
-pub mod KnotLaws
-pub mod SingleLaws

@@ -1,2 +1,0 @@
-//! What instructions of statements do: locals are made and left, and a run ends.
-#![tactic(auto)]

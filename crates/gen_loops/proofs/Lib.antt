@@ -1,4 +1,0 @@
-pub mod LoopLaws
-pub mod LoopNodes
-pub mod LoopSteps
-pub mod UntilNodes

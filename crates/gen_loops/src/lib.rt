@@ -1,2 +1,0 @@
-//! The code of loops, and that it does what they mean: each pass is paid by its own turn.
-#![tactic(auto)]

@@ -1,4 +1,0 @@
-pub mod AccessCode
-pub mod JumpCode
-pub mod Lies
-pub mod SimpleCode

@@ -1,8 +1,0 @@
--- Items that lie in a file from an address on, with an instruction behind them.
-use Rattle.std.specs.Prelude.{ℕ, List}
-use Rattle.gen_steps.specs.Site.{Site, Starts}
-use Rattle.gen_steps.specs.Items.{Item, past, LieIn}
-
-pub record Lies (x : Site) (p : ℕ) (items : List Item) : Type 0 where
-  pub lie : LieIn x p items
-  pub starts : Starts x (past p items)

@@ -1,2 +1,0 @@
-pub mod CalledScopes
-pub mod LocalScopes

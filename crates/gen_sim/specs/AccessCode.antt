@@ -1,0 +1,54 @@
+-- The code of reads and writes: a place's address comes first, and then its cell or its character is loaded, or stored
+-- behind the value.
+use Rattle.std.specs.Prelude.{ℤ, pos, Bool, true, false, List, [], ◌∷◌, ◌++◌}
+use Rattle.pawn_program.specs.Program.{Scalar, Global, Own, Through, Element, Char}
+use Rattle.amx_ops.specs.declared.op.Op.TheVariants as op
+use Rattle.gen_sim.specs.Items.{Item}
+use Rattle.gen_sim.specs.SimpleCode.{alone, taking, both_code}
+
+-- from the address in PRI; ALT stays
+abbrev pub load_code : Scalar → List Item
+load_code (Global o) = alone op.LoadI ∷ []
+load_code (Own s) = alone op.LoadI ∷ []
+load_code (Through s) = alone op.LoadI ∷ []
+load_code (Element a e) = alone op.LoadI ∷ []
+load_code (Char a e) = taking op.LodbI (pos 1) ∷ []
+
+-- PRI to the address in ALT; PRI stays
+abbrev pub store_code : Scalar → List Item
+store_code (Global o) = alone op.StorI ∷ []
+store_code (Own s) = alone op.StorI ∷ []
+store_code (Through s) = alone op.StorI ∷ []
+store_code (Element a e) = alone op.StorI ∷ []
+store_code (Char a e) = taking op.StrbI (pos 1) ∷ []
+
+abbrev pub read_code : Scalar → List Item → List Item
+read_code p place = place ++ load_code p
+
+abbrev pub assign_code : Scalar → (place value : List Item) → List Item
+assign_code p place value = both_code place value (store_code p)
+
+-- what was there goes to ALT and the value to PRI, some items make one of both, and it is stored; the address waits
+abbrev pub changed_code : Scalar → List Item → List Item
+changed_code p change =
+    alone op.PushAlt ∷ alone op.Xchg ∷ (load_code p ++ (alone op.Xchg ∷ (change ++ (alone op.PopAlt ∷ store_code p))))
+
+abbrev pub update_code : Scalar → (place value change : List Item) → List Item
+update_code p place value change = both_code place value (changed_code p change)
+
+-- a step's value is the new one, or the one that was there, which waits
+abbrev pub stepped_code : Scalar → ℤ → Bool → List Item
+stepped_code p delta true = taking op.AddC delta ∷ store_code p
+stepped_code p delta false = alone op.PushPri ∷ taking op.AddC delta ∷ (store_code p ++ alone op.PopPri ∷ [])
+
+abbrev pub step_code : Scalar → ℤ → Bool → List Item → List Item
+step_code p delta prefix place = place ++ (alone op.MoveAlt ∷ (load_code p ++ stepped_code p delta prefix))
+
+-- the same by items that make the new value of the one in PRI, while the address waits
+abbrev pub turned_code : Scalar → List Item → Bool → List Item
+turned_code p change true = alone op.PushAlt ∷ (change ++ (alone op.PopAlt ∷ store_code p))
+turned_code p change false =
+    alone op.PushPri ∷ alone op.PushAlt ∷ (change ++ (alone op.PopAlt ∷ (store_code p ++ alone op.PopPri ∷ [])))
+
+abbrev pub step_by_code : Scalar → Bool → (place change : List Item) → List Item
+step_by_code p prefix place change = place ++ (alone op.MoveAlt ∷ (load_code p ++ turned_code p change prefix))

@@ -1,0 +1,62 @@
+-- The code of nodes without a jump, of which each is its own step between the codes of its parts. A value comes in
+-- PRI; while a second part runs, what the first one gave waits on the stack, and then goes to ALT.
+use Rattle.std.specs.Prelude.{ℤ, pos, List, [], ◌∷◌, ◌++◌}
+use Rattle.pawn_cells.specs.declared.operator.Prefix.{Prefix}
+use Rattle.pawn_cells.specs.declared.operator.Prefix.TheVariants as before
+use Rattle.pawn_cells.specs.declared.operator.Operator.{Operator}
+use Rattle.pawn_cells.specs.declared.operator.Operator.TheVariants as between
+use Rattle.amx_ops.specs.declared.op.Op.{Op}
+use Rattle.amx_ops.specs.declared.op.Op.TheVariants as op
+use Rattle.gen_sim.specs.Items.{Item, Plain, with}
+
+-- an instruction without an operand, and one with it
+abbrev pub alone : Op → Item
+alone operation = Plain (with operation (pos 0))
+
+abbrev pub taking : Op → ℤ → Item
+taking operation v = Plain (with operation v)
+
+-- ---- operators
+
+abbrev pub prefix_op : Prefix → Op
+prefix_op before.Not = op.Not
+prefix_op before.Invert = op.Invert
+prefix_op before.Negate = op.Neg
+
+-- the left operand is in ALT, the right one in PRI
+abbrev pub operator_code : Operator → List Item
+operator_code between.Multiply = alone op.Smul ∷ []
+operator_code between.Divide = alone op.SdivAlt ∷ []
+operator_code between.Remainder = alone op.SdivAlt ∷ alone op.MovePri ∷ []
+operator_code between.Add = alone op.Add ∷ []
+operator_code between.Subtract = alone op.SubAlt ∷ []
+operator_code between.ShiftLeft = alone op.Xchg ∷ alone op.Shl ∷ []
+operator_code between.ShiftRight = alone op.Xchg ∷ alone op.Sshr ∷ []
+operator_code between.ShiftUnsigned = alone op.Xchg ∷ alone op.Shr ∷ []
+operator_code between.And = alone op.And ∷ []
+operator_code between.Xor = alone op.Xor ∷ []
+operator_code between.Or = alone op.Or ∷ []
+operator_code between.Equal = alone op.Eq ∷ []
+operator_code between.NotEqual = alone op.Neq ∷ []
+
+-- ---- expressions
+
+abbrev pub const_code : ℤ → List Item
+const_code v = taking op.ConstPri v ∷ []
+
+abbrev pub unary_code : Prefix → List Item → List Item
+unary_code o e = e ++ alone (prefix_op o) ∷ []
+
+-- two parts, and what is done while the cell that the first one gave waits, with the second one's in PRI
+abbrev pub waiting_code : (first second tail : List Item) → List Item
+waiting_code first second tail = first ++ (alone op.PushPri ∷ (second ++ tail))
+
+-- or with it in ALT
+abbrev pub both_code : (first second last : List Item) → List Item
+both_code first second last = waiting_code first second (alone op.PopAlt ∷ last)
+
+abbrev pub binary_code : Operator → (left right : List Item) → List Item
+binary_code o left right = both_code left right (operator_code o)
+
+abbrev pub comma_code : (first second : List Item) → List Item
+comma_code first second = first ++ second

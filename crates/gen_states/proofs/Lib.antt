@@ -1,2 +1,0 @@
-pub mod SleepNodes
-pub mod StateNodes
