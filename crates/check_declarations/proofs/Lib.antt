@@ -1,0 +1,5 @@
+pub mod ToldLaws
+pub mod PlaceLaws
+pub mod DeclLaws
+pub mod FunctionLaws
+pub mod LeanLaws

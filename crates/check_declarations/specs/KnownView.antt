@@ -1,0 +1,32 @@
+-- What is known of a source, as far as the rules of declarations look at it.
+use Rattle.std.specs.Prelude.{[], false}
+use Rattle.pawn_tree.specs.declared.name.At.{At}
+use Rattle.pawn_tree.specs.Declarations.{FunctionOf}
+use Rattle.pawn_scopes.specs.Verdict.{Verdict}
+use Rattle.pawn_bodies.specs.Points.{Point, tag_of}
+use Rattle.pawn_bodies.specs.Statements.{stmt}
+use Rattle.pawn_bodies.specs.Stood.{Stood}
+use Rattle.pawn_typed.specs.Declarations.{body_point}
+use Rattle.check_types.specs.ContextView.{around_view}
+use Rattle.pawn_typed.specs.Sources.{Source}
+use Rattle.check_automata.specs.AutomataView.{automata_view}
+use Rattle.check_groups.specs.GroupsView.{groups_view}
+use Rattle.check_declarations.specs.declared.known.Known.{Known}
+
+-- without the headings and the names that are called
+abbrev pub source_view : Known → Source
+source_view it = record {
+  tags = it.cx.now.tags;
+  fallback = it.fallback.now;
+  groups = groups_view it.groups.now;
+  headings = [];
+  automata = automata_view it.automata.now;
+  called = [];
+}
+
+-- the body of a function, behind its head
+abbrev pub body_verdict : Known → Point → At → FunctionOf → Verdict Stood
+body_verdict it point at function =
+    stmt (around_view it.cx.now) (automata_view it.automata.now)
+    (tag_of (around_view it.cx.now) function.head.tag)
+    (body_point (source_view it) (around_view it.cx.now) point at function) false function.body

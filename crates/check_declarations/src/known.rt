@@ -1,0 +1,13 @@
+use check_automata::Automata;
+use check_groups::Groups;
+use check_types::Context;
+
+/// What is known of a source where its declarations are judged: the whole, its automata, its
+/// functions by their keys, and the automaton of an entry function's fallback.
+#[derive(Clone, Copy)]
+pub struct Known<'s> {
+    pub cx: &'s Context,
+    pub automata: &'s Automata,
+    pub groups: &'s Groups<'s>,
+    pub fallback: &'s [u8],
+}

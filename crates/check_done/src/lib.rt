@@ -1,0 +1,6 @@
+//! What the declarations of a source make: objects, bodies and warnings.
+#![tactic(auto)]
+
+mod done;
+
+pub use done::{Bodied, Done};
