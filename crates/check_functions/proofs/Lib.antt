@@ -1,0 +1,4 @@
+pub mod DifferLaws
+pub mod HeadLaws
+pub mod JoinLaws
+pub mod TellLaws

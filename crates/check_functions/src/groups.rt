@@ -1,0 +1,40 @@
+ghost use Rattle.std.specs.Prelude.{map, flat_map};
+ghost use Rattle.pawn_typed.specs.Functions as functions;
+ghost use Rattle.pawn_typed.specs.Sources.{stated};
+ghost use Rattle.check_groups.specs.GroupsView.{groups_view};
+ghost use Rattle.check_sources.specs.HeadingView.{heading_view};
+ghost use Rattle.check_sources.specs.SourceView.{source_view};
+ghost use Rattle.check_classifiers.specs.Finds.{Finds};
+ghost use Rattle.check_contexts.specs.HeadsView.{heads_view};
+ghost use Rattle.check_contexts.specs.Own.{AreFirsts};
+
+use super::heads::head_faults;
+use check_classifiers::all_groups;
+use check_contexts::Firsts;
+use check_sources::Source;
+use check_types::Head;
+use pawn_verdict::CheckFault;
+use std::alloc::Global;
+
+/// What the bodies of each function have to keep together: their classifiers (42 to 44, 51), that
+/// `main` and entry functions have no parameters, and that their heads are equal (65).
+///
+/// # Errors
+///
+/// One of these faults, or `Memory`.
+pub fn group_faults(
+    alloc: Global,
+    source: &Source,
+    firsts: &Firsts,
+    heads: &[Option<Head>],
+) -> Result<(), CheckFault>
+    requires { AreFirsts source.now.tags source.now.fallback.now
+        (groups_view source.now.groups) (map heading_view source.now.headings)
+        firsts.now.own.items firsts.now.entry }
+    ensures { Finds (flat_map (functions.group_faults (source_view source.now)
+        (stated (source_view source.now) (map heading_view source.now.headings)
+        (heads_view heads.now))) (groups_view source.now.groups)) result }
+{
+    all_groups(alloc, source.groups.as_slice())?;
+    head_faults(source, firsts, heads)
+}

@@ -1,0 +1,12 @@
+//! What the bodies of each function have to keep together: their classifiers, and heads that are
+//! equal to the first one of their function.
+#![tactic(auto)]
+
+mod against;
+mod groups;
+mod heads;
+mod places;
+
+pub use groups::group_faults;
+pub use heads::head_faults;
+pub use pawn_verdict::CheckFault;
