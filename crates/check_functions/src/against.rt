@@ -52,8 +52,14 @@ fn differing(
     y_head: Option<&Head>,
 ) -> Result<(), CheckFault>
     ensures { Finds (spec.differing (source_view source.now)
-        (record { heading = heading_view x.now; head = option_map (λ it. head_view it.now) x_head.entry })
-        (record { heading = heading_view y.now; head = option_map (λ it. head_view it.now) y_head.entry }))
+        (record {
+          heading = heading_view x.now;
+          head = option_map (λ it. head_view it.now) x_head.entry;
+        })
+        (record {
+          heading = heading_view y.now;
+          head = option_map (λ it. head_view it.now) y_head.entry;
+        }))
         result }
 {
     fault_if(differs(source, x, x_head, y, y_head), HEAD_DIFFERS, y.at)
@@ -68,7 +74,10 @@ fn compare_with(
     place: usize,
 ) -> Result<(), CheckFault>
     ensures { Finds (differing_by (source_view source.now)
-        (Some (record { heading = heading_view x.now; head = head_at (heads_view heads.now) first }))
+        (Some (record {
+          heading = heading_view x.now;
+          head = head_at (heads_view heads.now) first;
+        }))
         (stated_at (map heading_view source.now.headings) (heads_view heads.now) place)) result }
 {
     match heading_in(source, place) {
