@@ -1,6 +1,6 @@
 -- What may be said of marks up to a token so that it goes from the first token of each node up to
 -- the one behind it: what each mark has to keep.
-use Rattle.std.proofs.Common.{◌≡◌, ◌≤◌, ℕ, suc, Bool, true, false, if◌then◌else◌, List, [], ◌∷◌, Option, Some, None, arith}
+use Rattle.std.proofs.Common.{◌≡◌, ◌≤◌, ℕ, suc, Bool, true, false, ◌&&◌, if◌then◌else◌, List, [], ◌∷◌, Option, Some, None, refl, arith}
 use Rattle.pawn_cells.specs.declared.place.Place.{Place}
 use Rattle.pawn_token.specs.declared.sign.Sign.{Sign}
 use Rattle.pawn_token.specs.declared.key.Key.{Key}
@@ -13,10 +13,12 @@ use Rattle.pawn_tree.specs.Expressions.{Expr}
 use Rattle.pawn_tree.specs.Variables.{Dim, Var}
 use Rattle.pawn_tree.specs.Statements.{ConstantOf}
 use Rattle.pawn_tree.specs.Declarations.{Item, Plain}
-use Rattle.pawn_grammar.specs.Tokens.{at, sees, sees_key, is_tag, is_name, word, behind_tag, behind_key, behind_sign}
+use Rattle.pawn_grammar.specs.declared.word.Word.{Word}
+use Rattle.pawn_grammar.specs.declared.word.Word.TheVariants as w
+use Rattle.pawn_grammar.specs.Tokens.{at, name_at, spelling, sees, sees_key, is_tag, is_label, is_name, word, tag_at, behind_tag, behind_key, behind_sign}
 use Rattle.pawn_grammar.specs.Ends.{ending}
 use Rattle.pawn_grammar.specs.Variables.{IsConstant}
-use Rattle.pawn_grammar.specs.Declarations.{behind_name, behind_reference, IsEnum}
+use Rattle.pawn_grammar.specs.Declarations.{maybe_name, behind_name, behind_reference, IsLabel, label_of, AreTags, no_tags, one_tag, tag_set, IsEnum}
 use Rattle.pawn_grammar.specs.Lists.{Part, Many, no_more, one_more, Behind, Several, several, UpTo, none_up_to, some_up_to, Led, left_out, led}
 use Rattle.pawn_scopes.specs.Mark.{Mark, Opens, Closes, Mentions}
 use Rattle.pawn_scopes.specs.Lists.{all_marks, maybe_marks}
@@ -28,10 +30,10 @@ use Rattle.pawn_scopes.specs.TreeMarks.{items_marks, param_marks}
 -- ---- what is kept
 
 -- by the marks of an expression
-pub record Grows (P : List Mark → ℕ → Type 0) : Type 0 where
+pub record Grows (ts : List Token) (P : List Mark → ℕ → Type 0) : Type 0 where
   pub on : {marks : List Mark} {m k : ℕ} → P marks m → m ≤ k → P marks k
-  pub mention : (tag : List ℕ) {marks : List Mark} {m : ℕ} → P marks m → P (Mentions tag ∷ marks) m
-  pub occur : (ts : List Token) (name : List ℕ) (node : At) {marks : List Mark} {i : ℕ} → P marks i → P (occurs name (at ts i) node ∷ marks) (suc i)
+  pub mention : {marks : List Mark} {i : ℕ} → is_label (word ts i) ≡ true → P marks i → P (Mentions (spelling ts i) ∷ marks) (suc i)
+  pub occur : (name : List ℕ) (node : At) {marks : List Mark} {i : ℕ} → P marks i → P (occurs name (at ts i) node ∷ marks) (suc i)
 
 -- and by those of a declaration or a statement
 pub record Spans (ts : List Token) (P : List Mark → ℕ → Type 0) : Type 0 where
@@ -51,7 +53,7 @@ pub record Spans (ts : List Token) (P : List Mark → ℕ → Type 0) : Type 0 w
 pub record Orders (P : List Mark → ℕ → Type 0) {A : Type 0} (part : Part A) (marks : A → List Mark → List Mark) : Type 0 where
   pub orders : {h i j : ℕ} {x : A} → part h x i j → (before : List Mark) → P before i → P (marks x before) j
 
-module _ {P : List Mark → ℕ → Type 0} (grows : Grows P) {A : Type 0} {marks : A → List Mark → List Mark} where
+module _ {ts : List Token} {P : List Mark → ℕ → Type 0} (grows : Grows ts P) {A : Type 0} {marks : A → List Mark → List Mark} where
   pub many_order : {more : ℕ → Bool} {part : Part A} {h i j : ℕ} {xs : List A} → Orders P part marks → Many more part h xs i j
       → (before : List Mark) → P before i → P (all_marks marks xs before) j
   many_order p (no_more f) before r = r
@@ -64,12 +66,12 @@ module _ {P : List Mark → ℕ → Type 0} (grows : Grows P) {A : Type 0} {mark
       → (before : List Mark) → P before i → P (all_marks marks xs before) j
   several_order p (several x m) before r = many_order (behind_orders p) m _ (p.orders x before r)
 
-  pub led_orders : {ts : List Token} {c : Sign} {part : Part A} {h i j : ℕ} {x : Option A} → Orders P part marks → Led ts c part h x i j
+  pub led_orders : {c : Sign} {part : Part A} {h i j : ℕ} {x : Option A} → Orders P part marks → Led ts c part h x i j
       → (before : List Mark) → P before i → P (maybe_marks marks x before) j
   led_orders p (left_out f) before r = r
   led_orders p (led c x) before r = p.orders x before (grows.on r (omega arith))
 
-  pub up_to_orders : {ts : List Token} {c : Sign} {part : Part A} {h i j : ℕ} {xs : List A} → Orders P part marks → UpTo ts c part h xs i j
+  pub up_to_orders : {c : Sign} {part : Part A} {h i j : ℕ} {xs : List A} → Orders P part marks → UpTo ts c part h xs i j
       → (before : List Mark) → P before i → P (all_marks marks xs before) j
   up_to_orders p (none_up_to e) before r = r
   up_to_orders p (some_up_to f m e) before r = several_order p m before r
@@ -136,17 +138,61 @@ reference_on ts i =
 
 -- ---- tags and ends
 
-module _ {P : List Mark → ℕ → Type 0} (grows : Grows P) where
-  pub maybe_tag_rises : (x : Option n.Name) {marks : List Mark} {m : ℕ} → P marks m → P (maybe_marks tag_marks x marks) m
-  maybe_tag_rises None r = r
-  maybe_tag_rises (Some tag) r = grows.mention tag.bytes r
+left_true : (a b : Bool) → (a && b) ≡ true → a ≡ true
+left_true true b e = refl
+left_true false b e = absurd (let never : ⊥ = cc in never)
 
-  pub tags_rise : (xs : List n.Name) {marks : List Mark} {m : ℕ} → P marks m → P (all_marks tag_marks xs marks) m
-  tags_rise [] r = r
-  tags_rise (tag ∷ tags) r = tags_rise tags (grows.mention tag.bytes r)
+right_true : (a b : Bool) → (a && b) ≡ true → b ≡ true
+right_true true b e = e
+right_true false b e = absurd (let never : ⊥ = cc in never)
 
-  pub end_on : (ts : List Token) {i k : ℕ} {marks : List Mark} → P marks i → ending ts i ≡ Some k → P marks k
-  end_on ts r e = grows.on r (ending_on ts _ _ e)
+name_label : (it : Word) → is_name it ≡ true → is_label it ≡ true
+name_label w.Name e = refl
+name_label w.Blank e = absurd (let never : ⊥ = cc in never)
+name_label w.Number e = absurd (let never : ⊥ = cc in never)
+name_label w.Text e = absurd (let never : ⊥ = cc in never)
+name_label w.Absent e = absurd (let never : ⊥ = cc in never)
+name_label (w.Key k) e = absurd (let never : ⊥ = cc in never)
+name_label (w.Sign c) e = absurd (let never : ⊥ = cc in never)
 
-  pub tag_on : (ts : List Token) {i : ℕ} {marks : List Mark} → P marks i → P marks (behind_tag ts i)
-  tag_on ts {i = i} r = grows.on r (behind_tag_on ts i)
+-- a tag is a name, or `_`
+pub tag_label : (ts : List Token) (i : ℕ) → is_tag ts i ≡ true → is_label (word ts i) ≡ true
+unfolding is_tag
+tag_label ts i e = left_true (is_label (word ts i)) _ e
+
+-- also where tags may stand
+pub allowed_label : (ts : List Token) (tags : Bool) (i : ℕ) → (tags && is_tag ts i) ≡ true
+    → is_label (word ts i) ≡ true
+allowed_label ts tags i e = tag_label ts i (right_true tags (is_tag ts i) e)
+
+module _ {ts : List Token} {P : List Mark → ℕ → Type 0} (grows : Grows ts P) where
+  -- a tag, where one stands
+  pub maybe_tag_rises : (i : ℕ) {marks : List Mark} → P marks i → P (maybe_marks tag_marks (tag_at ts i) marks) (behind_tag ts i)
+  unfolding tag_at behind_tag
+  maybe_tag_rises i {marks = marks} r = by (is_tag ts i) refl
+    where
+      by : (b : Bool) → is_tag ts i ≡ b → P (maybe_marks tag_marks (if b then Some (name_at ts i) else None) marks) (if b then suc (suc i) else i)
+      by true e = grows.on (grows.mention (tag_label ts i e) r) (omega arith)
+      by false e = r
+
+  -- the name of an enumeration, where one stands
+  pub maybe_name_rises : (i : ℕ) {marks : List Mark} → P marks i → P (maybe_marks tag_marks (maybe_name ts i) marks) (behind_name ts i)
+  unfolding maybe_name behind_name
+  maybe_name_rises i {marks = marks} r = by (is_name (word ts i)) refl
+    where
+      by : (b : Bool) → is_name (word ts i) ≡ b → P (maybe_marks tag_marks (if b then Some (name_at ts i) else None) marks) (if b then suc i else i)
+      by true e = grows.mention (name_label (word ts i) e) r
+      by false e = r
+
+  label_rises : {h i j : ℕ} {x : n.Name} → IsLabel ts h x i j → (before : List Mark) → P before i → P (tag_marks x before) j
+  label_rises (label_of e) before r = grows.mention e r
+
+  -- the tags of a parameter
+  pub tags_rise : {i j : ℕ} {xs : List n.Name} → AreTags ts xs i j → (before : List Mark) → P before i → P (all_marks tag_marks xs before) j
+  tags_rise (no_tags f f2) before r = r
+  tags_rise {i = i} (one_tag t) before r = grows.on (grows.mention (tag_label ts i t) r) (omega arith)
+  tags_rise (tag_set c m c2 c3) before r =
+      grows.on (several_order grows (record { orders = label_rises }) m before (grows.on r (omega arith))) (omega arith)
+
+  pub end_on : {i k : ℕ} {marks : List Mark} → P marks i → ending ts i ≡ Some k → P marks k
+  end_on r e = grows.on r (ending_on ts _ _ e)

@@ -29,7 +29,7 @@ use Rattle.pawn_scopes.specs.ExpressionMarks.{sizeof_marks, tagof_marks, expr_ma
 use Rattle.pawn_scopes.specs.VariableMarks.{dim_marks, init_marks, inits_marks, var_marks}
 use Rattle.pawn_scopes.specs.StatementMarks.{first_marks, range_marks, stmt_marks, stmts_marks, case_marks, cases_marks, other_marks}
 use Rattle.pawn_scopes.specs.TreeMarks.{param_marks, head_marks, decl_marks}
-use Rattle.pawn_uses.proofs.Grows.{Grows, Spans, Orders, many_order, several_order, led_orders, up_to_orders, Goes, several_goes, up_to_goes, key_on, reference_on, maybe_tag_rises, tags_rise, end_on, tag_on}
+use Rattle.pawn_uses.proofs.Grows.{Grows, Spans, Orders, many_order, several_order, led_orders, up_to_orders, Goes, up_to_goes, key_on, reference_on, allowed_label, maybe_tag_rises, tags_rise, end_on}
 
 -- ---- expressions
 
@@ -37,30 +37,30 @@ brackets_on : (k i : ℕ) → i ≤ behind_brackets k i
 brackets_on zero i = omega arith
 brackets_on (suc k) i = let a = brackets_on k (suc (suc i)) in omega arith
 
-module _ (ts : List Token) {P : List Mark → ℕ → Type 0} (grows : Grows P) where
+module _ (ts : List Token) {P : List Mark → ℕ → Type 0} (grows : Grows ts P) where
   on : {marks : List Mark} {m k : ℕ} → P marks m → m ≤ k → P marks k
   on = grows.on
 
   sizeof_rises : {i j : ℕ} {x : SizeofOperand} (node : At) → IsSizeof ts x i j → (before : List Mark) → P before i → P (sizeof_marks node x before) j
-  sizeof_rises node (sizeof_name {n = k} c l b) before r = on (grows.occur ts _ node r) (brackets_on k _)
+  sizeof_rises node (sizeof_name {n = k} c l b) before r = on (grows.occur _ node r) (brackets_on k _)
   sizeof_rises {i} node (sizeof_text {n = k} c l b) before r = let a = brackets_on k (suc i) in on r (omega arith)
 
   tagof_rises : {tags : Bool} {i j : ℕ} {x : TagofOperand} (node : At) → IsTagof ts tags x i j → (before : List Mark) → P before i → P (tagof_marks node x before) j
-  tagof_rises node (tagof_name c) before r = grows.occur ts _ node r
-  tagof_rises node (tagof_tag t) before r = on (grows.mention _ r) (omega arith)
+  tagof_rises node (tagof_name c) before r = grows.occur _ node r
+  tagof_rises {tags} {i} node (tagof_tag t) before r = on (grows.mention (allowed_label ts tags i t) r) (omega arith)
 
   mutual
     pub expr_rises : {b : Bool} {q h i j : ℕ} {x : Expr} → IsExpr ts b q h x i j → (before : List Mark) → P before i → P (expr_marks x before) j
     expr_rises (number c) before r = on r (omega arith)
     expr_rises (text c) before r = on r (omega arith)
-    expr_rises {i = i} (name c) before r = grows.occur ts _ (at ts i) r
+    expr_rises {i = i} (name c) before r = grows.occur _ (at ts i) r
     expr_rises (paren c s l c2) before r = on (expr_rises s before (on r (omega arith))) (omega arith)
-    expr_rises {i = i} (call c k a c2) before r = on (args_rise a _ (on (grows.occur ts _ (at ts i) r) (omega arith))) (omega arith)
+    expr_rises {i = i} (call c k a c2) before r = on (args_rise a _ (on (grows.occur _ (at ts i) r) (omega arith))) (omega arith)
     expr_rises (index s l c f y l2 c2) before r = on (expr_rises y _ (on (expr_rises s before r) (omega arith))) (omega arith)
     expr_rises (character s l c f y l2 c2) before r = on (expr_rises y _ (on (expr_rises s before r) (omega arith))) (omega arith)
     expr_rises (postfix s l c j f) before r = on (expr_rises s before r) (omega arith)
     expr_rises (prefix c t s l) before r = expr_rises s before (on r (omega arith))
-    expr_rises (tagged t s l) before r = expr_rises s _ (on (grows.mention _ r) (omega arith))
+    expr_rises {b = b} {i = i} (tagged t s l) before r = expr_rises s _ (on (grows.mention (allowed_label ts b i t) r) (omega arith))
     expr_rises {i = i} (sizeof c s) before r = sizeof_rises (at ts i) s before (on r (omega arith))
     expr_rises {i = i} (sizeof_in c c2 s c3) before r = on (sizeof_rises (at ts i) s before (on r (omega arith))) (omega arith)
     expr_rises {i = i} (tagof c s) before r = tagof_rises (at ts i) s before (on r (omega arith))
@@ -128,19 +128,19 @@ module _ (ts : List Token) {P : List Mark → ℕ → Type 0} (grows : Grows P) 
     var_rises : (place : Place) (outside : Bool) {h i j : ℕ} {x : Var} → IsVar ts h x i j → (before : List Mark) → P before i → P (var_marks place outside x before) j
     var_rises place outside {i = i} (var c ds x) before r =
         spans.variable place outside _ _ (led_orders grows (record { orders = init_rises }) x _
-        (dims_rise ds _ (on (tag_on grows ts (maybe_tag_rises grows (tag_at ts i) r)) (omega arith))))
+        (dims_rise ds _ (on (maybe_tag_rises grows i r) (omega arith))))
 
-    vars_rise : (place : Place) (outside : Bool) {h i j : ℕ} {xs : List Var} → Listed ts (IsVar ts) h xs i j → (before : List Mark) → P before i → P (all_marks (var_marks place outside) xs before) j
+    pub vars_rise : (place : Place) (outside : Bool) {h i j : ℕ} {xs : List Var} → Listed ts (IsVar ts) h xs i j → (before : List Mark) → P before i → P (all_marks (var_marks place outside) xs before) j
     vars_rise place outside m before r = several_order grows (record { orders = var_rises place outside }) m before r
 
-    variables_rise : (place : Place) (outside : Bool) {st : _} {h i j : ℕ} {x : Variables} → AreVariables ts st h x i j → (before : List Mark) → P before i → P (all_marks (var_marks place outside) x.vars before) j
-    variables_rise place outside {i = i} (variables m e) before r = end_on grows ts (vars_rise place outside m before (on r (key_on ts _ i))) e
+    pub variables_rise : (place : Place) (outside : Bool) {st : _} {h i j : ℕ} {x : Variables} → AreVariables ts st h x i j → (before : List Mark) → P before i → P (all_marks (var_marks place outside) x.vars before) j
+    variables_rise place outside {i = i} (variables m e) before r = end_on grows (vars_rise place outside m before (on r (key_on ts _ i))) e
 
     -- ---- statements
 
     result_rises : {h i j : ℕ} {x : Option Expr} → IsResult ts h x i j → (before : List Mark) → P before i → P (maybe_marks expr_marks x before) j
-    result_rises (no_result e) before r = end_on grows ts r e
-    result_rises (one_result f x e) before r = end_on grows ts (expr_rises x.is_expr before r) e
+    result_rises (no_result e) before r = end_on grows r e
+    result_rises (one_result f x e) before r = end_on grows (expr_rises x.is_expr before r) e
 
     before_rises : {c : Sign} {h i j : ℕ} {x : Option Expr} → IsBefore ts c h x i j → (before : List Mark) → P before i → P (maybe_marks expr_marks x before) j
     before_rises (none_before e) before r = r
@@ -163,15 +163,15 @@ module _ (ts : List Token) {P : List Mark → ℕ → Type 0} (grows : Grows P) 
     state_name_goes (of_automaton c c2 c3) = omega arith
 
     mutual
-      stmt_rises : {b : Bool} {h i j : ℕ} {x : Stmt} → IsStmt ts b h x i j → (before : List Mark) → P before i → P (stmt_marks x before) j
+      pub stmt_rises : {b : Bool} {h i j : ℕ} {x : Stmt} → IsStmt ts b h x i j → (before : List Mark) → P before i → P (stmt_marks x before) j
       stmt_rises (empty_stmt c) before r = on r (omega arith)
-      stmt_rises (does_stmt x e) before r = end_on grows ts (expr_rises x.is_expr before r) e
-      stmt_rises {i = i} (bare_stmt c t v a e) before r = end_on grows ts (more_rise a _ (value_rises v _ (grows.occur ts _ (at ts i) r))) e
+      stmt_rises (does_stmt x e) before r = end_on grows (expr_rises x.is_expr before r) e
+      stmt_rises {i = i} (bare_stmt c t v a e) before r = end_on grows (more_rise a _ (value_rises v _ (grows.occur _ (at ts i) r))) e
       stmt_rises (block_stmt c a c2) before r = on (spans.closes (stmts_rise a _ (spans.opens (on r (omega arith))))) (omega arith)
       stmt_rises (if_stmt c x s o) before r = other_rises o _ (stmt_rises s _ (condition_rises x before (on r (omega arith))))
       stmt_rises (while_stmt c x s) before r = stmt_rises s _ (condition_rises x before (on r (omega arith)))
       stmt_rises (do_while_stmt c s c2 x e) before r =
-          end_on grows ts (condition_rises x _ (on (stmt_rises s before (on r (omega arith))) (omega arith))) e
+          end_on grows (condition_rises x _ (on (stmt_rises s before (on r (omega arith))) (omega arith))) e
       stmt_rises {i = i} (for_stmt c c2 f c3 x y s) before r =
           spans.closes (stmt_rises s _ (on (before_rises y _ (on (before_rises x _
           (on (first_rises (at ts i) f _ (spans.opens (on r (omega arith)))) (omega arith))) (omega arith))) (omega arith)))
@@ -180,11 +180,11 @@ module _ (ts : List Token) {P : List Mark → ℕ → Type 0} (grows : Grows P) 
       stmt_rises (return_stmt c x) before r = result_rises x before (on r (omega arith))
       stmt_rises (exit_stmt c x) before r = result_rises x before (on r (omega arith))
       stmt_rises (sleep_stmt c x) before r = result_rises x before (on r (omega arith))
-      stmt_rises (assert_stmt c x e) before r = end_on grows ts (expr_rises x.is_expr before (on r (omega arith))) e
-      stmt_rises (break_stmt c e) before r = on (end_on grows ts (on r (omega arith)) e) (omega arith)
-      stmt_rises (continue_stmt c e) before r = on (end_on grows ts (on r (omega arith)) e) (omega arith)
+      stmt_rises (assert_stmt c x e) before r = end_on grows (expr_rises x.is_expr before (on r (omega arith))) e
+      stmt_rises (break_stmt c e) before r = on (end_on grows (on r (omega arith)) e) (omega arith)
+      stmt_rises (continue_stmt c e) before r = on (end_on grows (on r (omega arith)) e) (omega arith)
       stmt_rises (state_stmt c x state e) before r =
-          end_on grows ts (on (state_condition_rises x before (on r (omega arith))) (state_name_goes state)) e
+          end_on grows (on (state_condition_rises x before (on r (omega arith))) (state_name_goes state)) e
       stmt_rises {i = i} (local_stmt c s v) before r = variables_rise (at ts i).place false v before (on r (omega arith))
       stmt_rises {i = i} (constant_stmt c x) before r = spans.constant (at ts i).place false x before (on r (omega arith))
 
@@ -210,40 +210,29 @@ module _ (ts : List Token) {P : List Mark → ℕ → Type 0} (grows : Grows P) 
 
     -- ---- functions
 
-    label_goes : Goes (IsLabel ts)
-    label_goes = record { goes = λ x. by_label x }
-      where
-        by_label : {h i j : ℕ} {x : n.Name} → IsLabel ts h x i j → i ≤ j
-        by_label (label_of e) = omega arith
-
-    tags_go : {i j : ℕ} {xs : List n.Name} → AreTags ts xs i j → i ≤ j
-    tags_go (no_tags f f2) = omega arith
-    tags_go (one_tag t) = omega arith
-    tags_go (tag_set c m c2 c3) = let a = several_goes label_goes m in omega arith
-
-    param_rises : (place : Place) {native : Bool} {h i j : ℕ} {x : Param} → IsParam ts native h x i j → (before : List Mark) → P before i → P (param_marks place x before) j
+    pub param_rises : (place : Place) {native : Bool} {h i j : ℕ} {x : Param} → IsParam ts native h x i j → (before : List Mark) → P before i → P (param_marks place x before) j
     param_rises place {i = i} (plain_param {j = j} {tags = tags} {dims = dims} {value = value} t c ds v) before r =
-        let a = reference_on ts i in let b = tags_go t in
+        let a = reference_on ts i in
         spans.parameter place (sees_key ts key.Const i) (sees ts sign.Ampersand (behind_key ts key.Const i)) tags (name_at ts j) dims value before
-        (led_orders grows whole_orders v _ (dims_rise ds _ (on (tags_rise grows tags r) (omega arith))))
-    param_rises place (rest_param {tags = tags} same t c c2) before r = let a = tags_go t in on (tags_rise grows tags r) (omega arith)
+        (led_orders grows whole_orders v _ (dims_rise ds _ (on (tags_rise grows t before (on r a)) (omega arith))))
+    param_rises place (rest_param same t c c2) before r = on (tags_rise grows t before r) (omega arith)
 
-    head_name_goes : {i j : ℕ} {x : HeadName} → IsHeadName ts x i j → i ≤ j
+    pub head_name_goes : {i j : ℕ} {x : HeadName} → IsHeadName ts x i j → i ≤ j
     head_name_goes (name_of c) = omega arith
     head_name_goes (operator_of c c2) = omega arith
 
     head_rises : (place : Place) {native : Bool} {h i j : ℕ} {x : Head} → IsHead ts native h x i j → (before : List Mark) → P before i → P (head_marks place x before) j
     head_rises place {i = i} (head_of c c2 ps) before r =
         let a = head_name_goes c in
-        on (up_to_orders grows (record { orders = param_rises place }) ps _ (spans.opens (on (tag_on grows ts (maybe_tag_rises grows (tag_at ts i) r)) (omega arith)))) (omega arith)
+        on (up_to_orders grows (record { orders = param_rises place }) ps _ (spans.opens (on (maybe_tag_rises grows i r) (omega arith)))) (omega arith)
 
-    modifiers_go : {m all : _} {i j : ℕ} → AreModifiers ts m all i j → i ≤ j
+    pub modifiers_go : {m all : _} {i j : ℕ} → AreModifiers ts m all i j → i ≤ j
     modifiers_go (no_modifier f) = omega arith
     modifiers_go (static_word c f m) = let a = modifiers_go m in omega arith
     modifiers_go (stock_word c f m) = let a = modifiers_go m in omega arith
     modifiers_go (public_word c f m) = let a = modifiers_go m in omega arith
 
-    classifier_goes : {x : Option (List StateName)} {i j : ℕ} → IsClassifier ts x i j → i ≤ j
+    pub classifier_goes : {x : Option (List StateName)} {i j : ℕ} → IsClassifier ts x i j → i ≤ j
     classifier_goes (no_classifier f) = omega arith
     classifier_goes (classifier c m) = let a = up_to_goes (record { goes = state_name_goes }) m in omega arith
 
@@ -251,9 +240,9 @@ module _ (ts : List Token) {P : List Mark → ℕ → Type 0} (grows : Grows P) 
     decl_rises {i = i} (variables_decl c s f v) before r = variables_rise (at ts i).place true v before (on r (omega arith))
     decl_rises {i = i} (constant_decl c x) before r = spans.constant (at ts i).place true x before (on r (omega arith))
     decl_rises {i = i} (enum_decl c x) before r = spans.enum (at ts i).place x before (on r (omega arith))
-    decl_rises {i = i} (native_decl c x e) before r = end_on grows ts (spans.closes (head_rises (at ts i).place x before (on r (omega arith)))) e
+    decl_rises {i = i} (native_decl c x e) before r = end_on grows (spans.closes (head_rises (at ts i).place x before (on r (omega arith)))) e
     decl_rises {i = i} (forward_decl c x e) before r =
-        let a : suc i ≤ behind_key ts key.Public (suc i) = key_on ts key.Public (suc i) in end_on grows ts (spans.closes (head_rises (at ts i).place x before (on r (omega arith)))) e
+        let a : suc i ≤ behind_key ts key.Public (suc i) = key_on ts key.Public (suc i) in end_on grows (spans.closes (head_rises (at ts i).place x before (on r (omega arith)))) e
     decl_rises {i = i} (function_decl m x c s) before r =
         let a = modifiers_go m in let b = classifier_goes c in
         spans.closes (stmt_rises s _ (on (head_rises (at ts i).place x before (on r (omega arith))) (omega arith)))

@@ -2,7 +2,7 @@
 use Rattle.std.proofs.Common.{◌<◌, ◌≤◌, ℕ, suc, List, [], ◌∷◌, arith}
 use Rattle.pawn_lex.specs.declared.token.Token.{Token}
 use Rattle.pawn_tree.specs.declared.name.At.{At}
-use Rattle.pawn_grammar.specs.Tokens.{at}
+use Rattle.pawn_grammar.specs.Tokens.{at, spelling}
 use Rattle.pawn_scopes.specs.Mark.{Mark, Opens, Closes, Mentions, Uses, Declares, Declaration}
 use Rattle.pawn_scopes.specs.ExpressionMarks.{occurs}
 use Rattle.pawn_uses.proofs.Grows.{Grows}
@@ -48,5 +48,9 @@ use_rises : (ts : List Token) (name : List ℕ) (node : At) {marks : List Mark} 
 unfolding at
 use_rises ts name node {i = i} x = record { rises = (omega arith, x.rises) }
 
-pub rises_grow : Grows Rises
-rises_grow = record { on = on; mention = λ tag r. mention_rises tag r; occur = use_rises }
+pub rises_grow : {ts : List Token} → Grows ts Rises
+rises_grow {ts} = record {
+  on = on;
+  mention = λ {marks} {i} label r. on (mention_rises (spelling ts i) r) (omega arith);
+  occur = λ name node r. use_rises ts name node r;
+}

@@ -8,7 +8,7 @@ use Rattle.pawn_tree.specs.declared.name.Name as n
 use Rattle.pawn_tree.specs.Expressions.{Expr}
 use Rattle.pawn_tree.specs.Statements.{ConstantOf}
 use Rattle.pawn_tree.specs.Declarations.{Item, Tree}
-use Rattle.pawn_grammar.specs.Tokens.{at, tag_at, name_at, is_name, word, behind_tag, behind_sign}
+use Rattle.pawn_grammar.specs.Tokens.{at, spelling, tag_at, name_at, is_name, word, behind_tag, behind_sign}
 use Rattle.pawn_grammar.specs.Lists.{Many, no_more, one_more, Behind, Several, several}
 use Rattle.pawn_grammar.specs.Variables.{IsConstant, constant}
 use Rattle.pawn_grammar.specs.Declarations.{IsItem, item_of, IsEnum, enum_of, maybe_name, behind_name}
@@ -30,7 +30,7 @@ use Rattle.pawn_scopes.specs.ResolvedMeans.{HasValue, IsResolved}
 use Rattle.pawn_scopes.proofs.ResolvedLaws.{is_resolved}
 use Rattle.pawn_uses.specs.Rising.{AreRising}
 use Rattle.pawn_uses.proofs.Up.{Up, none_up, up_on, up_from, up_behind, up_around, up_more, rising}
-use Rattle.pawn_uses.proofs.Grows.{Grows, Spans, many_order, led_orders, maybe_tag_rises, tag_on, ending_on, sign_on}
+use Rattle.pawn_uses.proofs.Grows.{Grows, Spans, many_order, led_orders, maybe_tag_rises, ending_on, sign_on}
 use Rattle.pawn_uses.proofs.Nodes.{expr_rises, whole_orders, decl_orders}
 
 -- ---- one pair more, before so many at the end
@@ -102,8 +102,16 @@ module _ (around : Around) where
   lifts_occur : (ts : List Token) (name : List ℕ) (node : At) {marks : List Mark} {i : ℕ} → Lifts marks i → Lifts (occurs name (at ts i) node ∷ marks) (suc i)
   lifts_occur ts name node x = record { up = λ v. up_on (x.up v) (omega arith) }
 
-  lifts_grow : Grows Lifts
-  lifts_grow = record { on = lifts_on; mention = lifts_mention; occur = lifts_occur }
+  lifts_grow : {ts : List Token} → Grows ts Lifts
+  lifts_grow {ts} = record {
+    on = lifts_on;
+    mention = λ {marks} {i} label r. lifts_on (lifts_mention (spelling ts i) r) (omega arith);
+    occur = λ name node r. lifts_occur ts name node r;
+  }
+
+  maybe_name_lifts : (x : Option n.Name) {marks : List Mark} {m : ℕ} → Lifts marks m → Lifts (maybe_marks tag_marks x marks) m
+  maybe_name_lifts None r = r
+  maybe_name_lifts (Some tag) r = lifts_mention tag.bytes r
 
   -- ---- marks with no constants more
 
@@ -122,8 +130,12 @@ module _ (around : Around) where
       → Same first least (occurs name (at ts i) node ∷ marks) (suc i)
   same_occur {least = least} ts name node {i = i} x = let a : least ≤ i = x.ahead in record { valued = x.valued; same = x.same; ahead = omega arith }
 
-  same_grow : (first : List Mark) (least : ℕ) → Grows (Same first least)
-  same_grow first least = record { on = same_on; mention = same_mention; occur = same_occur }
+  same_grow : {ts : List Token} (first : List Mark) (least : ℕ) → Grows ts (Same first least)
+  same_grow {ts} first least = record {
+    on = same_on;
+    mention = λ {marks} {i} label r. same_on (same_mention (spelling ts i) r) (omega arith);
+    occur = λ name node r. same_occur ts name node r;
+  }
 
   same_first : (first : List Mark) (least : ℕ) → Same first least first least
   same_first first least = record { valued = λ v. v; same = refl; ahead = omega arith }
@@ -245,7 +257,7 @@ module _ (around : Around) where
         declares_lift
         (record { name = name_at ts (behind_tag ts i); place = place; tag = tag_at ts i; outside = outside; sort = mark.Constant value })
         (maybe_marks tag_marks (tag_at ts i) before) (expr_marks value (maybe_marks tag_marks (tag_at ts i) before)) refl tt
-        (tag_on lifts_grow ts (maybe_tag_rises lifts_grow (tag_at ts i) r))
+        (maybe_tag_rises lifts_grow i r)
         (same_on (expr_rises ts (same_grow (maybe_marks tag_marks (tag_at ts i) before) (suc (suc (behind_tag ts i)))) x.is_expr (maybe_marks tag_marks (tag_at ts i) before)
         (same_first (maybe_marks tag_marks (tag_at ts i) before) (suc (suc (behind_tag ts i))))) (ending_on ts j k e)) (omega arith)
 
@@ -285,7 +297,7 @@ module _ (around : Around) where
     enum_lifts place {i = i} (enum_of {k = k} c m c2) before r =
         let b : k ≤ behind_sign ts sign.Comma k = sign_on ts sign.Comma k in
         let d : suc (behind_sign ts sign.Comma k) ≤ behind_sign ts sign.Semicolon (suc (behind_sign ts sign.Comma k)) = sign_on ts sign.Semicolon (suc (behind_sign ts sign.Comma k)) in
-        lifts_on (items_lift place (maybe_name ts i) (maybe_marks tag_marks (maybe_name ts i) before) (maybe_name_between i) (maybe_tag_rises lifts_grow (maybe_name ts i) r) m
+        lifts_on (items_lift place (maybe_name ts i) (maybe_marks tag_marks (maybe_name ts i) before) (maybe_name_between i) (maybe_name_lifts (maybe_name ts i) r) m
         (no_items (maybe_marks tag_marks (maybe_name ts i) before) (behind_name ts i))) (omega arith)
 
     lifts_span : Spans ts Lifts
@@ -315,5 +327,5 @@ module _ (tree : Tree) (resolved : IsResolved tree) where
 
 pub values_rise : (ts : List Token) (tree : Tree) (names : Names) → Spells ts tree → Resolves tree names → AreRising 0 names.values
 values_rise ts tree names spells resolves =
-    let all = many_order (lifts_grow (around_of tree)) (decl_orders ts (lifts_grow (around_of tree)) (lifts_span (around_of tree) ts)) spells.decls [] (none_lift (around_of tree)) in
+    let all = many_order {ts = ts} (lifts_grow (around_of tree)) (decl_orders ts (lifts_grow (around_of tree)) (lifts_span (around_of tree) ts)) spells.decls [] (none_lift (around_of tree)) in
     subst (AreRising 0) (sym resolves.values) (rising (all.up (all_valued tree (is_resolved tree names resolves) (tree_marks tree) [] refl)))

@@ -11,7 +11,7 @@ use Rattle.pawn_grammar.specs.Lists.{Many, no_more, one_more, Behind, Several, s
 use Rattle.pawn_grammar.specs.Variables.{IsConstant, constant}
 use Rattle.pawn_grammar.specs.Declarations.{IsItem, item_of, IsEnum, enum_of}
 use Rattle.pawn_grammar.specs.Spells.{Spells}
-use Rattle.pawn_scopes.specs.Mark.{Mark, Opens, Closes, Mentions, Uses, Declares, Use}
+use Rattle.pawn_scopes.specs.Mark.{Mark, Opens, Closes, Mentions, Uses, Declares, Declaration, Use}
 use Rattle.pawn_scopes.specs.Lists.{maybe_marks}
 use Rattle.pawn_scopes.specs.VariableMarks.{tag_marks}
 use Rattle.pawn_scopes.specs.StatementMarks.{constant_marks}
@@ -22,52 +22,64 @@ use Rattle.pawn_scopes.specs.Found.{meaning}
 use Rattle.pawn_scopes.specs.Uses.{uses, pair_of, declared_at}
 use Rattle.pawn_uses.specs.Rising.{AreRising}
 use Rattle.pawn_uses.proofs.Up.{Up, none_up, up_on, up_more, rising}
-use Rattle.pawn_uses.proofs.Grows.{Spans, many_order, led_orders, maybe_tag_rises, end_on, tag_on, sign_on, name_on}
-use Rattle.pawn_uses.proofs.Rises.{Below, Rises, on, none_rise, opens_rise, closes_rise, declares_rise, rises_grow}
+use Rattle.pawn_uses.proofs.Grows.{Grows, Spans, many_order, led_orders, maybe_tag_rises, maybe_name_rises, end_on, sign_on}
+use Rattle.pawn_uses.proofs.Rises.{Below, Rises, none_rise, opens_rise, closes_rise, declares_rise, rises_grow}
 use Rattle.pawn_uses.proofs.Nodes.{expr_rises, whole_orders, decl_orders}
 
 -- ---- constants and enumerations
 
-module _ (ts : List Token) where
-  constant_rises : (place : Place) (outside : Bool) {h i j : ℕ} {x : ConstantOf} → IsConstant ts h x i j → (before : List Mark) → Rises before i → Rises (constant_marks place outside x before) j
+-- what blocks and declarations change nothing of
+pub record Keeps (P : List Mark → ℕ → Type 0) : Type 0 where
+  pub opens : {marks : List Mark} {m : ℕ} → P marks m → P (Opens ∷ marks) m
+  pub closes : {marks : List Mark} {m : ℕ} → P marks m → P (Closes ∷ marks) m
+  pub declares : (it : Declaration) {marks : List Mark} {m : ℕ} → P marks m → P (Declares it ∷ marks) m
+
+module _ (ts : List Token) {P : List Mark → ℕ → Type 0} (grows : Grows ts P) (keeps : Keeps P) where
+  on : {marks : List Mark} {m k : ℕ} → P marks m → m ≤ k → P marks k
+  on = grows.on
+
+  constant_rises : (place : Place) (outside : Bool) {h i j : ℕ} {x : ConstantOf} → IsConstant ts h x i j → (before : List Mark) → P before i → P (constant_marks place outside x before) j
   constant_rises place outside {i = i} (constant c c2 x e) before r =
-      declares_rise _ (end_on rises_grow ts (expr_rises ts rises_grow x.is_expr _ (on (tag_on rises_grow ts (maybe_tag_rises rises_grow (tag_at ts i) r)) (omega arith))) e)
+      keeps.declares _ (end_on grows (expr_rises ts grows x.is_expr _ (on (maybe_tag_rises grows i r) (omega arith))) e)
 
-  item_rises : (place : Place) (tag last : Option n.Name) {h i j : ℕ} {x : Item} → IsItem ts h x i j → (before : List Mark) → Rises before i → Rises (item_marks place tag last x before) j
-  item_rises place tag last (item_of c x) before r = declares_rise _ (led_orders rises_grow (whole_orders ts rises_grow) x before (on r (omega arith)))
+  item_rises : (place : Place) (tag last : Option n.Name) {h i j : ℕ} {x : Item} → IsItem ts h x i j → (before : List Mark) → P before i → P (item_marks place tag last x before) j
+  item_rises place tag last (item_of c x) before r = keeps.declares _ (led_orders grows (whole_orders ts grows) x before (on r (omega arith)))
 
-  label_rises : (place : Place) (tag last : Option n.Name) (count : ℕ) {m : ℕ} (before : List Mark) → Rises before m → Rises (label_marks place tag last count before) m
+  label_rises : (place : Place) (tag last : Option n.Name) (count : ℕ) {m : ℕ} (before : List Mark) → P before m → P (label_marks place tag last count before) m
   label_rises place None last count before r = r
   label_rises place (Some tag) None count before r = r
-  label_rises place (Some tag) (Some last) count before r = declares_rise _ r
+  label_rises place (Some tag) (Some last) count before r = keeps.declares _ r
 
   more_items_rise : (place : Place) (tag : Option n.Name) {more : ℕ → Bool} {h i j : ℕ} {xs : List Item} (last : Option n.Name) (count : ℕ)
-      → Many more (Behind (IsItem ts)) h xs i j → (before : List Mark) → Rises before i → Rises (items_marks place tag last count xs before) j
+      → Many more (Behind (IsItem ts)) h xs i j → (before : List Mark) → P before i → P (items_marks place tag last count xs before) j
   more_items_rise place tag last count (no_more f) before r = label_rises place tag last count before r
   more_items_rise place tag last count (one_more {x = x} t it m) before r =
       more_items_rise place tag (Some x.name) (suc count) m _ (item_rises place tag last it before (on r (omega arith)))
 
   items_rise : (place : Place) (tag : Option n.Name) {more : ℕ → Bool} {h i j : ℕ} {xs : List Item}
-      → Several more (IsItem ts) (Behind (IsItem ts)) h xs i j → (before : List Mark) → Rises before i → Rises (items_marks place tag None 0 xs before) j
+      → Several more (IsItem ts) (Behind (IsItem ts)) h xs i j → (before : List Mark) → P before i → P (items_marks place tag None 0 xs before) j
   items_rise place tag (several x m) before r = more_items_rise place tag _ _ m _ (item_rises place tag None x before r)
 
-  enum_rises : (place : Place) {h i j : ℕ} {name : Option n.Name} {xs : List Item} → IsEnum ts h name xs i j → (before : List Mark) → Rises before i
-      → Rises (items_marks place name None 0 xs (maybe_marks tag_marks name before)) j
+  enum_rises : (place : Place) {h i j : ℕ} {name : Option n.Name} {xs : List Item} → IsEnum ts h name xs i j → (before : List Mark) → P before i
+      → P (items_marks place name None 0 xs (maybe_marks tag_marks name before)) j
   enum_rises place {i = i} (enum_of {k = k} c m c2) before r =
-      let a = name_on ts i in
       let b : k ≤ behind_sign ts sign.Comma k = sign_on ts sign.Comma k in
       let d : suc (behind_sign ts sign.Comma k) ≤ behind_sign ts sign.Semicolon (suc (behind_sign ts sign.Comma k)) = sign_on ts sign.Semicolon (suc (behind_sign ts sign.Comma k)) in
-      on (items_rise place _ m _ (on (maybe_tag_rises rises_grow _ r) (omega arith))) (omega arith)
+      on (items_rise place _ m _ (on (maybe_name_rises grows i r) (omega arith))) (omega arith)
 
-  rises_span : Spans ts Rises
-  rises_span = record {
-    opens = opens_rise;
-    closes = closes_rise;
-    variable = λ place outside x before r. declares_rise _ r;
-    parameter = λ place constant reference tags name dims value before r. declares_rise _ r;
+  -- so it is kept by declarations and statements
+  pub keeps_spans : Spans ts P
+  keeps_spans = record {
+    opens = keeps.opens;
+    closes = keeps.closes;
+    variable = λ place outside x before r. keeps.declares _ r;
+    parameter = λ place constant reference tags name dims value before r. keeps.declares _ r;
     constant = constant_rises;
     enum = enum_rises;
   }
+
+rises_keep : Keeps Rises
+rises_keep = record { opens = opens_rise; closes = closes_rise; declares = λ it r. declares_rise it r }
 
 -- ---- pairs
 
@@ -91,5 +103,5 @@ uses_up around (Declares it ∷ before) end x = uses_up around before end x
 
 pub uses_rise : (ts : List Token) (tree : Tree) (around : Around) → Spells ts tree → AreRising 0 (uses around (tree_marks tree))
 uses_rise ts tree around spells =
-    let all = many_order rises_grow (decl_orders ts rises_grow (rises_span ts)) spells.decls [] none_rise in
+    let all = many_order {ts = ts} rises_grow (decl_orders ts rises_grow (keeps_spans ts rises_grow rises_keep)) spells.decls [] none_rise in
     rising (uses_up around (tree_marks tree) _ all.rises)

@@ -1,1 +1,1 @@
-mod LimitLaws
+pub mod LimitLaws

@@ -103,20 +103,22 @@ objects_valid (x ∷ more) h = (h.0.valid, objects_valid more h.1)
 at_most : (a b : ℤ) → int_le a b ≡ true → a ≤ℤ b
 at_most a b e = record { le = T_from_true (int_le a b) e }
 
-record HasDone (tree : Tree) (dynamic : ℤ) (checked : Checked) : Type 0 where
+-- what declarations make of a tree that stands, which has no fault
+pub record HasDone (tree : Tree) (dynamic : ℤ) (checked : Checked) : Type 0 where
   pub it : Done
   pub stands : done tree dynamic ≡ Stands it
   pub is : checked ≡ checked_of tree dynamic it
   pub none : whole_faults tree dynamic ≡ []
+  pub together : source_faults tree dynamic it.bodies ≡ []
 
-typed_done : (tree : Tree) (dynamic : ℤ) → Holds (HasDone tree dynamic) (typed tree dynamic)
+pub typed_done : (tree : Tree) (dynamic : ℤ) → Holds (HasDone tree dynamic) (typed tree dynamic)
 typed_done tree dynamic =
     holds_both {Q = λ it. done tree dynamic ≡ Stands it} (none_of (whole_faults tree dynamic))
     (record { of = λ it e. e }) (λ ok it none e.
-    holds_after (holds_all (unless (source_faults tree dynamic it.bodies))) (λ ok2 t.
+    holds_after (none_of (source_faults tree dynamic it.bodies)) (λ ok2 t.
     holds_after (holds_all (unless (sum_faults (checked_of tree dynamic it).program))) (λ ok3 u.
     stands_itself (HasDone tree dynamic) (checked_of tree dynamic it)
-    (record { it = it; stands = e; is = refl; none = none }))))
+    (record { it = it; stands = e; is = refl; none = none; together = t }))))
 
 pub programs_within : BodiesAreValid → FilesAreSites → StandsWithinSums → ProgramsAreWithinLimits
 programs_within bodies_law files_law sums_law tree dynamic program warnings typed_is written few known =

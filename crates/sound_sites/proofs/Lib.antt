@@ -1,2 +1,2 @@
 mod CalledLaws
-mod SiteLaws
+pub mod SiteLaws

@@ -16,6 +16,7 @@ use Rattle.pawn_tree.specs.declared.name.Name as n
 use Rattle.pawn_tree.specs.Declarations.{Variables, Constant, Enum, Native, Forward, Function, Tree}
 use Rattle.pawn_tags.specs.Tags.{untagged, number_of}
 use Rattle.pawn_program.specs.Program.{Program}
+use Rattle.pawn_scopes.specs.Mark.{Mark}
 use Rattle.pawn_scopes.specs.Overloads.{tag_number}
 use Rattle.pawn_typing.specs.Around.{Around, Callable, Head}
 use Rattle.pawn_typing.specs.Scope.{Meaning, Entry, first_named, found, constant_meaning, truth_tag}
@@ -23,7 +24,8 @@ use Rattle.pawn_bodies.specs.CalledIn.{called_in}
 use Rattle.pawn_automata.specs.Keys.{Key, Named, Operates, Enters, Misshapen}
 use Rattle.pawn_automata.specs.Groups.{Written, Group, written}
 use Rattle.pawn_typed.specs.Headings.{Heading, Role, IsNative, IsForward, IsBody}
-use Rattle.pawn_typed.specs.Sources.{Source, Stated, source_of, name_of, is_called, is_native, stated, stated_tag, first_head, group_tag, functions_from, natives_from, natives_in, function_entry, function_entries, native_entries, forward_entry, forward_entries, all_stated, around_of, around_with}
+use Rattle.pawn_typed.specs.Sources.{Source, Stated, source_of, name_of, is_called, is_native, stated, stated_tag, first_head, group_tag, functions_from, natives_from, natives_in, function_entry, function_entries, native_entries, forward_entry, forward_entries, all_stated, around_of, around_with, beginning}
+use Rattle.pawn_typed.specs.Declarations.{Done}
 use Rattle.pawn_typed.specs.Programs.{program_of}
 use Rattle.sound_values.specs.Objects.{Each}
 use Rattle.sound_values.specs.Written.{IsAnyName}
@@ -372,42 +374,52 @@ module _ (it : Program) (cx : Around) (source : Source) (few : length source.tag
         (constant_seen name (predefined name) (predefined_good name).good)) e;
   }
 
-pub files_sites : FilesAreSites
-files_sites tree done marks dynamic few known w =
+-- what names mean at the beginning of a file
+pub beginning_seen : (tree : Tree) (done : Done) (marks : List Mark) (dynamic : ℤ)
+    → let source : Source = source_of tree in
+    length source.tags ≤ 2 ^ 32
+    → IsSeenPath (file_scope (program_of source (all_stated source tree) marks dynamic done))
+    (around_of source tree) (IsCalled source.called) (beginning source).scope
+beginning_seen tree done marks dynamic few =
     let source : Source = source_of tree in
     let all : List Stated = all_stated source tree in
     let it : Program = program_of source all marks dynamic done in
     let cx : Around = around_of source tree in
     let bare : List Stated = stated source source.headings [] in
+    path_seen it cx source few _
+    (each_append (Seen it cx source few) (forward_entries source) _
+    (forwards_seen it cx source few source.headings)
+    (each_append (Seen it cx source few) (native_entries source 0 (natives_in source bare)) _
+    (natives_seen it cx source few 0 (natives_in source bare) (λ j st e.
     record {
-      site = record {
-        around = known;
-        tags = tags_are source few all;
-        automata = refl;
-        path = path_seen it cx source few _
-            (each_append (Seen it cx source few) (forward_entries source) _
-            (forwards_seen it cx source few source.headings)
-            (each_append (Seen it cx source few) (native_entries source 0 (natives_in source bare)) _
-            (natives_seen it cx source few 0 (natives_in source bare) (λ j st e.
-            record {
-              number_in = λ calls c there.
-                  let b = beside source (natives_in source all) (natives_in source bare) j st
-                  (same_headings source source.headings _) e in
-                  let lt = native_below source 0 (natives_in source all) j c b.it
-                  (subst (λ (m : ℕ). slice_get cx.natives m ≡ Some c) (nothing_plus j) there) b.there
-                  (ap (λ (h : Heading). is_called source h) b.is ∙ calls) in
-                  omega (
-                    arith,
-                    lt,
-                    length-map
-                        (filter (λ (x : Stated). is_called source x.heading) (natives_in source all))
-                        (λ (x : Stated). name_of x.heading.head.name),
-                  );
-            }))
-            (functions_seen it cx source few 0 bare source.groups)));
-      };
-      written = tree_calls tree source.called (λ name e. e) w;
-    }
+      number_in = λ calls c there.
+          let b = beside source (natives_in source all) (natives_in source bare) j st
+          (same_headings source source.headings _) e in
+          let lt = native_below source 0 (natives_in source all) j c b.it
+          (subst (λ (m : ℕ). slice_get cx.natives m ≡ Some c) (nothing_plus j) there) b.there
+          (ap (λ (h : Heading). is_called source h) b.is ∙ calls) in
+          omega (
+            arith,
+            lt,
+            length-map
+                (filter (λ (x : Stated). is_called source x.heading) (natives_in source all))
+                (λ (x : Stated). name_of x.heading.head.name),
+          );
+    }))
+    (functions_seen it cx source few 0 bare source.groups)))
   where
     nothing_plus : (j : ℕ) → 0 + j ≡ j
     nothing_plus j = omega arith
+
+pub files_sites : FilesAreSites
+files_sites tree done marks dynamic few known w =
+    let source : Source = source_of tree in
+    record {
+      site = record {
+        around = known;
+        tags = tags_are source few (all_stated source tree);
+        automata = refl;
+        path = beginning_seen tree done marks dynamic few;
+      };
+      written = tree_calls tree source.called (λ name e. e) w;
+    }

@@ -1,0 +1,194 @@
+-- Bodies that stand beside those that are written: each has the number of its function.
+use Rattle.std.proofs.Common.{◌≡◌, ℕ, suc, List, [], ◌∷◌, ◌++◌, Bool, true, false, Option, refl, sym, ap, ◌∙◌, subst, cond}
+use Rattle.std.specs.Prelude.{length, nat_eq, unwrap_or}
+use Rattle.pawn_tree.specs.declared.name.At.{At}
+use Rattle.pawn_tree.specs.declared.name.Name as n
+use Rattle.pawn_tree.specs.declared.variable.Storage.TheVariants as storage
+use Rattle.pawn_tree.specs.Variables.{Var}
+use Rattle.pawn_tree.specs.Statements.{ConstantOf}
+use Rattle.pawn_tree.specs.Declarations as tree
+use Rattle.pawn_tree.specs.Declarations.{Decl, Variables, Constant, Enum, Native, Forward, Function, Tree, FunctionOf}
+use Rattle.pawn_program.specs.Program.{Slot}
+use Rattle.pawn_scopes.specs.Verdict.{Verdict, Stands, Breaks}
+use Rattle.pawn_typing.specs.Around.{Around}
+use Rattle.pawn_typing.specs.Scope.{Scope}
+use Rattle.pawn_typing.proofs.VerdictLaws.{Holds, stands_itself, breaks_holds, holds_after, holds_both, holds_all, holds_also, holds_unless}
+use Rattle.pawn_values.specs.Constants as constants
+use Rattle.pawn_bodies.specs.Points.{Point, tag_of, behind_var}
+use Rattle.pawn_heads.specs.Params.{Headed, head_parts, head_rule, params}
+use Rattle.pawn_automata.specs.Keys.{Key, Named, Operates, Enters, Misshapen}
+use Rattle.pawn_automata.specs.Groups.{Written, written, body_key, number_of}
+use Rattle.pawn_typed.specs.Enums.{enum_rule}
+use Rattle.pawn_typed.specs.Paths.{behind_decl}
+use Rattle.pawn_typed.specs.Sources.{Source}
+use Rattle.pawn_typed.specs.Declarations.{Bodied, Done, nothing_done, shaped_key, native_name, function_key, function_with, function_rule, bare_head, globals, constant_rule, decl_rule, declarations}
+use Rattle.sound_values.proofs.Facts.{if_holds}
+use Rattle.pawn_typed.specs.Programs.{bodies_of}
+use Rattle.sound_functions.proofs.GroupLaws.{IsShaped, AreShaped, HavePlaces, place, number_is, keys_of}
+use Rattle.sound_sources.proofs.GroupBodies.{placed_at}
+
+module _ (source : Source) where
+  -- a body beside what is written
+  pub record FitsBody (it : Written) (b : Bodied) : Type 0 where
+    pub number : b.number
+        ≡ unwrap_or (number_of source.groups (body_key source.tags source.fallback it)) 0
+    pub params : it.function.head.params ≡ [] → b.params ≡ []
+    pub shaped : IsShaped (body_key source.tags source.fallback it)
+
+  abbrev pub Fits : List Written → List Bodied → Type 0
+  Fits [] [] = Unit {0}
+  Fits [] (b ∷ more) = ⊥
+  Fits (it ∷ more) [] = ⊥
+  Fits (it ∷ more) (b ∷ rest) = FitsBody it b × Fits more rest
+
+  record IsBare (d : Done) : Type 0 where
+    pub bodies : d.bodies ≡ []
+
+  none_slots : (cx : Around) (at : At) (scope : Scope) (ps : List tree.Param) (h : Headed) → ps ≡ []
+      → params cx at scope 0 ps ≡ Stands h → h.slots ≡ []
+  unfolding params
+  none_slots cx at scope [] h e s = sym (ap (λ (v : Verdict Headed). slots_in v) s)
+    where
+      slots_in : Verdict Headed → List Slot
+      slots_in (Stands it) = it.slots
+      slots_in (Breaks found) = []
+  none_slots cx at scope (p ∷ ps) h e s = absurd (let no : ⊥ = cc in no)
+
+  module _ (cx : Around) where
+    globals_bare : (point : Point) (at : At) (constant : Bool) (vars : List Var)
+        → Holds IsBare (globals source cx point at constant vars)
+    unfolding globals
+    globals_bare point at constant [] = stands_itself _ nothing_done (record { bodies = refl })
+    globals_bare point at constant (x ∷ xs) =
+        holds_both (holds_all _)
+        (globals_bare (behind_var cx point at storage.Static constant x) at constant xs)
+        (λ y more t q. stands_itself _ _ (record { bodies = q.bodies }))
+
+    bare_bare : (point : Point) (at : At) (head : tree.Head)
+        → Holds IsBare (bare_head source cx point at head)
+    bare_bare point at head =
+        holds_unless (head_parts cx at point.scope head)
+        (holds_after (holds_all (head_rule cx at point.scope head))
+        (λ x t. stands_itself _ _ (record { bodies = refl })))
+
+    constant_bare : (point : Point) (at : At) (of : ConstantOf)
+        → Holds IsBare (constant_rule source cx point at of)
+    constant_bare point at of =
+        holds_after (holds_all (constants.constant cx point.scope at of.value))
+        (λ c t. stands_itself _ _ (record { bodies = refl }))
+
+    enum_bare : (point : Point) (at : At) (name : Option n.Name) (items : List tree.Item)
+        → Holds IsBare (decl_rule source cx point (Enum at name items))
+    enum_bare point at name items =
+        holds_after (holds_all (enum_rule cx point.scope at (tag_of cx name) items))
+        (λ c t. stands_itself _ _ (record { bodies = refl }))
+
+    shaped_is : (at : At) (key : Key) → Holds (λ k. IsShaped key) (shaped_key at key)
+    shaped_is at (Named name) = stands_itself _ _ tt
+    shaped_is at (Operates it) = stands_itself _ _ tt
+    shaped_is at (Enters name) = stands_itself _ _ tt
+    shaped_is at Misshapen = breaks_holds _ _
+
+    record OneBody (of : FunctionOf) (d : Done) : Type 0 where
+      pub body : Bodied
+      pub is : d.bodies ≡ body ∷ []
+      pub number : body.number ≡ unwrap_or (number_of source.groups (function_key source cx of)) 0
+      pub params : of.head.params ≡ [] → body.params ≡ []
+
+    function_one : (point : Point) (at : At) (of : FunctionOf)
+        → Holds (OneBody of) (function_with source cx point at of (function_key source cx of))
+    function_one point at of =
+        holds_unless _ (holds_both {P = λ h. head_rule cx at point.scope of.head ≡ Stands h}
+        (record { of = λ h e. e }) (holds_all _) (λ h x p t.
+        if_holds _ (stands_itself _ _ (record {
+          body = _;
+          is = refl;
+          number = refl;
+          params = λ e. none_slots cx at ([] ∷ point.scope) of.head.params h e p;
+        })) (breaks_holds _ _)))
+
+    fit_function : (point : Point) (at : At) (of : FunctionOf)
+        → Holds (λ d. OneBody of d × IsShaped (function_key source cx of))
+        (function_rule source cx point at of)
+    fit_function point at of =
+        holds_after (function_one point at of) (λ d p.
+        holds_after (shaped_is at (function_key source cx of)) (λ k q. stands_itself _ _ (p, q)))
+
+    joined : (all : List Written) (x y : List Bodied) → x ≡ [] → Fits all y → Fits all (x ++ y)
+    joined all x y e h = subst (λ (l : List Bodied). Fits all (l ++ y)) (sym e) h
+
+    with_body : (at : At) (of : FunctionOf) (x y : Done) (all : List Written) → OneBody of x
+        → IsShaped (function_key source cx of) → Fits all y.bodies
+        → Fits (record { at = at; function = of } ∷ all) (x.bodies ++ y.bodies)
+    with_body at of x y all p shaped h =
+        subst (λ (l : List Bodied). Fits (record { at = at; function = of } ∷ all) (l ++ y.bodies))
+        (sym p.is)
+        (record { number = p.number; params = p.params; shaped = shaped }, h)
+
+    pub bodies_fit : (point : Point) (all : Tree)
+        → Holds (λ d. Fits (written all) d.bodies) (declarations source cx point all)
+    unfolding declarations
+    bodies_fit point [] = stands_itself _ nothing_done tt
+    bodies_fit point (Variables at of ∷ more) =
+        holds_both (holds_unless _ (globals_bare point at of.constant of.vars))
+        (bodies_fit (behind_decl cx point (Variables at of)) more)
+        (λ x y p q. stands_itself _ _ (joined _ x.bodies y.bodies p.bodies q))
+    bodies_fit point (Constant at of ∷ more) =
+        holds_both (constant_bare point at of)
+        (bodies_fit (behind_decl cx point (Constant at of)) more)
+        (λ x y p q. stands_itself _ _ (joined _ x.bodies y.bodies p.bodies q))
+    bodies_fit point (Enum at name items ∷ more) =
+        holds_both (enum_bare point at name items)
+        (bodies_fit (behind_decl cx point (Enum at name items)) more)
+        (λ x y p q. stands_itself _ _ (joined _ x.bodies y.bodies p.bodies q))
+    bodies_fit point (Native at head ∷ more) =
+        holds_both (holds_also (native_name at head.name) (bare_bare point at head))
+        (bodies_fit (behind_decl cx point (Native at head)) more)
+        (λ x y p q. stands_itself _ _ (joined _ x.bodies y.bodies p.bodies q))
+    bodies_fit point (Forward at is_public head ∷ more) =
+        holds_both (holds_also (shaped_key at _) (bare_bare point at head))
+        (bodies_fit (behind_decl cx point (Forward at is_public head)) more)
+        (λ x y p q. stands_itself _ _ (joined _ x.bodies y.bodies p.bodies q))
+    bodies_fit point (Function at of ∷ more) =
+        holds_both (fit_function point at of)
+        (bodies_fit (behind_decl cx point (Function at of)) more)
+        (λ x y p q. stands_itself _ _ (with_body at of x y _ p.0 p.1 q))
+
+  pub fits_shaped : (all : List Written) (bodies : List Bodied) → Fits all bodies
+      → AreShaped (keys_of source.tags source.fallback all)
+  fits_shaped [] bodies h = tt
+  fits_shaped (it ∷ more) [] h = absurd h
+  fits_shaped (it ∷ more) (b ∷ rest) h = (h.0.shaped, fits_shaped more rest h.1)
+
+  -- ---- those of one function
+
+  fits_by : (it : Written) (more : List Written) (b : Bodied) (rest : List Bodied) (s t : Bool)
+      → s ≡ t → FitsBody it b → Fits more rest
+      → Fits (cond s (it ∷ more) more) (cond t (b ∷ rest) rest)
+  fits_by it more b rest true true e h k = (h, k)
+  fits_by it more b rest false false e h k = k
+  fits_by it more b rest true false e h k = absurd (let no : ⊥ = cc in no)
+  fits_by it more b rest false true e h k = absurd (let no : ⊥ = cc in no)
+
+  pub fits_length : (all : List Written) (bodies : List Bodied) → Fits all bodies
+      → length bodies ≡ length all
+  fits_length [] [] h = refl
+  fits_length [] (b ∷ more) h = absurd h
+  fits_length (it ∷ more) [] h = absurd h
+  fits_length (it ∷ more) (b ∷ rest) h = ap suc (fits_length more rest h.1)
+
+  abbrev owned : ℕ → List Written → List Written
+  owned f all = placed_at source.tags source.fallback source.groups f all
+
+  pub fits_placed : (f : ℕ) (all : List Written) (bodies : List Bodied) → Fits all bodies
+      → HavePlaces source.groups (keys_of source.tags source.fallback all)
+      → Fits (owned f all) (bodies_of bodies f)
+  fits_placed f [] [] h p = tt
+  fits_placed f [] (b ∷ more) h p = absurd h
+  fits_placed f (it ∷ more) [] h p = absurd h
+  fits_placed f (it ∷ more) (b ∷ rest) h p =
+      let key = body_key source.tags source.fallback it in
+      let same : b.number ≡ place source.groups key =
+      h.0.number ∙ ap (λ (z : Option ℕ). unwrap_or z 0) (number_is source.groups key p.0) in
+      fits_by it (owned f more) b (bodies_of rest f) (nat_eq (place source.groups key) f)
+      (nat_eq b.number f) (ap (λ m. nat_eq m f) (sym same)) h.0 (fits_placed f more rest h.1 p.1)

@@ -1,0 +1,31 @@
+-- Each function of a program is routed as it should be, and each automaton is valid.
+use Rattle.std.specs.Prelude.{◌≡◌, ℤ, List, length, IfSome, IfNone}
+use Rattle.pawn_tree.specs.Declarations.{Tree}
+use Rattle.pawn_program.specs.Program.{Function, Program}
+use Rattle.pawn_program.specs.Valid.{IsValidRoute, IsValidAutomaton}
+use Rattle.pawn_scopes.specs.Verdict.{Stands}
+use Rattle.pawn_scopes.specs.Mark.{Mark}
+use Rattle.pawn_typed.specs.Sources.{Source, source_of, all_stated, around_of, beginning}
+use Rattle.pawn_typed.specs.Declarations.{Done, declarations}
+use Rattle.pawn_typed.specs.Programs.{program_of}
+use Rattle.sound_values.specs.Objects.{Each}
+use Rattle.sound_functions.specs.HeadedFunctions.{KeepTogether}
+
+-- a route leads from states of an automaton to bodies; without a route there is one body
+pub record IsRouted (program : Program) (function : Function) : Type 0 where
+  pub routed : IfSome function.dispatch (IsValidRoute program (length function.bodies))
+  pub one_body : IfNone function.dispatch (length function.bodies ≡ 1)
+
+-- so it is with each function, and entry functions take no parameters
+pub record AreRouted (program : Program) : Type 0 where
+  pub functions : Each (IsRouted program) program.functions
+  pub automata : Each (IsValidAutomaton program) program.automata
+
+-- where declarations stand, and no function breaks what its bodies keep together
+abbrev pub RoutesAreValid : Type 0
+RoutesAreValid =
+    (tree : Tree) (done : Done) (marks : List Mark) (dynamic : ℤ)
+    → let source : Source = source_of tree in
+    declarations source (around_of source tree) (beginning source) tree ≡ Stands done
+    → KeepTogether source (all_stated source tree)
+    → AreRouted (program_of source (all_stated source tree) marks dynamic done)
