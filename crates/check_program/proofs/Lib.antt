@@ -1,0 +1,4 @@
+pub mod FillLaws
+pub mod ListLaws
+pub mod NativeLaws
+pub mod ProgramLaws
