@@ -42,20 +42,20 @@ use Rattle.pawn_typed.specs.Paths.{behind_decl}
 use Rattle.pawn_typed.specs.Declarations.{Done, done_behind, nothing_done, warning, objects_done, body_of, bodied, shaped_key, native_name, function_key, body_point, function_with, bare_head, globals, constant_rule, decl_rule, declarations}
 use Rattle.pawn_sound.specs.Known.{KnowsAround}
 use Rattle.pawn_sound.specs.ValidExpressions.{ExpressionsAreValid}
-use Rattle.sound_values.specs.Objects.{Each, IsGoodObject}
-use Rattle.sound_values.specs.Written.{IsAnyName, IsWrittenVar}
-use Rattle.sound_values.specs.Plain.{IsTag, IsValue, HasTags}
-use Rattle.sound_values.proofs.Facts.{holds_and, when_holds, each_append, each_all, small_cell, wrap_cell}
-use Rattle.sound_values.proofs.ArrayValues.{PlainConstant, constant_plain}
-use Rattle.sound_statements.specs.Sits.{Sits}
-use Rattle.sound_statements.specs.Seen.{IsSeenPlace, IsSeenArray, IsSeen, IsSeenPath}
-use Rattle.sound_statements.specs.WrittenStatements.{IsConstant, MayBeConstant, IsWrittenStmt}
-use Rattle.sound_statements.specs.ValidStatements.{IsGoodSlot, IsCalled}
-use Rattle.sound_statements.proofs.Parts.{sits_left, sits_right, sits_at, sits_there}
-use Rattle.sound_statements.proofs.SeenLaws.{seen_with, seen_inside, plain_path}
-use Rattle.sound_statements.proofs.Variables.{Place, scope_at, Sound, StandsSound, tag_small, static_holds}
-use Rattle.sound_statements.proofs.StatementParts.{SubIn, sub_in}
-use Rattle.sound_statements.proofs.StatementLaws.{stmt_holds}
+use Rattle.sound_programs.specs.Objects.{Each, IsGoodObject}
+use Rattle.sound_programs.specs.Written.{IsAnyName, IsWrittenVar}
+use Rattle.sound_programs.specs.Plain.{IsTag, IsValue, HasTags}
+use Rattle.sound_programs.proofs.Facts.{holds_and, when_holds, each_append, each_all, small_cell, wrap_cell}
+use Rattle.sound_programs.proofs.ArrayValues.{PlainConstant, constant_plain}
+use Rattle.sound_programs.specs.Sits.{Sits}
+use Rattle.sound_programs.specs.Seen.{IsSeenPlace, IsSeenArray, IsSeen, IsSeenPath}
+use Rattle.sound_programs.specs.WrittenStatements.{IsConstant, MayBeConstant, IsWrittenStmt}
+use Rattle.sound_programs.specs.ValidStatements.{IsGoodSlot, IsCalled}
+use Rattle.sound_programs.proofs.Parts.{sits_left, sits_right, sits_at, sits_there}
+use Rattle.sound_programs.proofs.SeenLaws.{seen_with, seen_inside, plain_path}
+use Rattle.sound_programs.proofs.Variables.{Place, scope_at, Sound, StandsSound, tag_small, static_holds}
+use Rattle.sound_programs.proofs.StatementParts.{SubIn, sub_in}
+use Rattle.sound_programs.proofs.StatementLaws.{stmt_holds}
 use Rattle.sound_programs.specs.WrittenDeclarations.{IsWrittenItem, IsOwnHead, IsWrittenDecl, IsWrittenTree}
 use Rattle.sound_programs.specs.ValidBodies.{file_scope, IsSoundBody, BodiesAreValid}
 use Rattle.sound_programs.proofs.HeadLaws.{AreParams, params_stand}

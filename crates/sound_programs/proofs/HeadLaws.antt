@@ -20,17 +20,17 @@ use Rattle.pawn_heads.specs.ParamDefaults.{default_rule}
 use Rattle.pawn_heads.specs.Params.{Headed, Reach, no_params, tag_numbers, reach_by, reach, array_slot, cell_slot, array_param_means, cell_param_means, param_entries, behind_params, no_default, no_reference, param_of, param_rule, headed_behind, params}
 use Rattle.pawn_typed.specs.Declarations.{param_count}
 use Rattle.pawn_sound.specs.Meant.{AreCells}
-use Rattle.sound_values.specs.Objects.{Each}
-use Rattle.sound_values.specs.Written.{IsWrittenDim}
-use Rattle.sound_values.specs.Plain.{IsTag, IsPlainPath, HasTags}
-use Rattle.sound_values.proofs.Facts.{each_append, each_all}
-use Rattle.sound_values.proofs.RuleValues.{tag_number_small}
-use Rattle.sound_values.proofs.ArrayValues.{IsSize, GoodDimensions, GoodShape, each_at, shape_good, dimensions_good, within_most}
-use Rattle.sound_statements.specs.Sits.{Sits}
-use Rattle.sound_statements.specs.Seen.{IsSeen, IsSeenPath}
-use Rattle.sound_statements.specs.ValidStatements.{IsGoodSlot}
-use Rattle.sound_statements.proofs.Parts.{sits_left, sits_right, sits_at}
-use Rattle.sound_statements.proofs.SeenLaws.{seen_with, plain_path}
+use Rattle.sound_programs.specs.Objects.{Each}
+use Rattle.sound_programs.specs.Written.{IsWrittenDim}
+use Rattle.sound_programs.specs.Plain.{IsTag, IsPlainPath, HasTags}
+use Rattle.sound_programs.proofs.Facts.{each_append, each_all}
+use Rattle.sound_programs.proofs.RuleValues.{tag_number_small}
+use Rattle.sound_programs.proofs.ArrayValues.{IsSize, GoodDimensions, GoodShape, each_at, shape_good, dimensions_good, within_most}
+use Rattle.sound_programs.specs.Sits.{Sits}
+use Rattle.sound_programs.specs.Seen.{IsSeen, IsSeenPath}
+use Rattle.sound_programs.specs.ValidStatements.{IsGoodSlot}
+use Rattle.sound_programs.proofs.Parts.{sits_left, sits_right, sits_at}
+use Rattle.sound_programs.proofs.SeenLaws.{seen_with, plain_path}
 use Rattle.sound_programs.specs.WrittenDeclarations.{IsOwnParam}
 
 -- ---- arrays

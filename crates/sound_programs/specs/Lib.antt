@@ -1,2 +1,16 @@
+pub mod Objects
+pub mod Written
+pub mod Texts
+pub mod Plain
+pub mod PlainExpressions
+pub mod GoodArrays
+pub mod Sits
+pub mod Seen
+pub mod WrittenStatements
+pub mod ValidStatements
 pub mod WrittenDeclarations
 pub mod ValidBodies
+pub mod SameHeads
+pub mod HeadedFunctions
+pub mod FileSites
+pub mod WithinLimits

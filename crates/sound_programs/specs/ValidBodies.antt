@@ -11,11 +11,11 @@ use Rattle.pawn_bodies.specs.Points.{Point}
 use Rattle.pawn_typed.specs.Sources.{Source}
 use Rattle.pawn_typed.specs.Declarations.{Bodied, Done, declarations}
 use Rattle.pawn_sound.specs.Known.{KnowsAround}
-use Rattle.sound_values.specs.Objects.{Each, IsGoodObject}
-use Rattle.sound_values.specs.Plain.{HasTags}
-use Rattle.sound_statements.specs.Sits.{Sits}
-use Rattle.sound_statements.specs.Seen.{IsSeenPath}
-use Rattle.sound_statements.specs.ValidStatements.{IsGoodSlot, IsCalled}
+use Rattle.sound_programs.specs.Objects.{Each, IsGoodObject}
+use Rattle.sound_programs.specs.Plain.{HasTags}
+use Rattle.sound_programs.specs.Sits.{Sits}
+use Rattle.sound_programs.specs.Seen.{IsSeenPath}
+use Rattle.sound_programs.specs.ValidStatements.{IsGoodSlot, IsCalled}
 use Rattle.sound_programs.specs.WrittenDeclarations.{IsWrittenTree}
 
 -- the scope at the level of the file: there are no slots

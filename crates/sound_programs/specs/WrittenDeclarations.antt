@@ -1,9 +1,9 @@
 -- Declarations as a source has them.
 use Rattle.std.specs.Prelude.{ℕ, List}
 use Rattle.pawn_tree.specs.Declarations.{Decl, Variables, Constant, Enum, Native, Forward, Function, Tree, Item, Param, Plain, Rest, Head}
-use Rattle.sound_values.specs.Objects.{Each}
-use Rattle.sound_values.specs.Written.{IsAnyName, IsWrittenDim, IsWrittenVar}
-use Rattle.sound_statements.specs.WrittenStatements.{IsConstant, MayBeConstant, IsWrittenStmt}
+use Rattle.sound_programs.specs.Objects.{Each}
+use Rattle.sound_programs.specs.Written.{IsAnyName, IsWrittenDim, IsWrittenVar}
+use Rattle.sound_programs.specs.WrittenStatements.{IsConstant, MayBeConstant, IsWrittenStmt}
 
 -- a constant of an enumeration
 abbrev pub IsWrittenItem : Item → Type 0

@@ -4,4 +4,7 @@
 
 mod laws;
 
-pub use laws::bodies_are_valid;
+pub use laws::{
+    arrays_are_good, bodies_are_valid, expressions_are_plain, files_are_sites,
+    functions_are_headed, heads_are_same, programs_are_within_limits, statements_are_valid,
+};

@@ -23,20 +23,20 @@ use Rattle.pawn_typed.specs.Declarations.{Done, declarations}
 use Rattle.pawn_typed.specs.Programs.{program_of}
 use Rattle.pawn_typed.specs.Whole.{Checked, return_faults}
 use Rattle.pawn_sound.specs.Known.{slot_of, operands, KnowsAround}
-use Rattle.sound_values.specs.Objects.{Each}
-use Rattle.sound_values.specs.Written.{IsAnyName}
-use Rattle.sound_values.proofs.ArrayValues.{each_at}
-use Rattle.sound_statements.specs.ValidStatements.{IsCalled}
-use Rattle.sound_statements.proofs.SeenLaws.{plain_path}
+use Rattle.sound_programs.specs.Objects.{Each}
+use Rattle.sound_programs.specs.Written.{IsAnyName}
+use Rattle.sound_programs.proofs.ArrayValues.{each_at}
+use Rattle.sound_programs.specs.ValidStatements.{IsCalled}
+use Rattle.sound_programs.proofs.SeenLaws.{plain_path}
 use Rattle.sound_programs.specs.WrittenDeclarations.{IsWrittenTree}
 use Rattle.sound_programs.specs.ValidBodies.{file_scope}
-use Rattle.sound_heads.specs.SameHeads.{AreThere, HeadsAreSame}
-use Rattle.sound_functions.specs.HeadedFunctions.{KeepTogether, FunctionsAreHeaded}
-use Rattle.sound_functions.proofs.GroupLaws.{key_itself}
-use Rattle.sound_functions.proofs.FirstHeads.{append_none, find_each}
-use Rattle.sound_sites.proofs.SiteLaws.{tags_are, beginning_seen}
-use Rattle.sound_limits.specs.WithinLimits.{ProgramsAreWithinLimits}
-use Rattle.sound_limits.proofs.LimitLaws.{typed_done}
+use Rattle.sound_programs.specs.SameHeads.{AreThere, HeadsAreSame}
+use Rattle.sound_programs.specs.HeadedFunctions.{KeepTogether, FunctionsAreHeaded}
+use Rattle.sound_programs.proofs.GroupLaws.{key_itself}
+use Rattle.sound_programs.proofs.FirstHeads.{append_none, find_each}
+use Rattle.sound_programs.proofs.SiteLaws.{tags_are, beginning_seen}
+use Rattle.sound_programs.specs.WithinLimits.{ProgramsAreWithinLimits}
+use Rattle.sound_programs.proofs.LimitLaws.{typed_done}
 use Rattle.sound_sources.specs.KnownAround.{AroundsAreKnown, TypedProgramsAreWithinLimits}
 use Rattle.sound_sources.proofs.KnownHeads.{IsFine, IsThere, heads_fine, heads_there, natives_defaults, function_defaults}
 use Rattle.sound_sources.proofs.OperatorHeads.{IsOperatorHead, operator_head, same_operates}

@@ -11,7 +11,7 @@ use Rattle.pawn_automata.specs.Clauses.{Item, items, items_behind, named_or}
 use Rattle.pawn_automata.specs.Keys.{Key, Enters}
 use Rattle.pawn_automata.specs.Groups.{Written, Group, number_of, body_key}
 use Rattle.pawn_automata.specs.Automata.{with_state, with_item, with_items, has_other, with_fallback, with_classifier, classified, entered, automata}
-use Rattle.sound_values.specs.Objects.{Each}
+use Rattle.sound_programs.specs.Objects.{Each}
 
 -- ---- names among automata
 

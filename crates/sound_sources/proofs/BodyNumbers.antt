@@ -22,9 +22,9 @@ use Rattle.pawn_typed.specs.Enums.{enum_rule}
 use Rattle.pawn_typed.specs.Paths.{behind_decl}
 use Rattle.pawn_typed.specs.Sources.{Source}
 use Rattle.pawn_typed.specs.Declarations.{Bodied, Done, nothing_done, shaped_key, native_name, function_key, function_with, function_rule, bare_head, globals, constant_rule, decl_rule, declarations}
-use Rattle.sound_values.proofs.Facts.{if_holds}
+use Rattle.sound_programs.proofs.Facts.{if_holds}
 use Rattle.pawn_typed.specs.Programs.{bodies_of}
-use Rattle.sound_functions.proofs.GroupLaws.{IsShaped, AreShaped, HavePlaces, place, number_is, keys_of}
+use Rattle.sound_programs.proofs.GroupLaws.{IsShaped, AreShaped, HavePlaces, place, number_is, keys_of}
 use Rattle.sound_sources.proofs.GroupBodies.{placed_at}
 
 module _ (source : Source) where

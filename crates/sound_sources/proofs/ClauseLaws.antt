@@ -15,10 +15,10 @@ use Rattle.pawn_automata.specs.Groups.{Written, Group, body_key}
 use Rattle.pawn_automata.specs.Automata.{names_states, names_some, has_other}
 use Rattle.pawn_typed.specs.Headings.{is_enters}
 use Rattle.pawn_typed.specs.Functions.{fault, fault_if, has_classifier, clause_of, bare_faults, bodies_faults}
-use Rattle.sound_values.specs.Objects.{Each}
-use Rattle.sound_values.proofs.Facts.{each_append}
-use Rattle.sound_functions.proofs.GroupLaws.{place}
-use Rattle.sound_functions.proofs.FirstHeads.{append_none}
+use Rattle.sound_programs.specs.Objects.{Each}
+use Rattle.sound_programs.proofs.Facts.{each_append}
+use Rattle.sound_programs.proofs.GroupLaws.{place}
+use Rattle.sound_programs.proofs.FirstHeads.{append_none}
 use Rattle.sound_sources.proofs.GroupBodies.{placed_at}
 use Rattle.sound_sources.proofs.AutomatonLaws.{Has, Serves, ServesBody}
 

@@ -17,10 +17,10 @@ use Rattle.pawn_typed.specs.Paths.{behind_decl, heads}
 use Rattle.pawn_typed.specs.Sources.{Source, Stated, stated, first_head, group_head, group_tag, functions_from}
 use Rattle.pawn_typed.specs.Declarations.{Bodied}
 use Rattle.pawn_typed.specs.Programs.{bodies_of}
-use Rattle.sound_values.specs.Objects.{Each}
-use Rattle.sound_values.proofs.ArrayValues.{each_at}
-use Rattle.sound_functions.proofs.GroupLaws.{place}
-use Rattle.sound_functions.proofs.FirstHeads.{find_each}
+use Rattle.sound_programs.specs.Objects.{Each}
+use Rattle.sound_programs.proofs.ArrayValues.{each_at}
+use Rattle.sound_programs.proofs.GroupLaws.{place}
+use Rattle.sound_programs.proofs.FirstHeads.{find_each}
 use Rattle.sound_sources.proofs.KnownHeads.{IsThere}
 use Rattle.sound_sources.proofs.GroupBodies.{placed_at}
 use Rattle.sound_sources.proofs.ClauseLaws.{found_at}

@@ -9,7 +9,7 @@ use Rattle.pawn_automata.specs.Groups.{Written, Group, written, with_body, body_
 use Rattle.pawn_typed.specs.Headings.{public_name}
 use Rattle.pawn_typed.specs.Sources.{Source}
 use Rattle.pawn_typed.specs.Publics.{not_above, inserted, sorted, group_name, is_public, publics_from, publics}
-use Rattle.sound_values.specs.Objects.{Each}
+use Rattle.sound_programs.specs.Objects.{Each}
 use Rattle.sound_sources.proofs.Sizes.{sizes}
 use Rattle.sound_sources.proofs.TreeCounts.{IsNamedDecl}
 

@@ -6,7 +6,7 @@ use Rattle.std.proofs.lemmas.List.{append-nil, append_assoc}
 use Rattle.std.proofs.lemmas.List.Elements.{filter-append}
 use Rattle.pawn_automata.specs.Keys.{Key, same_key}
 use Rattle.pawn_automata.specs.Groups.{Written, Group, with_body, grouped, body_key}
-use Rattle.sound_functions.proofs.GroupLaws.{IsShaped, AreShaped, HavePlaces, key_itself, place, place_kept, own_place, no_fewer, keys_of}
+use Rattle.sound_programs.proofs.GroupLaws.{IsShaped, AreShaped, HavePlaces, key_itself, place, place_kept, own_place, no_fewer, keys_of}
 
 -- ---- numbers
 

@@ -24,13 +24,13 @@ use Rattle.pawn_bodies.specs.Locals.{fresh_name}
 use Rattle.pawn_heads.specs.ParamDefaults.{Defaulted, param_meant, size_default, tag_default, computed, default_by, default_rule}
 use Rattle.pawn_heads.specs.Params.{Headed, no_params, tag_numbers, reach, param_entries, no_default, no_reference, param_of, param_rule, headed_behind, params, head_of}
 use Rattle.pawn_sound.specs.Known.{slot_of, IsDefault, HasDefaults}
-use Rattle.sound_values.specs.Objects.{Each}
-use Rattle.sound_values.specs.Written.{IsAnyName}
-use Rattle.sound_values.specs.Plain.{IsValue, IsPlainPath, HasTags}
-use Rattle.sound_values.proofs.Facts.{each_append}
-use Rattle.sound_values.proofs.ExpressionValues.{expr_plain}
-use Rattle.sound_values.proofs.ArrayValues.{constant_rule_plain, each_at}
-use Rattle.sound_statements.specs.WrittenStatements.{MayBeConstant}
+use Rattle.sound_programs.specs.Objects.{Each}
+use Rattle.sound_programs.specs.Written.{IsAnyName}
+use Rattle.sound_programs.specs.Plain.{IsValue, IsPlainPath, HasTags}
+use Rattle.sound_programs.proofs.Facts.{each_append}
+use Rattle.sound_programs.proofs.ExpressionValues.{expr_plain}
+use Rattle.sound_programs.proofs.ArrayValues.{constant_rule_plain, each_at}
+use Rattle.sound_programs.specs.WrittenStatements.{MayBeConstant}
 use Rattle.sound_programs.specs.WrittenDeclarations.{IsWrittenParam, IsOwnParam}
 use Rattle.sound_sources.proofs.PlainPaths.{entries_plain}
 

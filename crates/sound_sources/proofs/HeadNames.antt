@@ -8,8 +8,8 @@ use Rattle.pawn_token.specs.declared.sign.Sign.{Sign}
 use Rattle.pawn_token.specs.declared.sign.Sign.TheVariants as sign
 use Rattle.pawn_token.specs.Signs.{sign_spelling}
 use Rattle.pawn_program.specs.Names.{IsName}
-use Rattle.sound_values.specs.Objects.{Each}
-use Rattle.sound_values.proofs.Facts.{each_all, each_append}
+use Rattle.sound_programs.specs.Objects.{Each}
+use Rattle.sound_programs.proofs.Facts.{each_all, each_append}
 
 -- some bytes, up to four, none of them 0
 abbrev is_plain : List ℕ → Bool

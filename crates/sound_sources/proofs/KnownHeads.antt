@@ -18,12 +18,12 @@ use Rattle.pawn_typed.specs.Headings.{headings, belongs}
 use Rattle.pawn_typed.specs.Paths.{behind_decl, heads}
 use Rattle.pawn_typed.specs.Sources.{Source, Stated, stated, is_native, is_called, first_head, group_head, group_tag, stated_tag, functions_from, natives_from, natives_in}
 use Rattle.pawn_sound.specs.Known.{slot_of, HasDefaults}
-use Rattle.sound_values.specs.Objects.{Each}
-use Rattle.sound_values.specs.Written.{IsAnyName}
-use Rattle.sound_values.specs.Plain.{IsPlainPath, HasTags}
+use Rattle.sound_programs.specs.Objects.{Each}
+use Rattle.sound_programs.specs.Written.{IsAnyName}
+use Rattle.sound_programs.specs.Plain.{IsPlainPath, HasTags}
 use Rattle.sound_programs.specs.WrittenDeclarations.{IsWrittenHead, IsWrittenTree}
-use Rattle.sound_heads.specs.SameHeads.{AreThere}
-use Rattle.sound_functions.proofs.FirstHeads.{find_each}
+use Rattle.sound_programs.specs.SameHeads.{AreThere}
+use Rattle.sound_programs.proofs.FirstHeads.{find_each}
 use Rattle.sound_sources.proofs.PlainPaths.{plain_inside, decl_plain}
 use Rattle.sound_sources.proofs.HeadDefaults.{FineHead, params_fit, head_defaults, head_plain, own_written}
 

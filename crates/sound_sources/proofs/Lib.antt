@@ -1,3 +1,5 @@
+mod ExpressionTrees
+mod TreeLaws
 mod SourceLaws
 mod LiteralBytes
 mod SizeLaws

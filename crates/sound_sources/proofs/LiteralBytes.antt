@@ -7,7 +7,7 @@ use Rattle.pawn_token.specs.declared.class.Class.TheVariants as class
 use Rattle.pawn_token.specs.Class.{is_digit, run, after}
 use Rattle.pawn_token.specs.Literal.{Next, Closes, Is, Fails, named, past_semicolon, byte_of, coded, unnamed, named_or, escape, next, Spells, character_at, begun_by, ended_by}
 use Rattle.pawn_token.proofs.LiteralLaws.{IsEnd, next_ends, next_shorter}
-use Rattle.sound_values.specs.Written.{AreBytes}
+use Rattle.sound_programs.specs.Written.{AreBytes}
 
 -- ---- bytes of a part
 

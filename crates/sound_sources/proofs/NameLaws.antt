@@ -17,8 +17,8 @@ use Rattle.pawn_typed.specs.Programs.{natives, program_of}
 use Rattle.pawn_typed.specs.Publics.{publics}
 use Rattle.pawn_typed.specs.Whole.{Checked}
 use Rattle.pawn_sound.specs.SortedPublics.{PublicsAreSorted}
-use Rattle.sound_values.proofs.Facts.{each_append, each_all}
-use Rattle.sound_limits.proofs.LimitLaws.{typed_done}
+use Rattle.sound_programs.proofs.Facts.{each_append, each_all}
+use Rattle.sound_programs.proofs.LimitLaws.{typed_done}
 use Rattle.sound_sources.specs.NamedPrograms.{ProgramsHaveNames, TagsAreFew}
 use Rattle.sound_sources.proofs.Sizes.{upto_all, sizes_append, sizes_sum}
 use Rattle.sound_sources.proofs.TreeCounts.{own_sizes, tree_counts, tree_named}

@@ -15,7 +15,7 @@ use Rattle.pawn_typed.specs.Paths.{behind_decl}
 use Rattle.pawn_typed.specs.Sources.{Source, Stated, is_native, name_of, is_called, stated, natives_in}
 use Rattle.pawn_typed.specs.Declarations.{nothing_done, native_name, bare_head, decl_rule, declarations}
 use Rattle.pawn_typed.specs.Programs.{natives}
-use Rattle.sound_values.specs.Objects.{Each}
+use Rattle.sound_programs.specs.Objects.{Each}
 use Rattle.sound_sources.proofs.Sizes.{sizes}
 use Rattle.sound_sources.proofs.TreeCounts.{IsNamedDecl}
 

@@ -16,8 +16,8 @@ use Rattle.pawn_typed.specs.Publics.{not_above, inserted, sorted, group_name, is
 use Rattle.pawn_typed.specs.Declarations.{Bodied}
 use Rattle.pawn_typed.specs.Programs.{mentions, tags_from, functions_from}
 use Rattle.pawn_typed.specs.Whole.{whole_fault, dynamic_faults}
-use Rattle.sound_values.specs.Objects.{Each}
-use Rattle.sound_values.proofs.Facts.{position_within}
+use Rattle.sound_programs.specs.Objects.{Each}
+use Rattle.sound_programs.proofs.Facts.{position_within}
 
 -- ---- tags
 

@@ -12,7 +12,7 @@ use Rattle.pawn_automata.specs.Keys.{Key, Named, Operates, Enters, Misshapen, sa
 use Rattle.pawn_automata.specs.Groups.{Written, Group, written, with_body, body_key, grouped, is_entry}
 use Rattle.pawn_typed.specs.Headings.{Heading, Role, IsNative, IsForward, IsBody, headings, heading_key, is_enters, is_of, belongs}
 use Rattle.pawn_typed.specs.Sources.{Source, Stated, stated, group_head, group_tag, functions_from, operators_from, operator_of}
-use Rattle.sound_values.specs.Objects.{Each}
+use Rattle.sound_programs.specs.Objects.{Each}
 use Rattle.sound_sources.proofs.OperatorHeads.{some_is}
 
 -- ---- which function a user operator is

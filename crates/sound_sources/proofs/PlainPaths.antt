@@ -21,13 +21,13 @@ use Rattle.pawn_heads.specs.Params.{Reach, tag_numbers, reach, array_param_means
 use Rattle.pawn_typed.specs.Enums.{Counted, value_of, means_value, item_value, behind_item, behind_items, nothing_counted, named, behind_enum}
 use Rattle.pawn_typed.specs.Paths.{behind_decl}
 use Rattle.sound_faults.proofs.PathLaws.{meant_with, meant_same, meant_inside}
-use Rattle.sound_values.specs.Objects.{Each}
-use Rattle.sound_values.specs.Written.{IsAnyName, IsWrittenDim, IsWrittenInit, IsWrittenVar}
-use Rattle.sound_values.specs.Plain.{IsTag, IsValue, IsPlainMeaning, IsPlainPath, HasTags}
-use Rattle.sound_values.proofs.Facts.{small_cell, wrap_cell}
-use Rattle.sound_values.proofs.RuleValues.{tag_number_small}
-use Rattle.sound_values.proofs.ArrayValues.{PlainConstant, constant_plain, GoodShaped, shaped_good}
-use Rattle.sound_statements.specs.WrittenStatements.{MayBeConstant}
+use Rattle.sound_programs.specs.Objects.{Each}
+use Rattle.sound_programs.specs.Written.{IsAnyName, IsWrittenDim, IsWrittenInit, IsWrittenVar}
+use Rattle.sound_programs.specs.Plain.{IsTag, IsValue, IsPlainMeaning, IsPlainPath, HasTags}
+use Rattle.sound_programs.proofs.Facts.{small_cell, wrap_cell}
+use Rattle.sound_programs.proofs.RuleValues.{tag_number_small}
+use Rattle.sound_programs.proofs.ArrayValues.{PlainConstant, constant_plain, GoodShaped, shaped_good}
+use Rattle.sound_programs.specs.WrittenStatements.{MayBeConstant}
 use Rattle.sound_programs.specs.WrittenDeclarations.{IsWrittenItem, IsWrittenParam, IsWrittenDecl}
 use Rattle.sound_programs.proofs.HeadLaws.{GoodReach, reach_good}
 

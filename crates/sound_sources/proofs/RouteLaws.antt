@@ -24,11 +24,11 @@ use Rattle.pawn_typed.specs.Functions.{has_params, has_no_params, breaks_params,
 use Rattle.pawn_typed.specs.Declarations.{Bodied, Done, declarations}
 use Rattle.pawn_typed.specs.Programs.{bodies_of, params_of, dispatch_by, function_of, functions_from, program_of}
 use Rattle.pawn_typing.specs.declared.fault.TheConstants.{HEAD_DIFFERS}
-use Rattle.sound_values.specs.Objects.{Each}
-use Rattle.sound_values.proofs.Facts.{each_all, position_within}
-use Rattle.sound_values.proofs.ArrayValues.{each_at}
-use Rattle.sound_functions.specs.HeadedFunctions.{KeepTogether}
-use Rattle.sound_functions.proofs.FirstHeads.{append_none}
+use Rattle.sound_programs.specs.Objects.{Each}
+use Rattle.sound_programs.proofs.Facts.{each_all, position_within}
+use Rattle.sound_programs.proofs.ArrayValues.{each_at}
+use Rattle.sound_programs.specs.HeadedFunctions.{KeepTogether}
+use Rattle.sound_programs.proofs.FirstHeads.{append_none}
 use Rattle.sound_sources.specs.ValidRoutes.{IsRouted, RoutesAreValid}
 use Rattle.sound_sources.proofs.GroupBodies.{placed_at, bodies_at, Gathers, gathers}
 use Rattle.sound_sources.proofs.BodyNumbers.{Fits, bodies_fit, fits_shaped, fits_length, fits_placed}

@@ -11,9 +11,9 @@ use Rattle.pawn_lex.specs.declared.token.Token.{Token}
 use Rattle.pawn_grammar.specs.Tokens.{word_of, word_at, word, spelling_of, spelling_at, spelling, is_label}
 use Rattle.pawn_program.specs.Names.{IsName}
 use Rattle.sound_sources.specs.TokenSizes.{token_size}
-use Rattle.sound_values.specs.Objects.{Each}
-use Rattle.sound_values.proofs.Facts.{all_each}
-use Rattle.sound_values.proofs.ArrayValues.{each_at}
+use Rattle.sound_programs.specs.Objects.{Each}
+use Rattle.sound_programs.proofs.Facts.{all_each}
+use Rattle.sound_programs.proofs.ArrayValues.{each_at}
 
 abbrev pub size_at : Option Token → ℕ
 size_at None = 0

@@ -6,7 +6,7 @@ use Rattle.sound_sources.specs.KnownAround.{TypedProgramsAreWithinLimits}
 use Rattle.sound_sources.specs.NamedPrograms.{AreNamedTokens, ProgramsHaveNames, TagsAreFew}
 use Rattle.sound_sources.specs.SmallTokens.{TokensAreSmall}
 use Rattle.sound_sources.specs.TokenSizes.{TokensAreWithinBytes}
-use Rattle.sound_trees.specs.WrittenTrees.{TreesAreWritten}
+use Rattle.sound_sources.specs.WrittenTrees.{TreesAreWritten}
 use Rattle.sound_sources.specs.ValidPrograms.{ProgramsAreValid}
 use Rattle.sound_sources.specs.GoodSources.{SourcesAreGood}
 

@@ -11,7 +11,7 @@ use Rattle.pawn_program.specs.Names.{IsName}
 use Rattle.pawn_scopes.specs.Mark.{Mark, Opens, Closes, Mentions, Uses, Declares}
 use Rattle.pawn_scopes.specs.Around.{tags_of}
 use Rattle.pawn_typed.specs.Programs.{mentions, tags_from}
-use Rattle.sound_values.specs.Objects.{Each}
+use Rattle.sound_programs.specs.Objects.{Each}
 use Rattle.sound_sources.proofs.Sizes.{sizes}
 use Rattle.sound_sources.proofs.TreeCounts.{mention_size, AreNamed}
 

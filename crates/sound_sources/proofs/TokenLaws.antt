@@ -23,11 +23,11 @@ use Rattle.pawn_token.proofs.ForCallers.{token_shorter, past_blanks-le}
 use Rattle.pawn_token.proofs.LiteralLaws.{end_drop}
 use Rattle.pawn_lex.specs.declared.token.Token.{Token}
 use Rattle.pawn_lex.specs.Lines.{Leads, AreTokens}
-use Rattle.sound_values.specs.Objects.{Each}
-use Rattle.sound_values.specs.Written.{AreBytes}
-use Rattle.sound_values.proofs.Facts.{all_each, each_append, small_cell, cell_of_cell}
-use Rattle.sound_values.proofs.ArrayValues.{each_at}
-use Rattle.sound_trees.specs.WrittenTrees.{IsSmallKind}
+use Rattle.sound_programs.specs.Objects.{Each}
+use Rattle.sound_programs.specs.Written.{AreBytes}
+use Rattle.sound_programs.proofs.Facts.{all_each, each_append, small_cell, cell_of_cell}
+use Rattle.sound_programs.proofs.ArrayValues.{each_at}
+use Rattle.sound_sources.specs.WrittenTrees.{IsSmallKind}
 use Rattle.sound_sources.specs.SmallTokens.{TokensAreSmall, AreByteLines}
 use Rattle.sound_sources.proofs.LiteralBytes.{bytes_left, bytes_right, bytes_end, spelled_bytes, spelled_few, character_fits}
 

@@ -30,7 +30,7 @@ use Rattle.pawn_typed.specs.Headings.{public_name}
 use Rattle.pawn_uses.proofs.Grows.{Grows, Spans, up_to_orders, key_on, maybe_tag_rises, end_on}
 use Rattle.pawn_uses.proofs.Nodes.{param_rises, variables_rise, stmt_rises, modifiers_go, classifier_goes}
 use Rattle.pawn_uses.proofs.Whole.{Keeps, keeps_spans}
-use Rattle.sound_values.specs.Objects.{Each}
+use Rattle.sound_programs.specs.Objects.{Each}
 use Rattle.sound_sources.specs.TokenSizes.{token_size}
 use Rattle.sound_sources.proofs.Sizes.{size_at, upto, upto_more, upto_step, label_size, label_name}
 use Rattle.sound_sources.proofs.HeadNames.{operator_name}

@@ -17,20 +17,20 @@ use Rattle.pawn_typed.specs.Declarations.{Bodied, Done}
 use Rattle.pawn_typed.specs.Programs.{bodies_of, params_of, function_of, program_of}
 use Rattle.pawn_typed.specs.Whole.{Checked, dynamic_faults, entry_faults, return_faults}
 use Rattle.pawn_sound.specs.Known.{slot_of, KnowsAround}
-use Rattle.sound_values.specs.Objects.{Each}
-use Rattle.sound_values.proofs.Facts.{each_all}
-use Rattle.sound_values.proofs.ArrayValues.{each_at}
-use Rattle.sound_statements.specs.Sits.{Sits}
-use Rattle.sound_statements.specs.ValidStatements.{IsGoodSlot}
-use Rattle.sound_statements.proofs.Parts.{sits_there}
+use Rattle.sound_programs.specs.Objects.{Each}
+use Rattle.sound_programs.proofs.Facts.{each_all}
+use Rattle.sound_programs.proofs.ArrayValues.{each_at}
+use Rattle.sound_programs.specs.Sits.{Sits}
+use Rattle.sound_programs.specs.ValidStatements.{IsGoodSlot}
+use Rattle.sound_programs.proofs.Parts.{sits_there}
 use Rattle.sound_programs.specs.ValidBodies.{IsSoundBody, BodiesAreValid}
-use Rattle.sound_heads.specs.SameHeads.{AreThere, HeadsAreSame}
-use Rattle.sound_functions.specs.HeadedFunctions.{KeepTogether, HaveParams, FunctionsAreHeaded}
-use Rattle.sound_functions.proofs.FirstHeads.{append_none}
-use Rattle.sound_sites.specs.FileSites.{FilesAreSites}
-use Rattle.sound_sites.proofs.SiteLaws.{tags_are}
-use Rattle.sound_limits.specs.WithinLimits.{IsWithin}
-use Rattle.sound_limits.proofs.LimitLaws.{typed_done}
+use Rattle.sound_programs.specs.SameHeads.{AreThere, HeadsAreSame}
+use Rattle.sound_programs.specs.HeadedFunctions.{KeepTogether, HaveParams, FunctionsAreHeaded}
+use Rattle.sound_programs.proofs.FirstHeads.{append_none}
+use Rattle.sound_programs.specs.FileSites.{FilesAreSites}
+use Rattle.sound_programs.proofs.SiteLaws.{tags_are}
+use Rattle.sound_programs.specs.WithinLimits.{IsWithin}
+use Rattle.sound_programs.proofs.LimitLaws.{typed_done}
 use Rattle.sound_sources.specs.KnownAround.{AroundsAreKnown, TypedProgramsAreWithinLimits}
 use Rattle.sound_sources.proofs.KnownHeads.{IsThere, heads_there}
 use Rattle.sound_sources.specs.ValidRoutes.{IsRouted, RoutesAreValid}

@@ -7,9 +7,9 @@ use Rattle.pawn_program.specs.Program.{Program}
 use Rattle.pawn_typed.specs.Sources.{source_of, around_of}
 use Rattle.pawn_typed.specs.IsTyped.{IsTyped}
 use Rattle.pawn_sound.specs.Known.{KnowsAround}
-use Rattle.sound_values.specs.Written.{IsAnyName}
+use Rattle.sound_programs.specs.Written.{IsAnyName}
 use Rattle.sound_programs.specs.WrittenDeclarations.{IsWrittenTree}
-use Rattle.sound_limits.specs.WithinLimits.{IsWithin}
+use Rattle.sound_programs.specs.WithinLimits.{IsWithin}
 
 -- what is known around each expression of a tree that stands is of its program
 abbrev pub AroundsAreKnown : Type 0

@@ -1,3 +1,4 @@
+pub mod WrittenTrees
 pub mod GoodSources
 pub mod SmallTokens
 pub mod TokenSizes

@@ -4,7 +4,7 @@ use Rattle.pawn_pre.specs.declared.line.Line.{Line}
 use Rattle.pawn_pre.specs.Bounds.{bytes_of}
 use Rattle.pawn_lex.specs.declared.token.Token.{Token}
 use Rattle.pawn_lex.specs.Lines.{AreTokens}
-use Rattle.sound_trees.specs.WrittenTrees.{AreSmallTokens}
+use Rattle.sound_sources.specs.WrittenTrees.{AreSmallTokens}
 
 -- the numbers that lines are of are bytes
 abbrev pub AreByteLines : List Line → Type 0

@@ -6,7 +6,7 @@ use Rattle.pawn_program.specs.Program.{Program}
 use Rattle.pawn_program.specs.Valid.{IsValid}
 use Rattle.pawn_typed.specs.Sources.{source_of}
 use Rattle.pawn_typed.specs.IsTyped.{IsTyped}
-use Rattle.sound_values.specs.Written.{IsAnyName}
+use Rattle.sound_programs.specs.Written.{IsAnyName}
 use Rattle.sound_programs.specs.WrittenDeclarations.{IsWrittenTree}
 
 -- where its tree is as a source has it, with at most 2^32 tags

@@ -8,8 +8,8 @@ use Rattle.pawn_scopes.specs.Mark.{Mark}
 use Rattle.pawn_typed.specs.Sources.{Source, source_of, all_stated, around_of, beginning}
 use Rattle.pawn_typed.specs.Declarations.{Done, declarations}
 use Rattle.pawn_typed.specs.Programs.{program_of}
-use Rattle.sound_values.specs.Objects.{Each}
-use Rattle.sound_functions.specs.HeadedFunctions.{KeepTogether}
+use Rattle.sound_programs.specs.Objects.{Each}
+use Rattle.sound_programs.specs.HeadedFunctions.{KeepTogether}
 
 -- a route leads from states of an automaton to bodies; without a route there is one body
 pub record IsRouted (program : Program) (function : Function) : Type 0 where

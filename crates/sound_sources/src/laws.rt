@@ -1,18 +1,22 @@
+ghost use Rattle.sound_sources.specs.GoodSources.{SourcesAreGood};
 ghost use Rattle.sound_sources.specs.KnownAround.{AroundsAreKnown, TypedProgramsAreWithinLimits};
 ghost use Rattle.sound_sources.specs.NamedPrograms.{ProgramsHaveNames, TagsAreFew};
-ghost use Rattle.sound_sources.specs.ValidRoutes.{RoutesAreValid};
-ghost use Rattle.sound_sources.specs.GoodSources.{SourcesAreGood};
 ghost use Rattle.sound_sources.specs.SmallTokens.{TokensAreSmall};
 ghost use Rattle.sound_sources.specs.TokenSizes.{TokensAreWithinBytes};
 ghost use Rattle.sound_sources.specs.ValidPrograms.{ProgramsAreValid};
+ghost use Rattle.sound_sources.specs.ValidRoutes.{RoutesAreValid};
+ghost use Rattle.sound_sources.specs.WrittenTrees.{TreesAreWritten};
 
 use pawn_sound::publics_are_sorted;
-use sound_functions::functions_are_headed;
-use sound_heads::heads_are_same;
-use sound_limits::programs_are_within_limits;
-use sound_programs::bodies_are_valid;
-use sound_sites::files_are_sites;
-use sound_trees::trees_are_written;
+use sound_programs::{
+    bodies_are_valid, files_are_sites, functions_are_headed, heads_are_same,
+    programs_are_within_limits,
+};
+
+/// A tree that small tokens spell is as a source has it.
+fn trees_are_written()
+    ensures { TreesAreWritten }
+{}
 
 /// The numbers of tokens are cells, and the bytes of their names and texts are bytes, where those
 /// of the lines are.

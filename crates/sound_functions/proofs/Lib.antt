@@ -1,4 +1,0 @@
-pub mod GroupLaws
-pub mod SlotLaws
-pub mod FirstHeads
-mod FunctionLaws

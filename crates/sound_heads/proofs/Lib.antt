@@ -1,3 +1,0 @@
-pub mod ConstantRules
-pub mod ConstantExpressions
-pub mod HeadsLaw

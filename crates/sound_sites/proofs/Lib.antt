@@ -1,2 +1,0 @@
-mod CalledLaws
-pub mod SiteLaws

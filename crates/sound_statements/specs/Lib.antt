@@ -1,4 +1,0 @@
-pub mod Sits
-pub mod Seen
-pub mod WrittenStatements
-pub mod ValidStatements

@@ -1,2 +1,0 @@
-mod ExpressionTrees
-mod TreeLaws

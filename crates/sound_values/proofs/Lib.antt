@@ -1,4 +1,0 @@
-pub mod Facts
-pub mod RuleValues
-pub mod ExpressionValues
-pub mod ArrayValues
