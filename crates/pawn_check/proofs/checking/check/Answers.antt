@@ -1,0 +1,12 @@
+use Rattle.std.proofs.Common.{subst}
+use Rattle.pawn_tree.specs.View.{tree_view}
+use Rattle.pawn_typed.specs.Sources.{Source}
+use Rattle.pawn_verdict.specs.Answers.{Answers}
+use Rattle.pawn_check.specs.Parts.{typed_by}
+use Rattle.pawn_check.specs.View.{checked_view}
+use Rattle.pawn_check.proofs.checking.check.Goals as goal
+
+pub returns : goal.returns
+returns c =
+    subst (λ (source : Source). Answers checked_view (typed_by source (tree_view c.args.tree.now) c.args.dynamic) c.check_read.result)
+    c.in_ok-reading.ensures.source c.check_read.ensures

@@ -1,0 +1,4 @@
+pub mod NameFault
+pub mod Parts
+pub mod Reads
+pub mod View

@@ -1,0 +1,81 @@
+ghost use Rattle.std.specs.Prelude.{◌≡◌, map};
+ghost use Rattle.pawn_tree.specs.View.{tree_view};
+ghost use Rattle.pawn_typed.specs.Whole as whole;
+ghost use Rattle.pawn_verdict.specs.Answers.{Answers};
+ghost use Rattle.check_sums.specs.PassedView.{passed_view};
+ghost use Rattle.check_sources.specs.SourceView.{source_view};
+ghost use Rattle.check_classifiers.specs.Finds.{Finds};
+ghost use Rattle.check_contexts.specs.HeadsView.{heads_view};
+ghost use Rattle.check_done.specs.DoneView.{bodied_view};
+ghost use Rattle.pawn_check.specs.Parts as spec;
+ghost use Rattle.pawn_check.specs.Reads.{IsRead};
+
+use super::names::names_stand;
+use super::reading::Reading;
+use check_done::Bodied;
+use check_functions::group_faults;
+use check_returns::returns_stand;
+use check_types::Head;
+use pawn_tree::Tree;
+use pawn_verdict::CheckFault;
+use std::alloc::Global;
+
+/// What the bodies of each function have to keep together, with the heads of the tree.
+fn functions_stand(
+    alloc: Global,
+    tree: &Tree,
+    reading: &Reading,
+    heads: &[Option<Head>],
+) -> Result<(), CheckFault>
+    requires read { IsRead (tree_view tree.now) reading.now }
+    requires heads { heads_view heads.now ≡
+        spec.heads (source_view reading.now.source) (tree_view tree.now) }
+    ensures { Finds (spec.function_faults (source_view reading.now.source) (tree_view tree.now))
+        result }
+{
+    group_faults(alloc, &reading.source, &reading.firsts, heads)
+}
+
+/// What is wrong with declarations that stand, together.
+#[tactic(auto, using(check_classifiers::proofs::FindsLaws::finds))]
+fn find_together(
+    alloc: Global,
+    tree: &Tree,
+    reading: &Reading,
+    heads: &[Option<Head>],
+    bodies: &[Bodied],
+) -> Result<(), CheckFault>
+    requires read { IsRead (tree_view tree.now) reading.now }
+    requires heads { heads_view heads.now ≡
+        spec.heads (source_view reading.now.source) (tree_view tree.now) }
+    ensures { Finds (spec.together (source_view reading.now.source) (tree_view tree.now)
+        (map bodied_view bodies.now)) result }
+{
+    let source = &reading.source;
+    names_stand(alloc, &source.tags, tree)?;
+    functions_stand(alloc, tree, reading, heads)?;
+    returns_stand(alloc, bodies, source.groups.as_slice().len())
+}
+
+/// Names, functions and returns of declarations that stand, together.
+///
+/// # Errors
+///
+/// A name that stands twice (51), a function whose bodies don't stand together (42 to 44, 51, 65),
+/// or that returns with and without a value (64); or `Memory`.
+#[tactic(auto, using(crate::proofs::WholeLaws::finds_unless))]
+pub fn stand_together(
+    alloc: Global,
+    tree: &Tree,
+    reading: &Reading,
+    heads: &[Option<Head>],
+    bodies: &[Bodied],
+) -> Result<(), CheckFault>
+    requires read { IsRead (tree_view tree.now) reading.now }
+    requires heads { heads_view heads.now ≡
+        spec.heads (source_view reading.now.source) (tree_view tree.now) }
+    ensures { Answers passed_view (whole.unless (spec.together (source_view reading.now.source)
+        (tree_view tree.now) (map bodied_view bodies.now))) result }
+{
+    find_together(alloc, tree, reading, heads, bodies)
+}
