@@ -1,6 +1,4 @@
-pub mod Compiled
 pub mod Goes
-pub mod Made
 pub mod Meant
 pub mod Natives
 pub mod Played

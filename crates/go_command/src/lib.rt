@@ -1,7 +1,6 @@
 //! The command `go`: a source is compiled, its file is put, and the bytes that were put are run.
 #![tactic(auto)]
 
-mod compile;
 mod goes;
 mod natives;
 mod play;
