@@ -2,12 +2,12 @@
 use Rattle.std.proofs.Common.{◌⊎◌, List, Option, Some, inl, inr}
 use Rattle.pawn_outside.specs.Held.{Held}
 use Rattle.pawn_program.specs.Program.{Program}
-use Rattle.pawn_front.specs.declared.compiled.Warning.{Warning}
-use Rattle.pawn_front.specs.Means.{Means}
+use Rattle.go_command.specs.PawnFront.declared.compiled.Warning.{Warning}
+use Rattle.go_command.specs.PawnFront.Means.{Means}
 use Rattle.pawn_words.specs.declared.status.Status.{Status}
 use Rattle.command_parts.specs.Told.{Writes}
-use Rattle.compile_command.specs.declared.words.CompileWords.{CompileWords}
-use Rattle.compile_command.specs.Compiles.{Compiles, CompilesGood}
+use Rattle.go_command.specs.CompileCommand.declared.words.CompileWords.{CompileWords}
+use Rattle.go_command.specs.CompileCommand.Compiles.{Compiles, CompilesGood}
 use Rattle.run_command.specs.Runs.{IsStopped}
 use Rattle.command_laws.specs.Good.{IsFree}
 use Rattle.command_laws.specs.GoodCompile.{GoodIsCompiled}

@@ -1,11 +1,12 @@
 -- A source that is good is compiled, put and run, but for a fault of the files or want of memory.
-use Rattle.std.proofs.Common.{◌≡◌, ◌⊎◌, ◌∙◌, ℕ, List, Option, None, Some, inl, inr, refl, sym, ap, subst}
+use Rattle.std.proofs.Common.{◌≡◌, ◌⊎◌, ◌∙◌, ℕ, List, Option, None, Some, inl, inr, refl, sym, ap}
+use Rattle.std.proofs.Common.{subst}
 use Rattle.pawn_outside.specs.Held.{Held}
 use Rattle.host_script.specs.declared.script.Script.{Script}
 use Rattle.amx_ops.specs.declared.amx.Amx.{Amx}
 use Rattle.amx_ops.specs.Trace.{Main, address_of}
 use Rattle.pawn_program.specs.Program.{Program}
-use Rattle.pawn_front.proofs.SourceLaws.{a_source_has_one_program}
+use Rattle.go_command.proofs.PawnFront.SourceLaws.{a_source_has_one_program}
 use Rattle.gen_agrees.specs.Agrees.{Serves}
 use Rattle.pawn_words.specs.declared.status.Status.{Status}
 use Rattle.pawn_words.specs.declared.stop.Stop.{Stop}
@@ -14,12 +15,13 @@ use Rattle.command_parts.specs.ScriptFile.{IsScriptOf}
 use Rattle.command_parts.specs.Told.{Writes, TellsStop}
 use Rattle.run_command.specs.Runs.{IsStopped}
 use Rattle.go_command.specs.declared.words.GoWords.{GoWords}
-use Rattle.compile_command.specs.Compiles.{Unput}
-use Rattle.compile_command.specs.Lines.{warning_lines}
+use Rattle.go_command.specs.CompileCommand.Compiles.{Unput}
+use Rattle.go_command.specs.CompileCommand.Lines.{warning_lines}
 use Rattle.go_command.specs.Goes.{Goes, GoesGood, NotGood, RunsPut, behind}
 use Rattle.go_command.specs.Natives.{HasNatives}
 use Rattle.go_command.specs.Played.{TellsTrace, trace_of}
-use Rattle.go_command.specs.Ready.{IsServed, NotReady, no_main, no_native, wants_memory, unregistered, no_memory}
+use Rattle.go_command.specs.Ready.{IsServed, NotReady, no_main, no_native, wants_memory}
+use Rattle.go_command.specs.Ready.{unregistered, no_memory}
 use Rattle.go_command.specs.RunsFile.{RunsFile, stopped, ran}
 use Rattle.go_command.proofs.FileLaws.{main_address}
 use Rattle.command_laws.specs.Good.{IsFree}

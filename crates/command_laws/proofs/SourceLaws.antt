@@ -3,20 +3,21 @@ use Rattle.std.proofs.Common.{◌≡◌, ◌⊎◌, ℕ, List, Option, None, Som
 use Rattle.pawn_outside.specs.Held.{Held}
 use Rattle.host_script.specs.declared.script.Script.{Script}
 use Rattle.pawn_program.specs.Program.{Program}
-use Rattle.pawn_front.specs.declared.compiled.Warning.{Warning}
-use Rattle.pawn_front.specs.declared.fault.CompileFault.{CompileFault}
-use Rattle.pawn_front.specs.declared.fault.CompileFault.TheVariants as compile
-use Rattle.pawn_front.specs.Means.{Means}
-use Rattle.pawn_front.proofs.SourceLaws.{what_means_is_not_refused}
+use Rattle.go_command.specs.PawnFront.declared.compiled.Warning.{Warning}
+use Rattle.go_command.specs.PawnFront.declared.fault.CompileFault.{CompileFault}
+use Rattle.go_command.specs.PawnFront.declared.fault.CompileFault.TheVariants as compile
+use Rattle.go_command.specs.PawnFront.Means.{Means}
+use Rattle.go_command.proofs.PawnFront.SourceLaws.{what_means_is_not_refused}
 use Rattle.amx_ops.specs.declared.amx.Amx.{Amx}
 use Rattle.amx_ops.specs.Trace.{Main, address_of}
 use Rattle.pawn_words.specs.declared.stop.Stop.{Stop}
 use Rattle.command_parts.specs.ScriptFile.{IsNoScript}
-use Rattle.compile_command.specs.Made.{NoSource, stop_of}
+use Rattle.go_command.specs.CompileCommand.Made.{NoSource, stop_of}
 use Rattle.go_command.specs.declared.words.GoWords.{GoWords}
 use Rattle.go_command.specs.Goes.{NotGood, no_source, no_natives}
 use Rattle.go_command.specs.Natives.{HasNatives, LacksNatives}
-use Rattle.go_command.specs.Ready.{IsServed, unregistered, no_memory, NotReady, no_main, no_native, wants_memory}
+use Rattle.go_command.specs.Ready.{IsServed, unregistered, no_memory, NotReady, no_main, no_native}
+use Rattle.go_command.specs.Ready.{wants_memory}
 use Rattle.command_laws.specs.Good as good
 use Rattle.command_laws.specs.Good.{IsFree}
 use Rattle.command_laws.specs.GoodSource.{GoodSourcesGo}

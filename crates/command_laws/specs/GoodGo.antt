@@ -3,14 +3,14 @@ use Rattle.std.specs.Prelude.{◌≡◌, ◌⊎◌, ℕ, List, Option, Some}
 use Rattle.pawn_outside.specs.Held.{Held, with_put}
 use Rattle.host_script.specs.declared.script.Script.{Script}
 use Rattle.pawn_program.specs.Program.{Program}
-use Rattle.pawn_front.specs.declared.compiled.Warning.{Warning}
-use Rattle.pawn_front.specs.Means.{Means}
+use Rattle.go_command.specs.PawnFront.declared.compiled.Warning.{Warning}
+use Rattle.go_command.specs.PawnFront.Means.{Means}
 use Rattle.gen_agrees.specs.Agrees.{Serves}
 use Rattle.pawn_words.specs.declared.status.Status.{Status}
 use Rattle.pawn_words.specs.declared.stop.Stop.TheVariants.{NoMemory}
 use Rattle.command_parts.specs.Told.{Writes, TellsStop}
-use Rattle.compile_command.specs.Compiles.{Unput}
-use Rattle.compile_command.specs.Lines.{warning_lines}
+use Rattle.go_command.specs.CompileCommand.Compiles.{Unput}
+use Rattle.go_command.specs.CompileCommand.Lines.{warning_lines}
 use Rattle.run_command.specs.Runs.{IsStopped}
 use Rattle.go_command.specs.declared.words.GoWords.{GoWords}
 use Rattle.go_command.specs.Goes.{Goes, GoesGood, behind}

@@ -4,12 +4,12 @@ use Rattle.std.specs.Prelude.{◌≡◌, ℕ, List, Some}
 use Rattle.pawn_outside.specs.Held.{Held}
 use Rattle.host_script.specs.declared.script.Script.{Script}
 use Rattle.pawn_program.specs.Program.{Program}
-use Rattle.pawn_front.specs.declared.compiled.Warning.{Warning}
-use Rattle.pawn_front.specs.Means.{Means}
+use Rattle.go_command.specs.PawnFront.declared.compiled.Warning.{Warning}
+use Rattle.go_command.specs.PawnFront.Means.{Means}
 use Rattle.amx_ops.specs.declared.amx.Amx.{Amx}
 use Rattle.amx_ops.specs.Trace.{Main, address_of}
 use Rattle.pawn_words.specs.declared.stop.Stop.{Stop}
-use Rattle.compile_command.specs.Made.{NoSource}
+use Rattle.go_command.specs.CompileCommand.Made.{NoSource}
 use Rattle.go_command.specs.declared.words.GoWords.{GoWords}
 use Rattle.go_command.specs.Goes.{NotGood}
 use Rattle.go_command.specs.Natives.{HasNatives}

@@ -11,3 +11,6 @@ pub use compiles::compile;
 pub use lines::say_warnings;
 pub use sources::compiled_source;
 pub use words::CompileWords;
+
+// What stands below, passed on.
+pub use pawn_front;

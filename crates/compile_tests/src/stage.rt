@@ -1,5 +1,5 @@
 //! Commands over a source `s.p`, an include `q.inc` and a file `f.amx`.
-use compile_command::{CompileWords, compile};
+use go_command::compile_command::{CompileWords, compile};
 use go_command::{GoWords, go};
 use pawn_outside::{Files, MemoryFiles, MemorySink, ReadAnswer};
 use pawn_words::{Name, Status};

@@ -1,5 +1,6 @@
 -- What `go` does of good files, and what stops it.
-use Rattle.std.proofs.Common.{◌≡◌, ◌≢◌, ◌∙◌, ◌<◌, ◌^◌, inl, inr, ℕ, List, Option, Ok, Err, length, refl, sym, ap, ap₂, subst}
+use Rattle.std.proofs.Common.{◌≡◌, ◌≢◌, ◌∙◌, ◌<◌, ◌^◌, inl, inr, ℕ, List, Option, Ok, Err, length}
+use Rattle.std.proofs.Common.{refl, sym, ap, ap₂, subst}
 use Rattle.pawn_outside.specs.declared.fault.SinkFault.{SinkFault}
 use Rattle.pawn_outside.specs.Held.{Held, with_put}
 use Rattle.pawn_outside.specs.Said.{Said}
@@ -12,9 +13,9 @@ use Rattle.amx_ops.specs.declared.amx.Amx.{Amx}
 use Rattle.amx_ops.specs.Runs.{Stop as RunStop, Steps, Asleep, Over_by}
 use Rattle.amx_format.specs.declared.encoding.Encoding.TheVariants.{Plain}
 use Rattle.amx_format.proofs.LimitLaws.{within_limits}
-use Rattle.pawn_front.specs.declared.compiled.Compiled.{Compiled}
-use Rattle.pawn_front.specs.declared.compiled.Warning.{Warning}
-use Rattle.pawn_front.specs.Compiled.{IsCompiled}
+use Rattle.compile_command.specs.PawnFront.declared.compiled.Compiled.{Compiled}
+use Rattle.compile_command.specs.PawnFront.declared.compiled.Warning.{Warning}
+use Rattle.compile_command.specs.PawnFront.Compiled.{IsCompiled}
 use Rattle.pawn_words.specs.declared.status.Status.{Status}
 use Rattle.pawn_words.specs.declared.status.Status.TheVariants as status
 use Rattle.pawn_words.specs.declared.stop.Stop.{Stop}
@@ -29,7 +30,8 @@ use Rattle.go_command.specs.declared.goes.Prepared.{Prepared}
 use Rattle.go_command.specs.declared.words.GoWords.{GoWords}
 use Rattle.compile_command.specs.Lines.{warning_lines}
 use Rattle.compile_command.specs.Made.{NoSource}
-use Rattle.go_command.specs.Goes.{IsGood, NotGood, no_source, no_natives, behind, IsPrepared, Makes, Goes}
+use Rattle.go_command.specs.Goes.{IsGood, NotGood, no_source, no_natives, behind, IsPrepared, Makes}
+use Rattle.go_command.specs.Goes.{Goes}
 use Rattle.go_command.specs.Natives.{HasNatives, LacksNatives}
 use Rattle.go_command.specs.Ready.{wants_memory}
 use Rattle.go_command.specs.RunsFile.{RunsFile, stopped, ran}

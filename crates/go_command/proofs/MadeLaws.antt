@@ -12,7 +12,7 @@ use Rattle.amx_verify.specs.declared.fault.VerifyFault.{VerifyFault}
 use Rattle.amx_verify.specs.declared.fault.VerifyFault.TheVariants as fault
 use Rattle.amx_verify.specs.Verdict.{fault_in, Tells as TellsFault}
 use Rattle.amx_verify.specs.Verdict as verdict
-use Rattle.pawn_front.specs.Compiled.{HasFile}
+use Rattle.compile_command.specs.PawnFront.Compiled.{HasFile}
 use Rattle.pawn_words.specs.declared.stop.Stop.{Stop}
 use Rattle.pawn_words.specs.declared.stop.Stop.TheVariants.{FileFault, NoMemory}
 use Rattle.pawn_files.specs.ValidFile.{IsFileOf, IsValidFile, Broken, no_file, invalid_at}

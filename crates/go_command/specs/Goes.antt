@@ -6,8 +6,8 @@ use Rattle.amx_format.specs.declared.encoding.Encoding.TheVariants.{Plain}
 use Rattle.pawn_words.specs.declared.status.Status.{Status}
 use Rattle.pawn_words.specs.declared.stop.Stop.{Stop}
 use Rattle.pawn_files.specs.ValidFile.{IsValidFile}
-use Rattle.pawn_front.specs.declared.compiled.Compiled.{Compiled}
-use Rattle.pawn_front.specs.Compiled.{IsCompiled}
+use Rattle.compile_command.specs.PawnFront.declared.compiled.Compiled.{Compiled}
+use Rattle.compile_command.specs.PawnFront.Compiled.{IsCompiled}
 use Rattle.command_parts.specs.Told.{Writes}
 use Rattle.run_command.specs.Runs.{IsStopped}
 use Rattle.compile_command.specs.Compiles.{Unput}

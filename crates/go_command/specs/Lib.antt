@@ -4,3 +4,6 @@ pub mod Natives
 pub mod Played
 pub mod Ready
 pub mod RunsFile
+-- What stands below, passed on.
+pub use Rattle.compile_command.specs.PawnFront
+pub use Rattle.compile_command.specs as CompileCommand

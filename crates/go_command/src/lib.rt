@@ -9,3 +9,6 @@ mod words;
 
 pub use goes::go;
 pub use words::GoWords;
+
+// What stands below, passed on.
+pub use compile_command;

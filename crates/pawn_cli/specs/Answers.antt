@@ -2,15 +2,16 @@
 use Rattle.std.specs.Prelude.{◌≡◌, ◌⊎◌, ℕ, List as ListOf, Bool, Option, None, Some}
 use Rattle.pawn_outside.specs.Held.{Held}
 use Rattle.pawn_words.specs.declared.command.Command.{Command}
-use Rattle.pawn_words.specs.declared.command.Command.TheVariants.{Compile, Verify, List, Run, Resume, Go}
+use Rattle.pawn_words.specs.declared.command.Command.TheVariants.{Compile, Verify, List, Run}
+use Rattle.pawn_words.specs.declared.command.Command.TheVariants.{Resume, Go}
 use Rattle.pawn_words.specs.declared.status.Status.{Status}
 use Rattle.pawn_words.specs.declared.stop.Stop.{Stop}
 use Rattle.pawn_words.specs.declared.stop.Stop.TheVariants.{BadWords, NoMemory}
 use Rattle.pawn_words.specs.declared.words.WordsFault.{WordsFault}
 use Rattle.pawn_words.specs.declared.words.WordsFault.TheVariants as words
 use Rattle.command_parts.specs.Told.{Writes}
-use Rattle.compile_command.specs.declared.words.CompileWords.{CompileWords}
-use Rattle.compile_command.specs.Compiles.{Compiles}
+use Rattle.go_command.specs.CompileCommand.declared.words.CompileWords.{CompileWords}
+use Rattle.go_command.specs.CompileCommand.Compiles.{Compiles}
 use Rattle.run_command.specs.declared.words.RunWords.{RunWords}
 use Rattle.run_command.specs.Runs.{IsStopped, Runs}
 use Rattle.resume_command.specs.declared.words.ResumeWords.{ResumeWords}

@@ -9,7 +9,7 @@ ghost use Rattle.pawn_cli.specs.Answers.{AreCompile, AreGo, AreResume, AreRun};
 use super::list::list;
 use super::verify::verify;
 use command_parts::tell_stop;
-use compile_command::{CompileWords, compile};
+use go_command::compile_command::{CompileWords, compile};
 use go_command::{GoWords, go};
 use pawn_outside::{Files, Sink};
 use pawn_words::{Command, Name, Status, Stop, WordsFault, read_words};

@@ -1,6 +1,6 @@
 mod files;
 
-use pawn_cli::{Status, pawn};
+use host_program::pawn_cli::{Status, pawn};
 use pawn_outside::{Files, MemoryFiles, MemorySink, ReadAnswer};
 use std::alloc::Global;
 use std::test::Fail;
