@@ -12,7 +12,7 @@ use super::checking::checked;
 use super::compiled::Compiled;
 use super::fault::CompileFault;
 use super::files::{file_name, warnings};
-use super::good::programs_of_sources_are_good;
+use super::good::{are_byte_lines, programs_of_sources_are_good};
 use super::making::made;
 use amx_format::Encoding;
 use pawn_base::{Bytes, Memory};
@@ -78,6 +78,7 @@ fn compiled_lines(
     ensures { CompilesLines lines.now encoding result }
 {
     programs_of_sources_are_good();
+    are_byte_lines(lines.lines.as_slice());
     match checked(alloc, lines) {
         Ok(checked) => compiled(alloc, lines, &checked, encoding),
         Err(fault) => Err(fault_in(alloc, lines, fault)),
