@@ -7,10 +7,10 @@ use Rattle.amx_format.specs.Written.{IsWritten}
 use Rattle.amx_format.proofs.SortLaws.{written_sorted}
 use Rattle.gen_agrees.specs.Agrees.{Agrees}
 use Rattle.pawn_front.specs.Compiled.{HasFile}
-use Rattle.pawn_front.specs.Good.{IsGood}
+use Rattle.sound_sources.specs.GoodSources.{IsGoodProgram}
 use Rattle.pawn_front.proofs.SizeLaws.{file_small}
 
-pub file_is : (program : Program) (encoding : Encoding) (bytes : List ℕ) (amx : Amx) → IsGood program → Agrees program amx
+pub file_is : (program : Program) (encoding : Encoding) (bytes : List ℕ) (amx : Amx) → IsGoodProgram program → Agrees program amx
     → IsWritten encoding amx bytes → HasFile program encoding bytes
 file_is program encoding bytes amx good agrees it =
     let written = written_sorted encoding amx bytes agrees.shape.writable it in

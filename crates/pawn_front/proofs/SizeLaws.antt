@@ -16,7 +16,7 @@ use Rattle.amx_format.proofs.RowLaws.{names_size-append, row_short}
 use Rattle.amx_format.proofs.TableLaws.{length-table, length-names}
 use Rattle.gen_agrees.specs.Agrees.{Agrees}
 use Rattle.gen_agrees.specs.Shape.{names, native_record}
-use Rattle.pawn_front.specs.Good.{IsGood}
+use Rattle.sound_sources.specs.GoodSources.{IsGoodProgram}
 
 -- ---- names
 
@@ -50,7 +50,7 @@ tags_named : (tags : List Tag) → names (map (λ (it : Tag). record { address =
 tags_named [] = refl
 tags_named (tag ∷ tags) = ap (λ l. tag.name ∷ l) (tags_named tags)
 
-module _ (program : Program) (amx : Amx) (good : IsGood program) (agrees : Agrees program amx) where
+module _ (program : Program) (amx : Amx) (good : IsGoodProgram program) (agrees : Agrees program amx) where
   abbrev natives : List (List ℕ)
   natives = program.natives
 
@@ -150,7 +150,7 @@ module _ (encoding : Encoding) (amx : Amx) (row : List ℕ) (is_row : IsRow enco
         all_names,
       )
 
-pub file_small : (program : Program) (amx : Amx) (encoding : Encoding) (bytes : List ℕ) → IsGood program → Agrees program amx
+pub file_small : (program : Program) (amx : Amx) (encoding : Encoding) (bytes : List ℕ) → IsGoodProgram program → Agrees program amx
     → IsLayout encoding amx bytes → length bytes ≤ 67108864
 file_small program amx encoding bytes good agrees it =
     omega (

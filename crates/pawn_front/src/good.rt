@@ -1,11 +1,15 @@
-ghost use Rattle.pawn_front.specs.Good.{AreBytes, AreByteLines, ProgramsOfSourcesAreGood};
+ghost use Rattle.sound_sources.specs.SmallTokens.{AreByteLines};
+ghost use Rattle.pawn_front.specs.Good.{AreBytes, ProgramsOfSourcesAreGood};
 
 use pawn_pre::Line;
+use sound_sources::sources_are_good;
 
 /// The program of a source is valid, within the limits, and has names as those of a source.
 pub fn programs_of_sources_are_good()
     ensures { ProgramsOfSourcesAreGood }
-{}
+{
+    sources_are_good();
+}
 
 /// Each byte is below 256.
 fn are_bytes(bytes: &[u8])

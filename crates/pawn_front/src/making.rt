@@ -1,7 +1,7 @@
 ghost use Rattle.std.specs.Prelude.{IfOk};
 ghost use Rattle.pawn_program.specs.View.{program_view};
 ghost use Rattle.pawn_front.specs.Compiled.{HasFile};
-ghost use Rattle.pawn_front.specs.Good.{IsGood};
+ghost use Rattle.sound_sources.specs.GoodSources.{IsGoodProgram};
 
 use amx_format::{Encoding, write};
 use gen_module::generate;
@@ -12,7 +12,7 @@ use std::alloc::Global;
 /// The bytes of a program's file.
 #[tactic(auto, using(crate::proofs::MakingLaws::file_is))]
 pub fn made(alloc: Global, program: &Program, encoding: Encoding) -> Result<Bytes, Memory>
-    requires { IsGood (program_view program.now) }
+    requires { IsGoodProgram (program_view program.now) }
     ensures { IfOk result (HasFile (program_view program.now) encoding) }
 {
     match generate(alloc, program) {

@@ -5,7 +5,7 @@ ghost use Rattle.pawn_program.specs.Program.{Program as PlainProgram};
 ghost use Rattle.pawn_program.specs.View.{program_view};
 ghost use Rattle.pawn_front.specs.Checks.{Checks, Refuses, RefusesLines, fault_of};
 ghost use Rattle.pawn_front.specs.Compiled.{Compiles, CompilesLines, IsOfLines};
-ghost use Rattle.pawn_front.specs.Good.{IsGood};
+ghost use Rattle.sound_sources.specs.GoodSources.{IsGoodProgram};
 ghost use Rattle.pawn_front.specs.Means.{IsProgramOf};
 
 use super::checking::checked;
@@ -119,7 +119,7 @@ fn compiled(
 ) -> Result<Compiled, CompileFault>
     requires program { let it : PlainProgram = program_view checked.now.program in
         IsProgramOf lines.now it checked.now.warnings }
-    requires good { IsGood (program_view checked.now.program) }
+    requires good { IsGoodProgram (program_view checked.now.program) }
     ensures { CompilesLines lines.now encoding result }
 {
     match written(alloc, lines, checked, encoding) {
@@ -137,7 +137,7 @@ fn written(
 ) -> Result<Compiled, Memory>
     requires program { let it : PlainProgram = program_view checked.now.program in
         IsProgramOf lines.now it checked.now.warnings }
-    requires good { IsGood (program_view checked.now.program) }
+    requires good { IsGoodProgram (program_view checked.now.program) }
     ensures { IfOk result (IsOfLines lines.now encoding) }
 {
     let bytes = made(alloc, &checked.program, encoding)?;
