@@ -1,23 +1,27 @@
 -- A source that is good is compiled, put and run, but for a fault of the files or want of memory.
-use Rattle.std.proofs.Common.{◌≡◌, ◌⊎◌, ◌∙◌, ℕ, List, Option, None, Some, inl, inr, refl, sym, subst}
+use Rattle.std.proofs.Common.{◌≡◌, ◌⊎◌, ◌∙◌, ℕ, List, Option, None, Some, inl, inr, refl, sym, ap}
+use Rattle.std.proofs.Common.{subst}
 use Rattle.pawn_outside.specs.Held.{Held}
 use Rattle.host_script.specs.declared.script.Script.{Script}
 use Rattle.amx_ops.specs.declared.amx.Amx.{Amx}
 use Rattle.amx_ops.specs.Trace.{Main, address_of}
-use Rattle.straight_source.specs.Means.{Means}
+use Rattle.pawn_program.specs.Program.{Program}
+use Rattle.go_command.proofs.PawnFront.SourceLaws.{a_source_has_one_program}
+use Rattle.gen_agrees.specs.Agrees.{Serves}
 use Rattle.pawn_words.specs.declared.status.Status.{Status}
 use Rattle.pawn_words.specs.declared.stop.Stop.{Stop}
 use Rattle.pawn_words.specs.declared.stop.Stop.TheVariants.{NoMemory}
-use Rattle.pawn_files.specs.declared.read.TheConstants.{SOURCE_LIMIT}
-use Rattle.pawn_files.specs.Unread.{IsRead}
 use Rattle.command_parts.specs.ScriptFile.{IsScriptOf}
 use Rattle.command_parts.specs.Told.{Writes, TellsStop}
 use Rattle.run_command.specs.Runs.{IsStopped}
 use Rattle.go_command.specs.declared.words.GoWords.{GoWords}
-use Rattle.go_command.specs.Goes.{Goes, GoesGood, NotGood, Unput, RunsPut}
+use Rattle.go_command.specs.CompileCommand.Compiles.{Unput}
+use Rattle.go_command.specs.CompileCommand.Lines.{warning_lines}
+use Rattle.go_command.specs.Goes.{Goes, GoesGood, NotGood, RunsPut, behind}
 use Rattle.go_command.specs.Natives.{HasNatives}
 use Rattle.go_command.specs.Played.{TellsTrace, trace_of}
-use Rattle.go_command.specs.Ready.{IsServed, NotReady, no_main, no_native, wants_memory, unregistered, no_memory}
+use Rattle.go_command.specs.Ready.{IsServed, NotReady, no_main, no_native, wants_memory}
+use Rattle.go_command.specs.Ready.{unregistered, no_memory}
 use Rattle.go_command.specs.RunsFile.{RunsFile, stopped, ran}
 use Rattle.go_command.proofs.FileLaws.{main_address}
 use Rattle.command_laws.specs.Good.{IsFree}
@@ -51,34 +55,39 @@ module _ {S : Type 0} (writes : Writes S) (old new : S) (answer : Status) where
       let P : Stop → Type 0 = λ s. TellsStop s writes old new answer in
       inl (subst P (only_memory amx script stop main served none) tells)
 
-  module _ (map : Held) (after : Option Held) (words : GoWords) (script : Script)
-      (source : IsRead (Some map) words.src.now SOURCE_LIMIT (IsServedSource script)) (natives : HasNatives (Some map) words.script.now script) where
-    free : (stop : Stop) → NotGood (Some map) words stop → IsFree stop
-    free stop none =
-        good_sources.read map words source.is.program script stop
-        (record { bytes = source.bytes; tells = source.tells; within = source.within; is = source.is.means }) natives none
+module _ {S : Type 0} (writes : Writes S) (old new : S) (answer : Status) (map : Held) (after : Option Held) (words : GoWords) (script : Script)
+    (source : IsServedSource map words.src.now script) (natives : HasNatives (Some map) words.script.now script) where
+  free : (stop : Stop) → NotGood (Some map) words stop → IsFree stop
+  free stop none = good_sources.read map words source.program source.warnings script stop source.means natives none
 
-    put : (it : GoesGood writes words (Some map) after old new answer)
-        → Unput writes words (Some map) after old new answer ⊎ RunsPut writes words it.amx it.prepared (Some map) after old new answer
-        → IsGone writes words (Some map) after old new answer
-    put it (inl unput) = record { it = it; comes = inl unput }
-    put it (inr is) =
-        let has = it.good.made.is.compiled in
-        let P : List ℕ → Type 0 = λ b. Means b has.program in
-        let means = subst P (same_bytes map words.src.now source it.good.made) has.means in
-        let serves = source.is.serves has.program means in
-        let e = one_script map words.script.now script it.prepared.script natives it.good.natives in
-        let Q : Script → Type 0 = λ s. IsServed it.amx s in
-        let served = subst Q (sym e) (bound script it.amx.natives has.program.natives has.agrees.shape.natives serves) in
-        record {
-          it = it;
-          comes = inr (is.kept, runs it.amx it.prepared.script words.steps words.sleeps (main_address has) served is.runs);
-        }
+  put : (it : GoesGood writes words (Some map) after old new answer)
+      → Unput writes words.amx.now (Some map) after old new answer
+      ⊎ RunsPut writes words it.good.made.has.amx it.prepared (Some map) after old new answer
+      → IsGone writes words (Some map) after old new answer
+  put it (inl unput) = record { it = it; comes = inl unput }
+  put it (inr is) =
+      let made = it.good.made in
+      let has = made.has in
+      let same : source.program ≡ made.program =
+      (a_source_has_one_program map words.src.now source.program made.program source.warnings it.prepared.compiled.warnings source.means made.means).0 in
+      let entry : made.program.entry ≡ Some source.main = sym (ap (λ (p : Program). p.entry) same) ∙ source.entry in
+      let P : Program → Type 0 = λ p. Serves script p.natives in
+      let e = one_script map words.script.now script it.prepared.script natives it.good.natives in
+      let Q : Script → Type 0 = λ s. IsServed has.amx s in
+      let served = subst Q (sym e) (bound script has.amx.natives made.program.natives has.agrees.shape.natives (subst P same source.serves)) in
+      record {
+        it = it;
+        comes = inr (
+          is.kept,
+          runs (behind (warning_lines it.prepared.compiled.warnings) writes) old new answer has.amx it.prepared.script words.steps words.sleeps
+              (main_address made.program has.amx has.agrees source.main entry) served is.runs,
+        );
+      }
 
-    go : Goes writes words (Some map) after old new answer
-        → IsStopped writes IsFree (Some map) after old new answer ⊎ IsGone writes words (Some map) after old new answer
-    go (inl early) = inl (freely free early)
-    go (inr it) = inr (put it it.puts)
+  go : Goes writes words (Some map) after old new answer
+      → IsStopped writes IsFree (Some map) after old new answer ⊎ IsGone writes words (Some map) after old new answer
+  go (inl early) = inl (freely free early)
+  go (inr it) = inr (put it it.puts)
 
 pub good_is_gone : {S : Type 0} (writes : Writes S) → GoodIsGone writes
 good_is_gone writes = record {

@@ -1,3 +1,4 @@
+pub mod CompileLaws
 pub mod DoneLaws
 pub mod GoLaws
 pub mod GoodLaws

@@ -1,35 +1,38 @@
 -- A source that has a program, and a script that is one, stop no `go`.
-use Rattle.std.proofs.Common.{◌≡◌, ℕ, List, Option, None, Some, inl, inr, sym, subst}
+use Rattle.std.proofs.Common.{◌≡◌, ◌⊎◌, ℕ, List, Option, None, Some, inl, inr, sym, subst}
 use Rattle.pawn_outside.specs.Held.{Held}
 use Rattle.host_script.specs.declared.script.Script.{Script}
 use Rattle.pawn_program.specs.Program.{Program}
+use Rattle.go_command.specs.PawnFront.declared.compiled.Warning.{Warning}
+use Rattle.go_command.specs.PawnFront.declared.fault.CompileFault.{CompileFault}
+use Rattle.go_command.specs.PawnFront.declared.fault.CompileFault.TheVariants as compile
+use Rattle.go_command.specs.PawnFront.Means.{Means}
+use Rattle.go_command.proofs.PawnFront.SourceLaws.{what_means_is_not_refused}
 use Rattle.amx_ops.specs.declared.amx.Amx.{Amx}
 use Rattle.amx_ops.specs.Trace.{Main, address_of}
-use Rattle.straight_source.specs.Means.{Means}
 use Rattle.pawn_words.specs.declared.stop.Stop.{Stop}
-use Rattle.pawn_files.specs.declared.read.TheConstants.{SOURCE_LIMIT}
-use Rattle.pawn_files.specs.Unread.{IsRead}
 use Rattle.command_parts.specs.ScriptFile.{IsNoScript}
+use Rattle.go_command.specs.CompileCommand.Made.{NoSource, stop_of}
 use Rattle.go_command.specs.declared.words.GoWords.{GoWords}
 use Rattle.go_command.specs.Goes.{NotGood, no_source, no_natives}
-use Rattle.go_command.specs.Made.{NoSource, NoProgram, refused}
 use Rattle.go_command.specs.Natives.{HasNatives, LacksNatives}
-use Rattle.go_command.specs.Ready.{IsServed, unregistered, no_memory, NotReady, no_main, no_native, wants_memory}
+use Rattle.go_command.specs.Ready.{IsServed, unregistered, no_memory, NotReady, no_main, no_native}
+use Rattle.go_command.specs.Ready.{wants_memory}
 use Rattle.command_laws.specs.Good as good
 use Rattle.command_laws.specs.Good.{IsFree}
 use Rattle.command_laws.specs.GoodSource.{GoodSourcesGo}
 use Rattle.command_laws.proofs.GoodLaws.{read_free, same_bytes, faultless}
 
-module _ (map : Held) where
-  has_program : (name source : List ℕ) (program : Program) (stop : Stop) → Means source program → NoProgram name source stop → IsFree stop
-  has_program name source program stop means (refused none) = absurd (none program means)
+-- the stop at a fault of the files, or at want of memory
+free_stop : (src : List ℕ) (fault : CompileFault) → (fault ≡ compile.Files) ⊎ (fault ≡ compile.Memory) → IsFree (stop_of src fault)
+free_stop src fault (inl e) = let P : CompileFault → Type 0 = λ f. IsFree (stop_of src f) in subst P (sym e) good.file_fault
+free_stop src fault (inr e) = let P : CompileFault → Type 0 = λ f. IsFree (stop_of src f) in subst P (sym e) good.no_memory
 
-  source_free : (name : List ℕ) (program : Program) (stop : Stop) → IsRead (Some map) name SOURCE_LIMIT (λ source. Means source program)
-      → NoSource (Some map) name stop → IsFree stop
-  source_free name program stop it (inl unread) = read_free map name _ stop it unread
-  source_free name program stop it (inr none) =
-      let P : List ℕ → Type 0 = λ b. NoProgram name b stop in
-      has_program name it.bytes program stop it.is (subst P (same_bytes map name it none) none.is)
+module _ (map : Held) where
+  source_free : (src : List ℕ) (program : Program) (warnings : List Warning) (stop : Stop) → Means (Some map) src program warnings
+      → NoSource (Some map) src stop → IsFree stop
+  source_free src program warnings stop means none =
+      subst IsFree (sym none.is) (free_stop src none.fault (what_means_is_not_refused map src program warnings none.fault means none.cause))
 
   natives_free : (script : Option (List ℕ)) (natives : Script) (stop : Stop) → HasNatives (Some map) script natives → LacksNatives (Some map) script stop
       → IsFree stop
@@ -40,11 +43,11 @@ module _ (map : Held) where
       let at = subst P (same_bytes map name is none) none.is in
       absurd (faultless is.bytes natives is.is at.fault at.has at.refused)
 
-  reads : (words : GoWords) (program : Program) (script : Script) (stop : Stop)
-      → IsRead (Some map) words.src.now SOURCE_LIMIT (λ source. Means source program)
-      → HasNatives (Some map) words.script.now script → NotGood (Some map) words stop → IsFree stop
-  reads words program script stop source natives (no_source none) = source_free words.src.now program stop source none
-  reads words program script stop source natives (no_natives amx bytes made none) = natives_free words.script.now script stop natives none
+  reads : (words : GoWords) (program : Program) (warnings : List Warning) (script : Script) (stop : Stop)
+      → Means (Some map) words.src.now program warnings → HasNatives (Some map) words.script.now script
+      → NotGood (Some map) words stop → IsFree stop
+  reads words program warnings script stop means natives (no_source none) = source_free words.src.now program warnings stop means none
+  reads words program warnings script stop means natives (no_natives it made none) = natives_free words.script.now script stop natives none
 
 starts : (amx : Amx) (script : Script) (stop : Stop) → address_of amx Main ≡ Some amx.entry → IsServed amx script → NotReady amx script stop → IsFree stop
 starts amx script stop main served (no_main none) = absurd (cc (main, none))
@@ -53,4 +56,4 @@ starts amx script stop main served (no_native cause there no_memory) = good.no_m
 starts amx script stop main served wants_memory = good.no_memory
 
 pub good_sources : GoodSourcesGo
-good_sources = record { read = reads; starts = starts }
+good_sources = record { made = source_free; read = reads; starts = starts }

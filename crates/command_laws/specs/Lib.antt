@@ -1,5 +1,6 @@
 pub mod Done
 pub mod Good
+pub mod GoodCompile
 pub mod GoodGo
 pub mod GoodImage
 pub mod GoodSource

@@ -1,5 +1,6 @@
 ghost use Rattle.command_laws.specs.Done.{GoodIsResumed, GoodIsRun};
 ghost use Rattle.command_laws.specs.Good.{GoodFilesAreRead, GoodProgramsStart};
+ghost use Rattle.command_laws.specs.GoodCompile.{GoodIsCompiled};
 ghost use Rattle.command_laws.specs.GoodGo.{GoodIsGone};
 ghost use Rattle.command_laws.specs.GoodImage.{GoodImagesAreRead};
 ghost use Rattle.command_laws.specs.GoodSource.{GoodSourcesGo};
@@ -28,9 +29,9 @@ pub fn good_images_are_read()
     ensures { GoodImagesAreRead }
 {}
 
-/// Where files tell what they hold, a source with a program and a script stop no `go`, and a main
-/// that is there with natives that are served no start, but for a fault of the files or want of
-/// memory.
+/// Where files tell what they hold, a source with a program stops no `compile`, with a script no
+/// `go`, and a main that is there with natives that are served no start, but for a fault of the
+/// files or want of memory.
 #[tactic(auto, using(crate::proofs::SourceLaws::good_sources))]
 pub fn good_sources_go()
     ensures { GoodSourcesGo }
@@ -48,6 +49,12 @@ pub fn good_is_run<S: Sink>()
 #[tactic(auto, using(crate::proofs::DoneLaws::good_is_resumed))]
 pub fn good_is_resumed<S: Sink>()
     ensures { GoodIsResumed (Said S.taken S.faults S.has_room) }
+{}
+
+/// The same of `compile` with a source that has a program: the file isn't put, or is put.
+#[tactic(auto, using(crate::proofs::CompileLaws::good_is_compiled))]
+pub fn good_is_compiled<S: Sink>()
+    ensures { GoodIsCompiled (Said S.taken S.faults S.has_room) }
 {}
 
 /// The same of `go` with a source that has a program and a script that serves its natives: the file

@@ -1,17 +1,26 @@
 -- What `go` does of good files, and what stops it.
-use Rattle.std.proofs.Common.{◌≡◌, ◌≢◌, ◌∙◌, ◌<◌, ◌^◌, inl, inr, ℕ, List, Option, Ok, Err, length, sym, ap₂, subst}
+use Rattle.std.proofs.Common.{◌≡◌, ◌≢◌, ◌∙◌, ◌<◌, ◌^◌, inl, inr, ℕ, List, Option, Ok, Err, length}
+use Rattle.std.proofs.Common.{refl, sym, ap, ap₂, subst}
+use Rattle.pawn_outside.specs.declared.fault.SinkFault.{SinkFault}
 use Rattle.pawn_outside.specs.Held.{Held, with_put}
+use Rattle.pawn_outside.specs.Said.{Said}
+use Rattle.pawn_outside.proofs.SaidLaws.{said_as, said_then, said_cut}
 use Rattle.host_script.specs.Ranges.{IsScript}
 use Rattle.host_script.specs.declared.script.Script.{Script}
 use Rattle.host_script.specs.declared.event.End.{End}
 use Rattle.host_script.specs.declared.event.End.TheVariants as run_end
 use Rattle.amx_ops.specs.declared.amx.Amx.{Amx}
 use Rattle.amx_ops.specs.Runs.{Stop as RunStop, Steps, Asleep, Over_by}
+use Rattle.amx_format.specs.declared.encoding.Encoding.TheVariants.{Plain}
 use Rattle.amx_format.proofs.LimitLaws.{within_limits}
+use Rattle.compile_command.specs.PawnFront.declared.compiled.Compiled.{Compiled}
+use Rattle.compile_command.specs.PawnFront.declared.compiled.Warning.{Warning}
+use Rattle.compile_command.specs.PawnFront.Compiled.{IsCompiled}
 use Rattle.pawn_words.specs.declared.status.Status.{Status}
 use Rattle.pawn_words.specs.declared.status.Status.TheVariants as status
 use Rattle.pawn_words.specs.declared.stop.Stop.{Stop}
 use Rattle.pawn_words.specs.declared.stop.Stop.TheVariants.{NoMemory}
+use Rattle.pawn_words.specs.Stop.{line_of}
 use Rattle.pawn_files.specs.ValidFile.{IsFileOf, IsValidFile}
 use Rattle.command_parts.specs.Put.{NotPut}
 use Rattle.command_parts.specs.Told.{Writes, TellsStop}
@@ -19,8 +28,10 @@ use Rattle.command_parts.proofs.CallLaws.{stop_no_fault, told_other}
 use Rattle.run_command.specs.Finishes.{status_of_end, status_of_stop}
 use Rattle.go_command.specs.declared.goes.Prepared.{Prepared}
 use Rattle.go_command.specs.declared.words.GoWords.{GoWords}
-use Rattle.go_command.specs.Goes.{NotGood, no_source, no_natives, IsPrepared, Makes, Goes}
-use Rattle.go_command.specs.Made.{IsMadeOf, NoSource}
+use Rattle.compile_command.specs.Lines.{warning_lines}
+use Rattle.compile_command.specs.Made.{NoSource}
+use Rattle.go_command.specs.Goes.{IsGood, NotGood, no_source, no_natives, behind, IsPrepared, Makes}
+use Rattle.go_command.specs.Goes.{Goes}
 use Rattle.go_command.specs.Natives.{HasNatives, LacksNatives}
 use Rattle.go_command.specs.Ready.{wants_memory}
 use Rattle.go_command.specs.RunsFile.{RunsFile, stopped, ran}
@@ -34,19 +45,19 @@ module _ (held : Option Held) (words : GoWords) where
   pub source_missing : (src : List ℕ) (stop : Stop) → src ≡ words.src.now → NoSource held src stop → NotGood held words stop
   source_missing src stop e none = let P : List ℕ → Type 0 = λ n. NoSource held n stop in no_source (subst P e none)
 
-  pub natives_missing : (mid : Option Held) (src bytes : List ℕ) (amx : Amx) (stop : Stop) → src ≡ words.src.now → IsMadeOf held src amx bytes
+  pub natives_missing : (mid : Option Held) (src : List ℕ) (it : Compiled) (stop : Stop) → src ≡ words.src.now → IsCompiled held src Plain it
       → mid ≡ held → LacksNatives mid words.script.now stop → NotGood held words stop
-  natives_missing mid src bytes amx stop e made same none =
-      let P : List ℕ → Type 0 = λ n. IsMadeOf held n amx bytes in
+  natives_missing mid src it stop e made same none =
+      let P : List ℕ → Type 0 = λ n. IsCompiled held n Plain it in
       let Q : Option Held → Type 0 = λ h. LacksNatives h words.script.now stop in
-      no_natives amx bytes (subst P e made) (subst Q same none)
+      no_natives it (subst P e made) (subst Q same none)
 
-  pub both_good : (mid : Option Held) (src : List ℕ) (amx : Amx) (it : Prepared) → src ≡ words.src.now → IsMadeOf held src amx it.bytes
+  pub both_good : (mid : Option Held) (src : List ℕ) (it : Prepared) → src ≡ words.src.now → IsCompiled held src Plain it.compiled
       → mid ≡ held → HasNatives mid words.script.now it.script → IsPrepared held words (Ok it)
-  both_good mid src amx it e made same natives =
-      let P : List ℕ → Type 0 = λ n. IsMadeOf held n amx it.bytes in
+  both_good mid src it e made same natives =
+      let P : List ℕ → Type 0 = λ n. IsCompiled held n Plain it.compiled in
       let Q : Option Held → Type 0 = λ h. HasNatives h words.script.now it.script in
-      (amx, record { made = subst P e made; natives = subst Q same natives })
+      record { made = subst P e made; natives = subst Q same natives }
 
 -- ---- its run
 
@@ -92,8 +103,9 @@ module _ {S : Type 0} {writes : Writes S} {old new : S} where
       λ amx valid. inl (record { stop = stop; comes = subst P e none; tells = tells })
 
   pub makes_put : (words : GoWords) (it : Prepared) (held after : Option Held) (name lent : List ℕ) (answer : Status) → name ≡ words.amx.now
-      → lent ≡ it.bytes → after ≡ with_put held name lent
-      → ((amx : Amx) → IsValidFile it.bytes amx → RunsFile writes amx it.script words.steps words.sleeps old new answer)
+      → lent ≡ it.compiled.bytes → after ≡ with_put held name lent
+      → ((amx : Amx) → IsValidFile it.compiled.bytes amx
+      → RunsFile (behind (warning_lines it.compiled.warnings) writes) amx it.script words.steps words.sleeps old new answer)
       → Makes writes words it held after old new answer
   makes_put words it held after name lent answer e same kept runs =
       λ amx valid. inr (record { kept = kept ∙ ap₂ (λ n b. with_put held n b) e same; runs = runs amx valid })
@@ -104,18 +116,39 @@ module _ {S : Type 0} {writes : Writes S} {old new : S} where
       → TellsStop stop writes old new answer → Goes writes words held after old new answer
   goes_nowhere words held after stop answer none kept tells = inl (record { stop = stop; comes = none; kept = kept; tells = tells })
 
-  pub goes_good : (words : GoWords) (held mid after : Option Held) (it : Prepared) (answer : Status) → IsPrepared held words (Ok it) → IsScript it.script
+  pub goes_good : (words : GoWords) (held mid after : Option Held) (it : Prepared) (answer : Status) → IsGood held words it → IsScript it.script
       → mid ≡ held → Makes writes words it mid after old new answer → Goes writes words held after old new answer
   goes_good words held mid after it answer good keeps same makes =
       let P : Option Held → Type 0 = λ h. Makes writes words it h after old new answer in
-      let has = good.1.made.is in
+      let has = good.made.has in
       inr (record {
-        amx = good.0;
         prepared = it;
-        good = good.1;
-        meant = λ served. meant has.compiled words.steps words.sleeps it.script keeps served;
-        puts = (subst P same makes) good.0 (made_valid good.0 has);
+        good = good;
+        meant = λ f main served. meant good.made.program has.amx has.agrees f main words.steps words.sleeps it.script keeps served;
+        puts = (subst P same makes) has.amx (made_valid has);
       })
+
+-- ---- behind the warnings
+
+module _ {S : Type 0} {taken : S → Option (List ℕ)} {faults : S → ℕ} {has_room : S → ℕ → Type 0} {old new : S}
+    (warnings lent : List Warning) (same : lent ≡ warnings) (script : Script) (steps sleeps : ℕ) where
+  -- a file that is run behind them
+  pub runs_behind : {mid : S} (amx : Amx) (answer : Status) → Said taken faults has_room old mid (warning_lines lent) (Ok tt)
+      → RunsFile (Said taken faults has_room) amx script steps sleeps mid new answer
+      → RunsFile (behind (warning_lines warnings) (Said taken faults has_room)) amx script steps sleeps old new answer
+  runs_behind amx answer told (stopped stop none tells) =
+      let first = said_as (ap warning_lines same) told in
+      stopped stop none (record { told = tells.told; written = said_then first tells.written; is = tells.is })
+  runs_behind amx answer told (ran main served tells) =
+      let first = said_as (ap warning_lines same) told in
+      ran main served (record { told = tells.told; written = said_then first tells.written; is = tells.is })
+
+  -- none is run where the sink failed
+  pub runs_cut : (amx : Amx) (fault : SinkFault) → Said taken faults has_room old new (warning_lines lent) (Err fault)
+      → RunsFile (behind (warning_lines warnings) (Said taken faults has_room)) amx script steps sleeps old new status.SinkFault
+  runs_cut amx fault told =
+      let first = said_as (ap warning_lines same) told in
+      stopped NoMemory wants_memory (record { told = Err fault; written = said_cut (line_of NoMemory) (Err fault) refl first; is = refl })
 
 -- a valid file's natives fit a machine
 pub natives_fit : (bytes : List ℕ) (amx : Amx) → IsValidFile bytes amx → length amx.natives < 2 ^ 31

@@ -5,3 +5,5 @@ pub mod MadeLaws
 pub mod PlayLaws
 pub mod ReadyLaws
 pub mod ServedLaws
+-- What stands below, passed on.
+pub use Rattle.compile_command.proofs.PawnFront

@@ -1,59 +1,72 @@
 -- `go SRC AMX [SCRIPT]`: what it answers, writes and puts, over the files that it reads.
-use Rattle.std.specs.Prelude.{◌≡◌, ◌⊎◌, ℕ, List, Option, Result, Ok, Err}
+use Rattle.std.specs.Prelude.{◌≡◌, ◌⊎◌, ◌++◌, ℕ, List, Option, Some, Result, Ok, Err}
 use Rattle.pawn_outside.specs.Held.{Held, with_put}
 use Rattle.amx_ops.specs.declared.amx.Amx.{Amx}
+use Rattle.amx_format.specs.declared.encoding.Encoding.TheVariants.{Plain}
 use Rattle.pawn_words.specs.declared.status.Status.{Status}
 use Rattle.pawn_words.specs.declared.stop.Stop.{Stop}
 use Rattle.pawn_files.specs.ValidFile.{IsValidFile}
-use Rattle.command_parts.specs.Put.{NotPut}
-use Rattle.command_parts.specs.Told.{Writes, TellsStop}
+use Rattle.compile_command.specs.PawnFront.declared.compiled.Compiled.{Compiled}
+use Rattle.compile_command.specs.PawnFront.Compiled.{IsCompiled}
+use Rattle.command_parts.specs.Told.{Writes}
 use Rattle.run_command.specs.Runs.{IsStopped}
+use Rattle.compile_command.specs.Compiles.{Unput}
+use Rattle.compile_command.specs.Lines.{warning_lines}
+use Rattle.compile_command.specs.Made.{NoSource}
 use Rattle.go_command.specs.declared.goes.Prepared.{Prepared}
 use Rattle.go_command.specs.declared.words.GoWords.{GoWords}
-use Rattle.go_command.specs.Made.{IsMadeOf, NoSource}
 use Rattle.go_command.specs.Meant.{IsMeant}
 use Rattle.go_command.specs.Natives.{HasNatives, LacksNatives}
 use Rattle.go_command.specs.Ready.{IsServed}
 use Rattle.go_command.specs.RunsFile.{RunsFile}
 
+-- the source of a name is compiled
+abbrev pub IsSource : Option Held → GoWords → Compiled → Type 0
+IsSource held words it = IsCompiled held words.src.now Plain it
+
 -- the source and the script are good
-pub record IsGood (held : Option Held) (words : GoWords) (amx : Amx) (it : Prepared) : Type 0 where
-  pub made : IsMadeOf held words.src.now amx it.bytes
+pub record IsGood (held : Option Held) (words : GoWords) (it : Prepared) : Type 0 where
+  pub made : IsSource held words it.compiled
   pub natives : HasNatives held words.script.now it.script
 
 -- the script is looked for behind a good source
 pub data NotGood (held : Option Held) (words : GoWords) (stop : Stop) : Type 0 where
   no_source : NoSource held words.src.now stop → NotGood held words stop
-  no_natives : (amx : Amx) (bytes : List ℕ) → IsMadeOf held words.src.now amx bytes
-      → LacksNatives held words.script.now stop → NotGood held words stop
+  no_natives : (it : Compiled) → IsSource held words it → LacksNatives held words.script.now stop
+      → NotGood held words stop
 
 -- ---- the file that is put
 
--- it isn't put, and the line of the stop is told
-pub record Unput {S : Type 0} (writes : Writes S) (words : GoWords) (held after : Option Held)
-    (old new : S) (answer : Status) : Type 0 where
-  pub stop : Stop
-  pub comes : NotPut held after words.amx.now stop
-  pub tells : TellsStop stop writes old new answer
+-- what is written behind a text
+abbrev pub behind : {S : Type 0} → List ℕ → Writes S → Writes S
+behind front writes = λ old new text told. writes old new (front ++ text) told
 
--- it is put, and what was put is run
+-- it is put, the warnings are told, and what was put is run
 pub record RunsPut {S : Type 0} (writes : Writes S) (words : GoWords) (amx : Amx) (it : Prepared)
     (held after : Option Held) (old new : S) (answer : Status) : Type 0 where
-  pub kept : after ≡ with_put held words.amx.now it.bytes
-  pub runs : RunsFile writes amx it.script words.steps words.sleeps old new answer
+  pub kept : after ≡ with_put held words.amx.now it.compiled.bytes
+  pub runs : RunsFile (behind (warning_lines it.compiled.warnings) writes) amx it.script words.steps
+      words.sleeps old new answer
+
+-- it isn't put, or it is put and run
+abbrev pub MayPut : {S : Type 0} → Writes S → GoWords → Amx → Prepared → Option Held → Option Held
+    → S → S → Status → Type 0
+MayPut writes words amx it held after old new answer =
+    Unput writes words.amx.now held after old new answer
+    ⊎ RunsPut writes words amx it held after old new answer
 
 -- ---- the whole command
 
 -- its files are good; what its run tells is what the source means
 pub record GoesGood {S : Type 0} (writes : Writes S) (words : GoWords) (held after : Option Held)
     (old new : S) (answer : Status) : Type 0 where
-  pub amx : Amx
   pub prepared : Prepared
-  pub good : IsGood held words amx prepared
-  pub meant : IsServed amx prepared.script
-      → IsMeant good.made.is.compiled.program amx prepared.script words.steps words.sleeps
-  pub puts : Unput writes words held after old new answer
-      ⊎ RunsPut writes words amx prepared held after old new answer
+  pub good : IsGood held words prepared
+  pub meant : (function : ℕ) → good.made.program.entry ≡ Some function
+      → IsServed good.made.has.amx prepared.script
+      → IsMeant good.made.program function good.made.has.amx prepared.script words.steps
+      words.sleeps
+  pub puts : MayPut writes words good.made.has.amx prepared held after old new answer
 
 abbrev pub Goes : {S : Type 0} → Writes S → GoWords → Option Held → Option Held → S → S → Status
     → Type 0
@@ -63,13 +76,14 @@ Goes writes words held after old new answer =
 
 -- ---- what the calls answer
 
+-- the source and the script are good, or one of them isn't
 abbrev pub IsPrepared : Option Held → GoWords → Result Prepared Stop → Type 0
-IsPrepared held words (Ok it) = (amx : Amx) × IsGood held words amx it
+IsPrepared held words (Ok it) = IsGood held words it
 IsPrepared held words (Err stop) = NotGood held words stop
 
 -- of bytes that are a valid file
 abbrev pub Makes : {S : Type 0} → Writes S → GoWords → Prepared → Option Held → Option Held → S → S
     → Status → Type 0
 Makes writes words it held after old new answer =
-    (amx : Amx) → IsValidFile it.bytes amx
-    → Unput writes words held after old new answer ⊎ RunsPut writes words amx it held after old new answer
+    (amx : Amx) → IsValidFile it.compiled.bytes amx
+    → MayPut writes words amx it held after old new answer

@@ -1,7 +1,6 @@
 //! The command `go`: a source is compiled, its file is put, and the bytes that were put are run.
 #![tactic(auto)]
 
-mod compile;
 mod goes;
 mod natives;
 mod play;
@@ -10,3 +9,6 @@ mod words;
 
 pub use goes::go;
 pub use words::GoWords;
+
+// What stands below, passed on.
+pub use compile_command;

@@ -34,3 +34,6 @@ fn words_of(rt: &HostRuntime) -> io::Result<Vec<String>> {
     }
     Ok(words)
 }
+
+// What stands below, passed on.
+pub use pawn_cli;

@@ -1,14 +1,17 @@
 -- What a call of the program answers, writes and puts, by the command that its words are.
-use Rattle.std.specs.Prelude.{◌≡◌, ◌⊎◌, ℕ, List as ListOf, Option, None, Some}
+use Rattle.std.specs.Prelude.{◌≡◌, ◌⊎◌, ℕ, List as ListOf, Bool, Option, None, Some}
 use Rattle.pawn_outside.specs.Held.{Held}
 use Rattle.pawn_words.specs.declared.command.Command.{Command}
-use Rattle.pawn_words.specs.declared.command.Command.TheVariants.{Verify, List, Run, Resume, Go}
+use Rattle.pawn_words.specs.declared.command.Command.TheVariants.{Compile, Verify, List, Run}
+use Rattle.pawn_words.specs.declared.command.Command.TheVariants.{Resume, Go}
 use Rattle.pawn_words.specs.declared.status.Status.{Status}
 use Rattle.pawn_words.specs.declared.stop.Stop.{Stop}
 use Rattle.pawn_words.specs.declared.stop.Stop.TheVariants.{BadWords, NoMemory}
 use Rattle.pawn_words.specs.declared.words.WordsFault.{WordsFault}
 use Rattle.pawn_words.specs.declared.words.WordsFault.TheVariants as words
 use Rattle.command_parts.specs.Told.{Writes}
+use Rattle.go_command.specs.CompileCommand.declared.words.CompileWords.{CompileWords}
+use Rattle.go_command.specs.CompileCommand.Compiles.{Compiles}
 use Rattle.run_command.specs.declared.words.RunWords.{RunWords}
 use Rattle.run_command.specs.Runs.{IsStopped, Runs}
 use Rattle.resume_command.specs.declared.words.ResumeWords.{ResumeWords}
@@ -30,6 +33,19 @@ pub data NoCommand (said : Option Command) : Stop → Type 0 where
   no_memory : NoCommand said NoMemory
 
 -- ---- the words of each command
+
+-- words of `compile` that name these files, compact or not
+pub record AreCompile (words : CompileWords) (src amx : ListOf ℕ) (compact : Bool) : Type 0 where
+  pub src_is : words.src.now ≡ src
+  pub amx_is : words.amx.now ≡ amx
+  pub compact_is : words.compact ≡ compact
+
+-- `compile` by such words
+pub record CompilesBy {S : Type 0} (writes : Writes S) (src amx : ListOf ℕ) (compact : Bool)
+    (held after : Option Held) (old new : S) (answer : Status) : Type 0 where
+  pub words : CompileWords
+  pub are : AreCompile words src amx compact
+  pub compiles : Compiles writes words held after old new answer
 
 -- words of `run` that name these files, with these steps and this entry
 pub record AreRun (words : RunWords) (amx script image : ListOf ℕ) (steps : ℕ) (entry : ListOf ℕ)
@@ -83,6 +99,8 @@ pub record GoesBy {S : Type 0} (writes : Writes S) (src amx : ListOf ℕ) (scrip
 abbrev pub Does : {S : Type 0} → Writes S → Option Command → Option Held → Option Held → S → S
     → Status → Type 0
 Does writes None held after old new answer = ⊥
+Does writes (Some (Compile src amx compact)) held after old new answer =
+    CompilesBy writes src amx compact held after old new answer
 Does writes (Some (Verify amx)) held after old new answer =
     Verifies writes amx held after old new answer
 Does writes (Some (List amx)) held after old new answer = Lists writes amx held after old new answer

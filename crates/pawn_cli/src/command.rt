@@ -3,11 +3,13 @@ ghost use Rattle.std.specs.String.{string_bytes};
 ghost use Rattle.pawn_outside.specs.Said.{Said};
 ghost use Rattle.pawn_words.specs.Command.{command_of};
 ghost use Rattle.command_parts.specs.Calls.{Calls};
-ghost use Rattle.pawn_cli.specs.Answers.{Answers, AreGo, AreResume, AreRun, Does, words_stop};
+ghost use Rattle.pawn_cli.specs.Answers.{Answers, Does, words_stop};
+ghost use Rattle.pawn_cli.specs.Answers.{AreCompile, AreGo, AreResume, AreRun};
 
 use super::list::list;
 use super::verify::verify;
 use command_parts::tell_stop;
+use go_command::compile_command::{CompileWords, compile};
 use go_command::{GoWords, go};
 use pawn_outside::{Files, Sink};
 use pawn_words::{Command, Name, Status, Stop, WordsFault, read_words};
@@ -50,6 +52,10 @@ fn serve<F: Files, S: Sink>(alloc: Global, command: Command, files: &mut F, out:
     ensures calls { Calls F.faults F.never_fails files.old files.new (result ≡ Status.FileFault) }
 {
     match command {
+        Command::Compile { src, amx, compact } => {
+            let words = compile_words(&src, &amx, compact);
+            compile(alloc, words, files, out)
+        }
         Command::Verify { amx } => verify(alloc, amx.as_str(), files, out),
         Command::List { amx } => list(alloc, amx.as_str(), files, out),
         Command::Run {
@@ -82,6 +88,12 @@ fn serve<F: Files, S: Sink>(alloc: Global, command: Command, files: &mut F, out:
             go(alloc, words, files, out)
         }
     }
+}
+
+fn compile_words<'w>(src: &'w Name, amx: &'w Name, compact: bool) -> CompileWords<'w>
+    ensures { AreCompile result src.now amx.now compact }
+{
+    CompileWords { src, amx, compact }
 }
 
 fn run_words<'w>(

@@ -8,7 +8,7 @@ use Rattle.pawn_words.specs.declared.command.Command.{Command}
 use Rattle.pawn_words.specs.declared.options.Options.{Options}
 use Rattle.pawn_words.specs.declared.words.WordsFault.{WordsFault}
 use Rattle.pawn_words.specs.declared.words.WordsFault.TheVariants.{Bad, Memory}
-use Rattle.pawn_words.specs.Command.{is_plain, first_plain, optional_plain, alone, command_of, command_by, verify_of, list_of, run_of, resume_of, go_of}
+use Rattle.pawn_words.specs.Command.{is_plain, first_plain, optional_plain, alone, command_of, command_by, verify_of, list_of, run_of, resume_of, go_of, compile_of, compact_of, compact_word}
 use Rattle.pawn_words.specs.Options.{once, options_from, with_option, with_steps, with_sleeps, with_entry}
 use Rattle.pawn_words.specs.Reading.{IsBad, Reads}
 
@@ -68,6 +68,19 @@ module _ {X : Type 0} (f : X → List ℕ) where
   pub alone_no : (command : Command) (words : List X) → false ≡ (length words == 0) → alone command (map f words) ≡ None
   alone_no command [] e = absurd (false-eqb 0 0 e refl)
   alone_no command (word ∷ words) e = refl
+
+  pub compact_none : (words : List X) → length words ≡ 0 → Some false ≡ compact_of (map f words)
+  compact_none [] e = refl
+  compact_none (word ∷ words) e = absurd (omega (arith, e))
+
+  pub compact_one : (words rest : List X) (word : X) (name : List ℕ) (result : Option Bool) → words ≡ word ∷ rest → name ≡ f word
+      → true ≡ (length rest == 0) → result ≡ compact_word name → result ≡ compact_of (map f words)
+  compact_one words [] word name result e n none is = rw (e, ← n) is
+  compact_one words (next ∷ rest) word name result e n none is = absurd (omega (arith, true-eqb (length (next ∷ rest)) 0 none))
+
+  pub compact_more : (words rest : List X) (word : X) → words ≡ word ∷ rest → false ≡ (length rest == 0) → None ≡ compact_of (map f words)
+  compact_more words [] word e more = absurd (false-eqb 0 0 more refl)
+  compact_more words (next ∷ rest) word e more = rw e refl
 
   pub command_none : (words : List X) → length words ≡ 0 → command_of (map f words) ≡ None
   command_none [] e = refl
@@ -144,7 +157,12 @@ module _ (word : List ℕ) (words : List (List ℕ)) (result : Result Command Wo
       → Reads (command_by word words) result
   by_go a b c d e reads = rw (sym a, sym b, sym c, sym d, sym e) reads
 
+  pub by_compile : false ≡ bytes_eq word (codes "verify") → false ≡ bytes_eq word (codes "list") → false ≡ bytes_eq word (codes "run")
+      → false ≡ bytes_eq word (codes "resume") → false ≡ bytes_eq word (codes "go") → true ≡ bytes_eq word (codes "compile")
+      → Reads (compile_of words) result → Reads (command_by word words) result
+  by_compile a b c d e h reads = rw (sym a, sym b, sym c, sym d, sym e, sym h) reads
+
 pub by_none : (word : List ℕ) (words : List (List ℕ)) → false ≡ bytes_eq word (codes "verify") → false ≡ bytes_eq word (codes "list")
     → false ≡ bytes_eq word (codes "run") → false ≡ bytes_eq word (codes "resume") → false ≡ bytes_eq word (codes "go")
-    → command_by word words ≡ None
-by_none word words a b c d e = rw (sym a, sym b, sym c, sym d, sym e) refl
+    → false ≡ bytes_eq word (codes "compile") → command_by word words ≡ None
+by_none word words a b c d e h = rw (sym a, sym b, sym c, sym d, sym e, sym h) refl

@@ -1,7 +1,7 @@
 -- The words that are a command: its word, its plain words in order, then options in any order, each at most once.
-use Rattle.std.specs.Prelude.{ℕ, List, [], ◌∷◌, Bool, false, not, Option, None, Some, codes, take, bytes_eq, unwrap_or, is_some, option_and_then, if◌then◌else◌}
+use Rattle.std.specs.Prelude.{ℕ, List, [], ◌∷◌, Bool, true, false, not, Option, None, Some, codes, take, bytes_eq, unwrap_or, is_some, option_map, option_and_then, if◌then◌else◌}
 use Rattle.pawn_words.specs.declared.command.Command.{Command}
-use Rattle.pawn_words.specs.declared.command.Command.TheVariants.{Verify, List as Lists, Run, Resume, Go}
+use Rattle.pawn_words.specs.declared.command.Command.TheVariants.{Compile, Verify, List as Lists, Run, Resume, Go}
 use Rattle.pawn_words.specs.declared.options.Options.{Options}
 use Rattle.pawn_words.specs.declared.options.TheConstants.{DEFAULT_STEPS, DEFAULT_SLEEPS, MAIN}
 use Rattle.pawn_words.specs.Options.{no_options, options_from}
@@ -39,6 +39,19 @@ abbrev pub with_options : (Options → Option Command) → List (List ℕ) → O
 with_options command words = option_and_then command (options_from no_options words)
 
 -- ---- one command each
+
+-- the one option without a value
+abbrev pub compact_word : List ℕ → Option Bool
+compact_word word = if bytes_eq word (codes "--compact") then Some true else None
+
+-- whether compact cells are asked for, by the words behind the plain ones
+abbrev pub compact_of : List (List ℕ) → Option Bool
+compact_of [] = Some false
+compact_of (word ∷ []) = compact_word word
+compact_of (word ∷ next ∷ words) = None
+
+abbrev pub compile_of : List (List ℕ) → Option Command
+compile_of words = named (λ src. named (λ amx more. option_map (Compile src amx) (compact_of more))) words
 
 abbrev pub verify_of : List (List ℕ) → Option Command
 verify_of words = named (λ amx. alone (Verify amx)) words
@@ -81,6 +94,7 @@ command_by word words =
     else if bytes_eq word (codes "run") then run_of words
     else if bytes_eq word (codes "resume") then resume_of words
     else if bytes_eq word (codes "go") then go_of words
+    else if bytes_eq word (codes "compile") then compile_of words
     else None
 
 abbrev pub command_of : List (List ℕ) → Option Command

@@ -4,6 +4,11 @@ use pawn_base::Bytes;
 /// What the program is asked to do. An option that isn't given has its default.
 #[derive(Debug, Drop)]
 pub enum Command {
+    Compile {
+        src: Name,
+        amx: Name,
+        compact: bool,
+    },
     Verify {
         amx: Name,
     },

@@ -2,8 +2,9 @@ ghost use Rattle.std.specs.Prelude.{◌≡◌, ◌↔◌, codes, map, take, unwr
 ghost use Rattle.std.specs.Prelude.{IsTrue};
 ghost use Rattle.std.specs.String.{string_bytes};
 ghost use Rattle.pawn_words.specs.Reading.{Reads, IsBad};
-ghost use Rattle.pawn_words.specs.Command.{command_of, command_by, verify_of, list_of, run_of};
-ghost use Rattle.pawn_words.specs.Command.{resume_of, go_of};
+ghost use Rattle.pawn_words.specs.Command.{command_of, command_by, compile_of, compact_of};
+ghost use Rattle.pawn_words.specs.Command.{compact_word, verify_of, list_of, run_of, go_of};
+ghost use Rattle.pawn_words.specs.Command.{resume_of};
 ghost use Rattle.pawn_words.specs.Command.{alone, run_with, resume_with, go_with};
 ghost use Rattle.pawn_words.specs.Command.{is_plain, first_plain, optional_plain};
 
@@ -59,6 +60,8 @@ fn read_command(alloc: Global, word: &str, rest: &[String]) -> Result<Command, W
         read_resume(alloc, rest)
     } else if word == "go" {
         read_go(alloc, rest)
+    } else if word == "compile" {
+        read_compile(alloc, rest)
     } else {
         Err(WordsFault::Bad)
     }
@@ -106,6 +109,41 @@ fn read_go(alloc: Global, words: &[String]) -> Result<Command, WordsFault>
     let (script, words) = read_optional_name(alloc, words)?;
     let options = read_options(alloc, words)?;
     go_with(src, amx, script, options)
+}
+
+fn read_compile(alloc: Global, words: &[String]) -> Result<Command, WordsFault>
+    ensures { Reads (compile_of (map string_bytes words.now)) result }
+{
+    let (src, words) = read_name(alloc, words)?;
+    let (amx, words) = read_name(alloc, words)?;
+    match read_compact(words) {
+        Some(compact) => Ok(Command::Compile { src, amx, compact }),
+        None => Err(WordsFault::Bad),
+    }
+}
+
+/// Whether compact cells are asked for, by the words behind the plain ones.
+fn read_compact(words: &[String]) -> Option<bool>
+    ensures { result ≡ compact_of (map string_bytes words.now) }
+{
+    let Some((word, rest)) = words.split_first() else {
+        return Some(false);
+    };
+    if rest.is_empty() {
+        return compact_word(word.as_str());
+    }
+    None
+}
+
+/// That compact cells are asked for, by the one word that says so.
+fn compact_word(word: &str) -> Option<bool>
+    ensures { result ≡ compact_word word.now }
+{
+    if word == "--compact" {
+        Some(true)
+    } else {
+        None
+    }
 }
 
 /// A command with no words behind it.

@@ -1,6 +1,6 @@
 mod files;
 
-use pawn_cli::{Status, pawn};
+use host_program::pawn_cli::{Status, pawn};
 use pawn_outside::{Files, MemoryFiles, MemorySink, ReadAnswer};
 use std::alloc::Global;
 use std::test::Fail;
@@ -12,17 +12,8 @@ const EMPTY_FILE: [u8; 80] = [
     0x1F, 0, 0, 0, 120, 0, 0, 0, 0, 0, 0, 0, 46, 0, 0, 0, 89, 0, 0, 0, 48, 0, 0, 0,
 ];
 
-/// The source of `FIRST_FILE`.
+/// A source with a call of a native and an exit.
 const FIRST: &str = "native p(v);\nmain() {\n  p(7);\n  exit 3;\n}\n";
-
-/// Its file, spelled by hand: the native table at 56, the name table at 64, the code at 68.
-const FIRST_FILE: [u8; 140] = [
-    0x8C, 0, 0, 0, 0xE0, 0xF1, 8, 8, 0, 0, 8, 0, 68, 0, 0, 0, 0x8C, 0, 0, 0, 0x8C, 0, 0, 0, 0x8C,
-    0x40, 0, 0, 8, 0, 0, 0, 56, 0, 0, 0, 56, 0, 0, 0, 64, 0, 0, 0, 64, 0, 0, 0, 64, 0, 0, 0, 64, 0,
-    0, 0, 0, 0, 0, 0, 66, 0, 0, 0, 0x1F, 0, 0x70, 0, 120, 0, 0, 0, 0, 0, 0, 0, 46, 0, 0, 0, 39, 0,
-    0, 0, 7, 0, 0, 0, 39, 0, 0, 0, 4, 0, 0, 0, 123, 0, 0, 0, 0, 0, 0, 0, 44, 0, 0, 0, 8, 0, 0, 0,
-    11, 0, 0, 0, 3, 0, 0, 0, 90, 0, 0, 0, 120, 0, 0, 0, 1, 0, 0, 0, 89, 0, 0, 0, 48, 0, 0, 0,
-];
 
 /// Sources that run, with their text.
 const RUN: [(&str, &str); 6] = [
@@ -43,52 +34,27 @@ const RUN: [(&str, &str); 6] = [
     ),
 ];
 
-/// A source for each way to leave the form.
-const REFUSED: [&str; 40] = [
-    // Lines and their ends.
-    "",
-    "main() { }\n",
-    "main() {\n}",
-    "main() {\r\n}\r\n",
-    "main() {\n}\n\n",
-    "\nmain() {\n}\n",
-    "main() {\n\n}\n",
-    " main() {\n}\n",
-    "main () {\n}\n",
-    "main(){\n}\n",
-    "main() {\n} \n",
-    "main() {\n",
-    "native p(v);\n",
-    // Natives.
-    "native  p(v);\nmain() {\n}\n",
-    "native p(w);\nmain() {\n}\n",
-    "native p(v)\nmain() {\n}\n",
-    "native p();\nmain() {\n}\n",
-    "native (v);\nmain() {\n}\n",
-    "native 1p(v);\nmain() {\n}\n",
-    "native P(v);\nmain() {\n}\n",
-    "native p_q(v);\nmain() {\n}\n",
-    "native p(v);\nnative p(v);\nmain() {\n}\n",
-    "native main(v);\nmain() {\n}\n",
-    "native while(v);\nmain() {\n}\n",
-    "native cellmax(v);\nmain() {\n}\n",
-    "native true(v);\nmain() {\n}\n",
-    "native abcdefghijklmnopqrstuvwxyz012345(v);\nmain() {\n}\n",
-    // Calls.
-    "main() {\n  p(1);\n}\n",
-    "native p(v);\nmain() {\n p(1);\n}\n",
-    "native p(v);\nmain() {\n   p(1);\n}\n",
-    "native p(v);\nmain() {\n\tp(1);\n}\n",
-    "native p(v);\nmain() {\n  p(01);\n}\n",
-    "native p(v);\nmain() {\n  p();\n}\n",
-    "native p(v);\nmain() {\n  p(-1);\n}\n",
-    "native p(v);\nmain() {\n  p(2147483648);\n}\n",
-    "native p(v);\nmain() {\n  p(1)\n}\n",
-    "main() {\n}\nnative p(v);\n",
-    // Exits.
-    "main() {\n  exit;\n}\n",
-    "main() {\n  exit 2147483648;\n}\n",
-    "native p(v);\nmain() {\n  exit 1;\n  p(1);\n}\n",
+/// Sources that are refused, with their lines.
+const REFUSED: [(&str, &str); 10] = [
+    ("", "refused 71 at s.p:1\n"),
+    ("main() {\n", "refused 30 at s.p:1\n"),
+    ("native p(v);\n", "refused 71 at s.p:1\n"),
+    ("native (v);\nmain() {\n}\n", "refused 30 at s.p:1\n"),
+    ("native 1p(v);\nmain() {\n}\n", "refused 21 at s.p:1\n"),
+    ("native while(v);\nmain() {\n}\n", "refused 30 at s.p:1\n"),
+    (
+        "native abcdefghijklmnopqrstuvwxyz012345(v);\nmain() {\n}\n",
+        "refused 25 at s.p:1\n",
+    ),
+    ("main() {\n  p(1);\n}\n", "refused 50 at s.p:2\n"),
+    (
+        "native p(v);\nmain() {\n  p();\n}\n",
+        "refused 59 at s.p:3\n",
+    ),
+    (
+        "native p(v);\nmain() {\n  p(4294967296);\n}\n",
+        "refused 22 at s.p:3\n",
+    ),
 ];
 
 /// What a call of `pawn` came to.
@@ -125,10 +91,10 @@ fn sources(rt: HostRuntime) -> Result<(), Fail> {
         assert_eq!(rt; got.status, Status::Ok, "{source}");
         assert_eq!(rt; got.text.as_str(), text, "{source}");
     }
-    for source in REFUSED {
+    for (source, line) in REFUSED {
         let got = gone(alloc, source.as_bytes(), 100)?;
         assert_eq!(rt; got.status, Status::Refused, "{source}");
-        assert_eq!(rt; got.text.as_str(), "refused 72 at s.p:1\n", "{source}");
+        assert_eq!(rt; got.text.as_str(), line, "{source}");
     }
     Ok(())
 }
@@ -148,8 +114,8 @@ const END: &str = "}\n";
 /// isn't declared.
 const LARGE: [Large; 6] = [
     (NATIVE, CALLS, END, 1000, Status::Ok),
-    (NATIVE, CALLS, "  p(1);\n}\n", 1000, Status::Refused),
-    ("", "\n", "main() {\n}\n", 70_000, Status::Refused),
+    (NATIVE, CALLS, "  p(1);\n}\n", 1000, Status::Ok),
+    ("", "\n", "main() {\n}\n", 70_000, Status::Ok),
     (NATIVE, CALLS, END, 25_000, Status::Refused),
     (
         NATIVE,
@@ -243,6 +209,21 @@ fn words(rt: HostRuntime) -> Result<(), Fail> {
         ("go s.p ", Status::BadWords, "bad words\n"),
         ("go -s.p s.amx", Status::NoFile, "no file -s.p\n"),
         ("go q.p s.amx", Status::NoFile, "no file q.p\n"),
+        ("compile s.p s.amx", Status::Ok, "ok 80 bytes\n"),
+        ("compile s.p s.amx --compact", Status::Ok, "ok 67 bytes\n"),
+        ("compile s.p", Status::BadWords, "bad words\n"),
+        ("compile s.p s.amx more", Status::BadWords, "bad words\n"),
+        (
+            "compile s.p s.amx --compact --compact",
+            Status::BadWords,
+            "bad words\n",
+        ),
+        (
+            "compile --compact s.p s.amx",
+            Status::BadWords,
+            "bad words\n",
+        ),
+        ("compile q.p s.amx", Status::NoFile, "no file q.p\n"),
     ] {
         let mut files = MemoryFiles::new(alloc, &[])?;
         files.hold("s.p", b"main() {\n}\n")?;
@@ -256,19 +237,13 @@ fn words(rt: HostRuntime) -> Result<(), Fail> {
 #[test]
 fn files_put(rt: HostRuntime) -> Result<(), Fail> {
     let alloc = rt.alloc();
-    for (source, file) in [
-        ("main() {\n}\n", EMPTY_FILE.as_slice()),
-        (FIRST, FIRST_FILE.as_slice()),
-    ] {
+    for line in ["go s.p s.amx", "compile s.p s.amx"] {
         let mut files = MemoryFiles::new(alloc, &[])?;
-        files.hold("s.p", source.as_bytes())?;
-        let got = told(alloc, "go s.p s.amx", &mut files, 100)?;
+        files.hold("s.p", b"main() {\n}\n")?;
+        let got = told(alloc, line, &mut files, 100)?;
         assert_eq!(rt; got.status, Status::Ok);
         assert_eq!(rt; files.calls(), 2);
-        match files.read(alloc, "s.amx", 1000) {
-            ReadAnswer::Got(bytes) => assert_eq!(rt; bytes.as_slice(), file),
-            _ => return Err(Fail::from("not put")),
-        }
+        assert!(rt; is_put(alloc, &mut files), "{line}");
     }
     Ok(())
 }

@@ -1,5 +1,5 @@
 use super::{EMPTY_FILE, told};
-use pawn_cli::Status;
+use host_program::pawn_cli::Status;
 use pawn_outside::MemoryFiles;
 use std::alloc::Global;
 use std::test::Fail;

@@ -5,11 +5,11 @@ use Rattle.go_command.proofs.goes.make.Goals as goal
 
 pub returns-in-Ok-clause-answer : goal.returns-in-Ok-clause-answer
 returns-in-Ok-clause-answer g c =
-    makes_put c.args.words c.args.prepared.now _ _ _ _ c.run_bytes.result c.as_str.ensures c.as_slice.ensures c.in-Ok.ensures.answer
-    c.run_bytes.ensures.answer
+    makes_put c.args.words c.args.prepared.now _ _ _ _ c.tell_and_run.result c.as_str.ensures c.as_slice.ensures c.in-Ok.ensures.answer
+    c.tell_and_run.ensures.answer
 
 pub returns-in-Ok-clause-calls : goal.returns-in-Ok-clause-calls
-returns-in-Ok-clause-calls g c = calls_other c.run_bytes.ensures.fault c.in-Ok.ensures.calls
+returns-in-Ok-clause-calls g c = calls_other c.tell_and_run.ensures.fault c.in-Ok.ensures.calls
 
 pub returns-in-Err-clause-answer : goal.returns-in-Err-clause-answer
 returns-in-Err-clause-answer g c =

@@ -8,7 +8,7 @@ run_file-requires-clause-natives g c = natives_fit c.as_slice.result.now c.in-Ok
 
 pub returns-in-Ok-clause-answer : goal.returns-in-Ok-clause-answer
 returns-in-Ok-clause-answer g c =
-    reads_same c.args.prepared.now.bytes c.as_slice.result.now c.args.prepared.now.script c.args.words.steps c.args.words.sleeps c.in-Ok.file
+    reads_same c.args.prepared.now.compiled.bytes c.as_slice.result.now c.args.prepared.now.script c.args.words.steps c.args.words.sleeps c.in-Ok.file
     c.run_file.result c.as_slice.ensures c.in-Ok.ensures c.run_file.ensures
 
 pub returns-in-Ok-clause-fault : goal.returns-in-Ok-clause-fault
@@ -16,7 +16,7 @@ returns-in-Ok-clause-fault g c = run_no_fault c.in-Ok.file _ _ _ c.run_file.resu
 
 pub returns-in-Err-clause-answer : goal.returns-in-Err-clause-answer
 returns-in-Err-clause-answer g c =
-    reads_none c.args.prepared.now.bytes c.as_slice.result.now c.args.prepared.now.script c.args.words.steps c.args.words.sleeps c.in-Err.stop
+    reads_none c.args.prepared.now.compiled.bytes c.as_slice.result.now c.args.prepared.now.script c.args.words.steps c.args.words.sleeps c.in-Err.stop
     c.tell_stop.result c.as_slice.ensures c.in-Err.ensures c.tell_stop.ensures
 
 pub returns-in-Err-clause-fault : goal.returns-in-Err-clause-fault

@@ -14,3 +14,7 @@ returns-in-Run-clause-answer g c =
 pub returns-in-Resume-clause-answer : goal.returns-in-Resume-clause-answer
 returns-in-Resume-clause-answer g c =
     rw c.in-Resume.is (record { words = c.resume_words-words.result; are = c.resume_words-words.ensures; resumes = c.resume.ensures.answer })
+
+pub returns-in-Compile-clause-answer : goal.returns-in-Compile-clause-answer
+returns-in-Compile-clause-answer g c =
+    rw c.in-Compile.is (record { words = c.compile_words-words.result; are = c.compile_words-words.ensures; compiles = c.compile.ensures.answer })

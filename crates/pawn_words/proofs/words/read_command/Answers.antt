@@ -1,4 +1,4 @@
-use Rattle.pawn_words.proofs.WordLaws.{by_verify, by_list, by_run, by_resume, by_go, by_none}
+use Rattle.pawn_words.proofs.WordLaws.{by_verify, by_list, by_run, by_resume, by_go, by_compile, by_none}
 use Rattle.pawn_words.proofs.words.read_command.Goals as goal
 
 pub returns-then-eq : goal.returns-then-eq
@@ -18,5 +18,11 @@ pub returns-then-eq-5 : goal.returns-then-eq-5
 returns-then-eq-5 c =
     by_go c.args.word.now _ c.read_go.result c.if-eq.ensures c.if-eq-2.ensures c.if-eq-3.ensures c.if-eq-4.ensures c.if-eq-5.ensures c.read_go.ensures
 
-pub returns-else-eq-5 : goal.returns-else-eq-5
-returns-else-eq-5 c = by_none c.args.word.now _ c.if-eq.ensures c.if-eq-2.ensures c.if-eq-3.ensures c.if-eq-4.ensures c.if-eq-5.ensures
+pub returns-then-eq-6 : goal.returns-then-eq-6
+returns-then-eq-6 c =
+    by_compile c.args.word.now _ c.read_compile.result c.if-eq.ensures c.if-eq-2.ensures c.if-eq-3.ensures c.if-eq-4.ensures c.if-eq-5.ensures
+    c.if-eq-6.ensures c.read_compile.ensures
+
+pub returns-else-eq-6 : goal.returns-else-eq-6
+returns-else-eq-6 c =
+    by_none c.args.word.now _ c.if-eq.ensures c.if-eq-2.ensures c.if-eq-3.ensures c.if-eq-4.ensures c.if-eq-5.ensures c.if-eq-6.ensures

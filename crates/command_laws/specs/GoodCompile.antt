@@ -1,0 +1,18 @@
+-- A source that has a program is compiled by `compile`, but for a fault of the files or want of memory.
+use Rattle.std.specs.Prelude.{◌⊎◌, Option, List, Some}
+use Rattle.pawn_outside.specs.Held.{Held}
+use Rattle.pawn_program.specs.Program.{Program}
+use Rattle.go_command.specs.PawnFront.declared.compiled.Warning.{Warning}
+use Rattle.go_command.specs.PawnFront.Means.{Means}
+use Rattle.pawn_words.specs.declared.status.Status.{Status}
+use Rattle.command_parts.specs.Told.{Writes}
+use Rattle.go_command.specs.CompileCommand.declared.words.CompileWords.{CompileWords}
+use Rattle.go_command.specs.CompileCommand.Compiles.{Compiles, CompilesGood}
+use Rattle.run_command.specs.Runs.{IsStopped}
+use Rattle.command_laws.specs.Good.{IsFree}
+
+-- over files that tell what they hold
+pub record GoodIsCompiled {S : Type 0} (writes : Writes S) : Type 0 where
+  pub done : (map : Held) (after : Option Held) (words : CompileWords) (program : Program) (warnings : List Warning) (old new : S) (answer : Status)
+      → Means (Some map) words.src.now program warnings → Compiles writes words (Some map) after old new answer
+      → IsStopped writes IsFree (Some map) after old new answer ⊎ CompilesGood writes words (Some map) after old new answer

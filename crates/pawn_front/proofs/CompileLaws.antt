@@ -1,0 +1,58 @@
+-- What `compile` answers, by what the preprocessor does, and what the layers behind it do.
+use Rattle.std.proofs.Common.{◌≡◌, ℕ, List, Option, Some, Result, Ok, Err, refl, sym, subst}
+use Rattle.pawn_cells.specs.declared.place.Place.{Place}
+use Rattle.pawn_outside.specs.Held.{Held}
+use Rattle.pawn_pre.specs.declared.fault.PreFault.{PreFault}
+use Rattle.pawn_pre.specs.declared.fault.PreFault.TheVariants as pre
+use Rattle.pawn_pre.specs.declared.line.Lines.{Lines}
+use Rattle.pawn_pre.specs.Answers.{Answers}
+use Rattle.pawn_pre.specs.Outcome.{Whole}
+use Rattle.amx_format.specs.declared.encoding.Encoding.{Encoding}
+use Rattle.pawn_front.specs.declared.compiled.Compiled.{Compiled}
+use Rattle.pawn_front.specs.declared.fault.CompileFault.{CompileFault}
+use Rattle.pawn_front.specs.declared.fault.CompileFault.TheVariants as compile
+use Rattle.pawn_front.specs.Checks.{fault_of, Refuses, RefusesLines}
+use Rattle.pawn_front.specs.Compiled.{Compiles, CompilesLines}
+use Rattle.pawn_front.specs.Faults.{Breaks, by_lines, behind_lines, NotCompiled}
+use Rattle.pawn_front.specs.Means.{ComesTo}
+
+-- ---- of lines
+
+pub refuses_lines : (lines : Lines) (kind : ℕ) (place : Place) (fault : CompileFault) → Breaks lines kind place → Refuses lines.files kind place fault
+    → RefusesLines lines fault
+refuses_lines lines kind place (compile.Refused number file line) breaks it =
+    let P : ℕ → Type 0 = λ n. Breaks lines n place in
+    record { place = place; breaks = subst P (sym it.0) breaks; file_is = it.1; line_is = it.2 }
+refuses_lines lines kind place compile.NoSource breaks it = it
+refuses_lines lines kind place (compile.TooLarge file) breaks it = it
+refuses_lines lines kind place compile.Files breaks it = it
+refuses_lines lines kind place compile.Memory breaks it = tt
+
+-- ---- of a source
+
+pub compiles : (held : Option Held) (name : List ℕ) (lines : Lines) (encoding : Encoding) (result : Result Compiled CompileFault)
+    → ComesTo held name (Whole lines) → CompilesLines lines encoding result → Compiles held name encoding result
+compiles held name lines encoding (Ok it) comes is = record {
+  program = is.program;
+  means = record { lines = lines; comes = comes; has = is.is };
+  has = is.has;
+}
+compiles held name lines encoding (Err (compile.Refused kind file line)) comes is = behind_lines lines is.place comes is.breaks is.file_is is.line_is
+compiles held name lines encoding (Err compile.NoSource) comes is = absurd is
+compiles held name lines encoding (Err (compile.TooLarge file)) comes is = absurd is
+compiles held name lines encoding (Err compile.Files) comes is = tt
+compiles held name lines encoding (Err compile.Memory) comes is = tt
+
+not_by_lines : (held : Option Held) (name : List ℕ) (fault : PreFault) → ((files : Held) → held ≡ Some files → Answers files name (Err fault))
+    → NotCompiled held name (fault_of fault)
+not_by_lines held name (pre.Source kind place file) comes = by_lines place comes refl
+not_by_lines held name pre.NoSource comes = comes
+not_by_lines held name (pre.TooLarge file) comes = comes
+not_by_lines held name pre.Files comes = tt
+not_by_lines held name pre.Memory comes = tt
+
+pub not_compiled : (held : Option Held) (name : List ℕ) (fault : PreFault) (given : CompileFault)
+    → ((files : Held) → held ≡ Some files → Answers files name (Err fault)) → given ≡ fault_of fault → NotCompiled held name given
+not_compiled held name fault given comes e =
+    let P : CompileFault → Type 0 = NotCompiled held name in
+    subst P (sym e) (not_by_lines held name fault comes)

@@ -1,0 +1,5 @@
+pub mod CheckLaws
+pub mod CompileLaws
+pub mod MakingLaws
+pub mod SizeLaws
+pub mod SourceLaws

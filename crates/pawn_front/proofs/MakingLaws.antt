@@ -1,0 +1,23 @@
+-- What was written of a good program is its file.
+use Rattle.std.proofs.Common.{ℕ, List}
+use Rattle.pawn_program.specs.Program.{Program}
+use Rattle.amx_ops.specs.declared.amx.Amx.{Amx}
+use Rattle.amx_format.specs.declared.encoding.Encoding.{Encoding}
+use Rattle.amx_format.specs.Written.{IsWritten}
+use Rattle.amx_format.proofs.SortLaws.{written_sorted}
+use Rattle.gen_agrees.specs.Agrees.{Agrees}
+use Rattle.pawn_front.specs.Compiled.{HasFile}
+use Rattle.sound_sources.specs.GoodSources.{IsGoodProgram}
+use Rattle.pawn_front.proofs.SizeLaws.{file_small}
+
+pub file_is : (program : Program) (encoding : Encoding) (bytes : List ℕ) (amx : Amx) → IsGoodProgram program → Agrees program amx
+    → IsWritten encoding amx bytes → HasFile program encoding bytes
+file_is program encoding bytes amx good agrees it =
+    let written = written_sorted encoding amx bytes agrees.shape.writable it in
+    record {
+      amx = amx;
+      agrees = agrees;
+      file = written.1;
+      layout = written.0;
+      small = file_small program amx encoding bytes good agrees written.0;
+    }

@@ -1,0 +1,11 @@
+use Rattle.pawn_front.proofs.CompileLaws.{compiles, not_compiled}
+use Rattle.pawn_front.proofs.source.compile.Goals as goal
+
+pub returns-in-Ok-clause-answer : goal.returns-in-Ok-clause-answer
+returns-in-Ok-clause-answer g c =
+    compiles (g.F.Files.held c.args.files.now) c.args.name.now c.in-Ok.lines c.args.encoding c.compiled_lines.result c.in-Ok.ensures.answers
+    c.compiled_lines.ensures
+
+pub returns-in-Err-clause-answer : goal.returns-in-Err-clause-answer
+returns-in-Err-clause-answer g c =
+    not_compiled (g.F.Files.held c.args.files.now) c.args.name.now c.in-Err.fault c.fault_of.result c.in-Err.ensures.answers c.fault_of.ensures

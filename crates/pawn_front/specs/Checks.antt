@@ -1,0 +1,81 @@
+-- What the layers behind the preprocessor answer. Want of memory is free.
+use Rattle.std.specs.Prelude.{◌≡◌, ℕ, ℤ, List, Result, Ok, Err}
+use Rattle.pawn_cells.specs.declared.place.Place.{Place}
+use Rattle.pawn_pre.specs.declared.fault.PreFault.{PreFault}
+use Rattle.pawn_pre.specs.declared.fault.PreFault.TheVariants as pre
+use Rattle.pawn_pre.specs.declared.line.Line.{Line}
+use Rattle.pawn_pre.specs.declared.line.Lines.{Lines}
+use Rattle.pawn_pre.specs.Outcome.{name_of}
+use Rattle.pawn_lex.specs.declared.token.Token.{Token}
+use Rattle.pawn_lex.specs.declared.token.Tokens.{Tokens}
+use Rattle.pawn_lex.specs.Lines.{AreTokens, IsFirstFault}
+use Rattle.pawn_tree.specs.declared.declaration.Tree.{Tree}
+use Rattle.pawn_tree.specs.View.{tree_view}
+use Rattle.pawn_grammar.specs.Spells.{IsParse}
+use Rattle.pawn_program.specs.View.{program_view}
+use Rattle.pawn_verdict.specs.declared.fault.CheckFault.{CheckFault}
+use Rattle.pawn_verdict.specs.declared.fault.CheckFault.TheVariants as check
+use Rattle.pawn_check.specs.declared.checked.Checked.{Checked}
+use Rattle.pawn_front.specs.declared.fault.CompileFault.{CompileFault}
+use Rattle.pawn_front.specs.declared.fault.CompileFault.TheVariants as compile
+use Rattle.pawn_front.specs.Faults.{Breaks, BreaksTokens, BreaksTree}
+use Rattle.pawn_front.specs.Means.{IsProgramOf, IsProgramOfTokens}
+
+-- the tokens of lines
+abbrev pub Cuts : List Line → Result Tokens CheckFault → Type 0
+Cuts lines (Ok it) = AreTokens lines it.list
+Cuts lines (Err (check.Source kind place)) = IsFirstFault lines kind place
+Cuts lines (Err check.Memory) = Unit {0}
+
+-- the tree of tokens
+abbrev pub Grows : List Token → Result Tree CheckFault → Type 0
+Grows ts (Ok tree) = IsParse ts (tree_view tree)
+Grows ts (Err (check.Source kind place)) = BreaksTree ts kind place
+Grows ts (Err check.Memory) = Unit {0}
+
+-- the program of tokens
+abbrev pub ChecksTokens : List Token → ℤ → Result Checked CheckFault → Type 0
+ChecksTokens ts dynamic (Ok it) =
+    IsProgramOfTokens ts dynamic (program_view it.program) it.warnings
+ChecksTokens ts dynamic (Err (check.Source kind place)) = BreaksTokens ts dynamic kind place
+ChecksTokens ts dynamic (Err check.Memory) = Unit {0}
+
+-- the program of lines
+abbrev pub Checks : Lines → Result Checked CheckFault → Type 0
+Checks lines (Ok it) = IsProgramOf lines (program_view it.program) it.warnings
+Checks lines (Err (check.Source kind place)) = Breaks lines kind place
+Checks lines (Err check.Memory) = Unit {0}
+
+-- ---- refusals
+
+-- the fault that a preprocessor's is
+abbrev pub fault_of : PreFault → CompileFault
+fault_of (pre.Source kind place name) = compile.Refused kind name place.line
+fault_of pre.NoSource = compile.NoSource
+fault_of (pre.TooLarge name) = compile.TooLarge name
+fault_of pre.Files = compile.Files
+fault_of pre.Memory = compile.Memory
+
+-- the refusal of a rule that is broken at a place of files with these names
+abbrev pub Refuses : List (List ℕ) → ℕ → Place → CompileFault → Type 0
+Refuses files kind place (compile.Refused number file line) =
+    (number ≡ kind) × (file ≡ name_of files place.file) × (line ≡ place.line)
+Refuses files kind place compile.NoSource = ⊥
+Refuses files kind place (compile.TooLarge file) = ⊥
+Refuses files kind place compile.Files = ⊥
+Refuses files kind place compile.Memory = Unit {0}
+
+-- a rule that lines break
+pub record IsRefusal (lines : Lines) (kind : ℕ) (file : List ℕ) (line : ℕ) : Type 0 where
+  pub place : Place
+  pub breaks : Breaks lines kind place
+  pub file_is : file ≡ name_of lines.files place.file
+  pub line_is : line ≡ place.line
+
+-- why lines aren't compiled
+abbrev pub RefusesLines : Lines → CompileFault → Type 0
+RefusesLines lines (compile.Refused kind file line) = IsRefusal lines kind file line
+RefusesLines lines compile.NoSource = ⊥
+RefusesLines lines (compile.TooLarge file) = ⊥
+RefusesLines lines compile.Files = ⊥
+RefusesLines lines compile.Memory = Unit {0}

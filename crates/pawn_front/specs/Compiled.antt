@@ -1,0 +1,47 @@
+-- What `compile` answers: the file of the program that the source means, or why there is none.
+use Rattle.std.specs.Prelude.{◌≤◌, ℕ, List, Option, Result, Ok, Err, length}
+use Rattle.pawn_outside.specs.Held.{Held}
+use Rattle.pawn_pre.specs.declared.line.Lines.{Lines}
+use Rattle.pawn_program.specs.Program.{Program}
+use Rattle.amx_ops.specs.declared.amx.Amx.{Amx}
+use Rattle.amx_format.specs.File.{IsFile}
+use Rattle.amx_format.specs.Layout.{IsLayout}
+use Rattle.amx_format.specs.declared.encoding.Encoding.{Encoding}
+use Rattle.gen_agrees.specs.Agrees.{Agrees}
+use Rattle.pawn_front.specs.declared.compiled.Compiled.{Compiled}
+use Rattle.pawn_front.specs.declared.fault.CompileFault.{CompileFault}
+use Rattle.pawn_front.specs.Checks.{RefusesLines}
+use Rattle.pawn_front.specs.Faults.{NotCompiled}
+use Rattle.pawn_front.specs.Means.{HasProgram, Means}
+
+-- bytes of a file that does what a program means, in the writer's layout, 67,108,864 at most
+pub record HasFile (program : Program) (encoding : Encoding) (bytes : List ℕ) : Type 0 where
+  pub amx : Amx
+  pub agrees : Agrees program amx
+  pub file : IsFile bytes amx
+  pub layout : IsLayout encoding amx bytes
+  pub small : length bytes ≤ 67108864
+
+-- the file of a source, and its warnings
+pub record IsCompiled (held : Option Held) (name : List ℕ) (encoding : Encoding) (it : Compiled)
+    : Type 0 where
+  pub program : Program
+  pub means : Means held name program it.warnings
+  pub has : HasFile program encoding it.bytes
+
+abbrev pub Compiles : Option Held → List ℕ → Encoding → Result Compiled CompileFault → Type 0
+Compiles held name encoding (Ok it) = IsCompiled held name encoding it
+Compiles held name encoding (Err fault) = NotCompiled held name fault
+
+-- ---- of lines
+
+-- the file of lines, and their warnings
+pub record IsOfLines (lines : Lines) (encoding : Encoding) (it : Compiled) : Type 0 where
+  pub program : Program
+  pub is : HasProgram lines program it.warnings
+  pub has : HasFile program encoding it.bytes
+
+-- what compiling lines answers
+abbrev pub CompilesLines : Lines → Encoding → Result Compiled CompileFault → Type 0
+CompilesLines lines encoding (Ok it) = IsOfLines lines encoding it
+CompilesLines lines encoding (Err fault) = RefusesLines lines fault

@@ -1,0 +1,18 @@
+//! A source compiled, over the files that it includes: its lines, tokens, tree and program, and the
+//! bytes of that program's file.
+#![tactic(auto)]
+
+mod checking;
+mod compiled;
+mod fault;
+mod files;
+mod good;
+mod laws;
+mod making;
+mod source;
+
+pub use amx_format::Encoding;
+pub use compiled::{Compiled, Warning};
+pub use fault::CompileFault;
+pub use laws::{a_source_has_one_program, what_means_is_not_refused};
+pub use source::compile;

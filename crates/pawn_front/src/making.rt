@@ -1,0 +1,22 @@
+ghost use Rattle.std.specs.Prelude.{IfOk};
+ghost use Rattle.pawn_program.specs.View.{program_view};
+ghost use Rattle.pawn_front.specs.Compiled.{HasFile};
+ghost use Rattle.sound_sources.specs.GoodSources.{IsGoodProgram};
+
+use amx_format::{Encoding, write};
+use gen_module::generate;
+use pawn_base::{Bytes, Memory};
+use pawn_program::Program;
+use std::alloc::Global;
+
+/// The bytes of a program's file.
+#[tactic(auto, using(crate::proofs::MakingLaws::file_is))]
+pub fn made(alloc: Global, program: &Program, encoding: Encoding) -> Result<Bytes, Memory>
+    requires { IsGoodProgram (program_view program.now) }
+    ensures { IfOk result (HasFile (program_view program.now) encoding) }
+{
+    match generate(alloc, program) {
+        Ok(amx) => write(alloc, &amx, encoding),
+        Err(Memory) => Err(Memory),
+    }
+}

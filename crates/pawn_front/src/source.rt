@@ -1,0 +1,146 @@
+ghost use Rattle.std.specs.Prelude.{◌≡◌, Err, IfOk};
+ghost use Rattle.pawn_outside.specs.OnlyRead.{OnlyRead};
+ghost use Rattle.pawn_pre.specs.Bounds.{IsBounded};
+ghost use Rattle.pawn_program.specs.Program.{Program as PlainProgram};
+ghost use Rattle.pawn_program.specs.View.{program_view};
+ghost use Rattle.pawn_front.specs.Checks.{Checks, Refuses, RefusesLines, fault_of};
+ghost use Rattle.pawn_front.specs.Compiled.{Compiles, CompilesLines, IsOfLines};
+ghost use Rattle.sound_sources.specs.GoodSources.{IsGoodProgram};
+ghost use Rattle.pawn_front.specs.Means.{IsProgramOf};
+
+use super::checking::checked;
+use super::compiled::Compiled;
+use super::fault::CompileFault;
+use super::files::{file_name, warnings};
+use super::good::{are_byte_lines, programs_of_sources_are_good};
+use super::making::made;
+use amx_format::Encoding;
+use pawn_base::{Bytes, Memory};
+use pawn_cells::Place;
+use pawn_check::{CheckFault, Checked};
+use pawn_outside::Files;
+use pawn_pre::{Lines, PreFault, preprocess};
+use std::alloc::Global;
+
+/// Compiles the source of a name, over the files that it includes: its lines, their tokens, the
+/// tree of these, its typed program, and the bytes of the program's file, plain or compact. Each
+/// layer is asked only where the one before it accepted.
+///
+/// # Errors
+///
+/// `Refused` where the source breaks a rule, with the rule's number, the name of the file and the
+/// line: 1 to 12 of the preprocessor, 20 to 26 of tokens, 30 and 31 of the tree, 40 to 71 of names
+/// and types. `NoSource` where the source isn't held, `TooLarge` where a file that is read has more
+/// than 16,777,216 bytes, `Files` where the files failed, `Memory` for want of memory.
+pub fn compile<F: Files>(
+    alloc: Global,
+    name: &str,
+    files: &mut F,
+    encoding: Encoding,
+) -> Result<Compiled, CompileFault>
+    // The file of the program that the source means, or the first layer's fault.
+    ensures answer { Compiles (F.held files.old) name.now encoding result }
+
+    // Nothing held changes, and `Files` comes only where the files failed.
+    ensures files { OnlyRead F.held F.faults F.never_fails files.old files.new
+        (result ≡ Err CompileFault.Files) }
+{
+    match preprocess(alloc, name, files) {
+        Ok(lines) => compiled_lines(alloc, &lines, encoding),
+        Err(fault) => Err(fault_of(fault)),
+    }
+}
+
+/// The fault that a preprocessor's is.
+fn fault_of(fault: PreFault) -> CompileFault
+    ensures { result ≡ fault_of fault }
+{
+    match fault {
+        PreFault::Source { kind, place, name } => CompileFault::Refused {
+            kind,
+            file: name,
+            line: place.line,
+        },
+        PreFault::NoSource => CompileFault::NoSource,
+        PreFault::TooLarge(name) => CompileFault::TooLarge(name),
+        PreFault::Files => CompileFault::Files,
+        PreFault::Memory => CompileFault::Memory,
+    }
+}
+
+/// Compiles lines.
+fn compiled_lines(
+    alloc: Global,
+    lines: &Lines,
+    encoding: Encoding,
+) -> Result<Compiled, CompileFault>
+    requires { IsBounded lines.now }
+    ensures { CompilesLines lines.now encoding result }
+{
+    programs_of_sources_are_good();
+    are_byte_lines(lines.lines.as_slice());
+    match checked(alloc, lines) {
+        Ok(checked) => compiled(alloc, lines, &checked, encoding),
+        Err(fault) => Err(fault_in(alloc, lines, fault)),
+    }
+}
+
+/// The fault that one of lines is.
+fn fault_in(alloc: Global, lines: &Lines, fault: CheckFault) -> CompileFault
+    requires { Checks lines.now (Err fault) }
+    ensures { RefusesLines lines.now result }
+{
+    match fault {
+        CheckFault::Source { kind, place } => refused(alloc, lines, kind, place),
+        CheckFault::Memory => CompileFault::Memory,
+    }
+}
+
+/// The refusal of a rule that is broken at a place, or want of memory for its file's name.
+fn refused(alloc: Global, lines: &Lines, kind: u8, place: Place) -> CompileFault
+    ensures { Refuses lines.now.files kind place result }
+{
+    match Bytes::from_slice(alloc, file_name(lines.files.as_slice(), place.file)) {
+        Ok(file) => CompileFault::Refused {
+            kind,
+            file,
+            line: place.line,
+        },
+        Err(Memory) => CompileFault::Memory,
+    }
+}
+
+/// The file of a program of lines, and its warnings, or want of memory.
+fn compiled(
+    alloc: Global,
+    lines: &Lines,
+    checked: &Checked,
+    encoding: Encoding,
+) -> Result<Compiled, CompileFault>
+    requires program { let it : PlainProgram = program_view checked.now.program in
+        IsProgramOf lines.now it checked.now.warnings }
+    requires good { IsGoodProgram (program_view checked.now.program) }
+    ensures { CompilesLines lines.now encoding result }
+{
+    match written(alloc, lines, checked, encoding) {
+        Ok(compiled) => Ok(compiled),
+        Err(Memory) => Err(CompileFault::Memory),
+    }
+}
+
+/// The file of a program of lines, and its warnings.
+fn written(
+    alloc: Global,
+    lines: &Lines,
+    checked: &Checked,
+    encoding: Encoding,
+) -> Result<Compiled, Memory>
+    requires program { let it : PlainProgram = program_view checked.now.program in
+        IsProgramOf lines.now it checked.now.warnings }
+    requires good { IsGoodProgram (program_view checked.now.program) }
+    ensures { IfOk result (IsOfLines lines.now encoding) }
+{
+    let bytes = made(alloc, &checked.program, encoding)?;
+    let warnings = warnings(alloc, lines.files.as_slice(), checked.warnings.as_slice())?;
+    Ok(Compiled { bytes, warnings })
+}
