@@ -1,7 +1,10 @@
-use Rattle.std.proofs.Common.{map, ap, ◌∙◌}
+use Rattle.std.proofs.Common.{◌≡◌, ℤ, w32, map, ap, ◌∙◌}
+use Rattle.std.proofs.lemmas.Int.{to_z-of_z}
 use Rattle.pawn_tree.specs.View.{tree_view}
 use Rattle.pawn_tree.specs.declared.name.At.{At}
+use Rattle.pawn_program.specs.Program.{Program}
 use Rattle.pawn_program.specs.View.{program_view}
+use Rattle.pawn_typed.specs.Whole.{Checked}
 use Rattle.check_sources.specs.SourceView.{source_view}
 use Rattle.check_done.specs.DoneView.{done_view}
 use Rattle.pawn_check.specs.Parts.{checked_by}
@@ -10,6 +13,8 @@ use Rattle.pawn_check.proofs.whole.finish.Goals as goal
 
 pub returns : goal.returns
 returns c =
-    whole_within (checked_by (source_view c.args.reading.now.source) (tree_view c.args.tree.now) c.args.dynamic (done_view c.args.done))
-    (program_view c.in_ok-program.program) c.in_ok-warnings.warnings c.within.result c.in_ok-program.ensures
+    let made : ℤ → Checked = λ d.
+    checked_by (source_view c.args.reading.now.source) (tree_view c.args.tree.now) d (done_view c.args.done) in
+    whole_within (made c.args.dynamic) (program_view c.in_ok-program.program) c.in_ok-warnings.warnings c.within.result
+    (c.in_ok-program.ensures ∙ ap (λ (d : ℤ). (made d).program) (to_z-of_z w32 c.args.dynamic c.ranges.dynamic))
     (c.in_ok-warnings.ensures ∙ ap (map (λ (at : At). at.place)) c.as_slice.ensures) c.within.ensures
