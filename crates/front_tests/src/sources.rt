@@ -115,8 +115,7 @@ const SOURCES: [(&str, &str); 78] = [
         "#pragma ctrlchar '^'\n#define A '^'%2'\n#pragma ctrlchar '\\'\nA",
         "0:4 '^'%2'|",
     ),
-    // Pragmas.
-    // Under the control character `'` no character closes.
+    // Pragmas. Under the control character `'` no character closes.
     ("#pragma ctrlchar '''\n#if 'a'\n#endif", "fault 11 0:2 s.p"),
     ("#pragma ctrlchar '''\n#if ''n'\n#endif", "fault 11 0:2 s.p"),
     ("#pragma ctrlchar '''\n#if ''''\n#endif", "fault 11 0:2 s.p"),

@@ -197,7 +197,7 @@ const BAD: [(&[u8], u8); 40] = [
 ];
 
 /// Lines under a control character and a packing.
-const SETTINGS: [(&[u8], u8, bool, &[u8]); 11] = [
+const SETTINGS: [(&[u8], u8, bool, &[u8]); 12] = [
     (b"\"a\" !\"b\"", b'\\', true, b"packed:a text:b "),
     (b"\"\\n^n\"", b'^', false, b"text:\\n\n "),
     (b"\"a\"", b'"', false, b"fault 26 0:7 "),
@@ -209,10 +209,11 @@ const SETTINGS: [(&[u8], u8, bool, &[u8]); 11] = [
     (b"'''' a", b'\'', false, b"fault 23 0:7 "),
     (b"''n'", b'\'', false, b"fault 23 0:7 "),
     (b"''''", b'\'', false, b"fault 23 0:7 "),
+    (b"'''", b'\'', false, b"fault 23 0:7 "),
 ];
 
 /// Conditions under a control character, and their values.
-const CONDITIONS: [(&[u8], u8, Option<i32>); 19] = [
+const CONDITIONS: [(&[u8], u8, Option<i32>); 20] = [
     (b"1 + 2 * 3 - 'A' == 0b111 - 0x41", b'\\', Some(1)),
     (b"3 > 2 > 1 > 1 || !cellmin >>> 1", b'\\', Some(0)),
     (b"3 > 2 > 1 != 0 < 1 > 1", b'\\', Some(1)),
@@ -232,6 +233,7 @@ const CONDITIONS: [(&[u8], u8, Option<i32>); 19] = [
     (b"'a'", b'\'', None),
     (b"''n'", b'\'', None),
     (b"''''", b'\'', None),
+    (b"'''", b'\'', None),
 ];
 
 fn good() -> &'static [(&'static [u8], &'static [u8])] {

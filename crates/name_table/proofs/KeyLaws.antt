@@ -1,5 +1,7 @@
 -- A set with keys of bytes, seen as a list of names.
-use Rattle.std.proofs.Common.{◌≡◌, ◌+◌, ℕ, suc, List, [], ◌∷◌, ◌++◌, false, ◌||◌, not, cond, nat_lt, length, if◌then◌else◌, None, Some, map, position, refl, sym, ap, ap₂, ◌∙◌}
+use Rattle.std.proofs.Common.{◌≡◌, ◌+◌, ℕ, suc, List, [], ◌∷◌, ◌++◌, false, ◌||◌, not, cond, nat_lt}
+use Rattle.std.proofs.Common.{length, if◌then◌else◌, None, Some, map, position, refl, sym, ap, ap₂}
+use Rattle.std.proofs.Common.{◌∙◌}
 use Rattle.std.specs.List.{list_any, position_or_len}
 use Rattle.std.specs.Str.{bytes_eq}
 use Rattle.std.proofs.lemmas.List.{map-append}

@@ -14,8 +14,8 @@ inner_sizes (Some second) third = second ∷ option_to_list third
 abbrev pub sizes : Shape → List ℕ
 sizes shape = shape.first ∷ inner_sizes shape.second shape.third
 
--- a level of so many parts of the first size, and the levels behind it: each of its cells stands for
--- one part of the next
+-- a level of so many parts of the first size, and the levels behind it: each of its cells stands
+-- for one part of the next
 abbrev pub cells_in : ℕ → List ℕ → ℕ
 cells_in parts [] = 0
 cells_in parts (size ∷ inner) = parts * size + cells_in (parts * size) inner

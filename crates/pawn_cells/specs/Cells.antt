@@ -1,7 +1,10 @@
 -- 32-bit cells in two's complement, each a whole number from -2^31 to 2^31 - 1 (Language Guide,
 -- "Operators and expressions"; Implementer's Guide, "Instruction reference").
-use Rattle.std.specs.Prelude.{◌+◌, ◌-◌, ◌*◌, ◌/◌, ◌%◌, ◌^◌, ◌⊎◌, ℕ, zero, suc, Bool, true, false, ℤ, pos, negsuc, neg_ℤ, ◌+ℤ◌, ◌-ℤ◌, ◌*ℤ◌, ◌≤ℤ◌, ◌<ℤ◌, FitsSigned, int_lt, int_le, nat_lt, nat_le}
-use Rattle.std.specs.Int.{w32, int_wrap, cast_signed, cast_unsigned, int_bit_and, int_bit_or, int_bit_xor, int_bit_not, int_shl, int_shr}
+use Rattle.std.specs.Prelude.{◌+◌, ◌-◌, ◌*◌, ◌/◌, ◌%◌, ◌^◌, ◌⊎◌, ℕ, zero, suc, Bool, true, false, ℤ}
+use Rattle.std.specs.Prelude.{pos, negsuc, neg_ℤ, ◌+ℤ◌, ◌-ℤ◌, ◌*ℤ◌, ◌≤ℤ◌, ◌<ℤ◌, FitsSigned, int_lt}
+use Rattle.std.specs.Prelude.{int_le, nat_lt, nat_le}
+use Rattle.std.specs.Int.{w32, int_wrap, cast_signed, cast_unsigned, int_bit_and, int_bit_or}
+use Rattle.std.specs.Int.{int_bit_xor, int_bit_not, int_shl, int_shr}
 use Rattle.std.specs.Ordering.{int_eq}
 
 -- a whole number that 32 bits hold with its sign

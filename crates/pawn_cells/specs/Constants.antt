@@ -1,5 +1,6 @@
 -- The constants that every source has (Language Guide, "Predefined constants"): no others are.
-use Rattle.std.specs.Prelude.{ℕ, ℤ, pos, Bool, true, false, Option, Some, None, List, codes, if◌then◌else◌}
+use Rattle.std.specs.Prelude.{ℕ, ℤ, pos, Bool, true, false, Option, Some, None, List, codes}
+use Rattle.std.specs.Prelude.{if◌then◌else◌}
 use Rattle.std.specs.Str.{bytes_eq}
 use Rattle.pawn_cells.specs.declared.constant.Constant.{Constant}
 use Rattle.pawn_cells.specs.Cells as cells

@@ -1,7 +1,8 @@
 -- The operators on cells: how tightly each binds, and what it gives (Language Guide, "Operators and
 -- expressions", "Operator precedence"). The lower a level, the tighter; 2 is that of the operators
 -- before an operand, 13 that of `? :` and 14 that of assignments.
-use Rattle.std.specs.Prelude.{ℕ, ℤ, Bool, true, not, ◌&&◌, ◌||◌, Option, Some, None, List, [], ◌∷◌, if◌then◌else◌}
+use Rattle.std.specs.Prelude.{ℕ, ℤ, Bool, true, not, ◌&&◌, ◌||◌, Option, Some, None, List, [], ◌∷◌}
+use Rattle.std.specs.Prelude.{if◌then◌else◌}
 use Rattle.pawn_cells.specs.declared.cell.Cell.{Cell}
 use Rattle.pawn_cells.specs.declared.operator.Prefix.{Prefix}
 use Rattle.pawn_cells.specs.declared.operator.Prefix.TheVariants as before

@@ -1,5 +1,6 @@
 -- The parts of a tree are read to the tree's value.
-use Rattle.std.proofs.Common.{◌≡◌, ℕ, ◌≤◌, ◌-◌, true, false, leb, Some, List, [], ◌∷◌, ◌++◌, refl, sym, ap, ◌∙◌, append_assoc, arith}
+use Rattle.std.proofs.Common.{◌≡◌, ℕ, ◌≤◌, ◌-◌, true, false, leb, Some, List, [], ◌∷◌, ◌++◌, refl}
+use Rattle.std.proofs.Common.{sym, ap, ◌∙◌, append_assoc, arith}
 use Rattle.std.proofs.lemmas.Bool.{le-leb, lt-leb}
 use Rattle.std.proofs.lemmas.List.{append-nil}
 use Rattle.pawn_cells.specs.declared.operator.Logical.{Logical}
@@ -15,9 +16,12 @@ use Rattle.pawn_condition.specs.declared.part.Part.{Part}
 use Rattle.pawn_condition.specs.declared.part.Part.TheVariants as part
 use Rattle.pawn_condition.specs.declared.reading.Reading.{Reading}
 use Rattle.pawn_condition.specs.declared.evaluate.Wait.{Wait}
-use Rattle.pawn_condition.specs.declared.evaluate.Wait.TheVariants.{Mark, Pre, Left, Chooses, Second}
-use Rattle.pawn_condition.specs.Nested.{Nested, Number, Group, Before, Two, Choice, level, parts, Nests, reading, prefix_part, plain, grouped}
-use Rattle.pawn_condition.specs.ConditionMachine.{Held, held, settle, operand, operator, whole_by, closed_by, chosen_by}
+use Rattle.pawn_condition.specs.declared.evaluate.Wait.TheVariants.{Mark, Pre, Left, Chooses}
+use Rattle.pawn_condition.specs.declared.evaluate.Wait.TheVariants.{Second}
+use Rattle.pawn_condition.specs.Nested.{Nested, Number, Group, Before, Two, Choice, level, parts}
+use Rattle.pawn_condition.specs.Nested.{Nests, reading, prefix_part, plain, grouped}
+use Rattle.pawn_condition.specs.ConditionMachine.{Held, held, settle, operand, operator, whole_by}
+use Rattle.pawn_condition.specs.ConditionMachine.{closed_by, chosen_by}
 
 -- nothing that waits takes an operand that binds so tightly, or more
 pub Rests : ℕ → List Wait → Type 0
@@ -45,7 +49,8 @@ operator-levels between.Or = (omega arith, omega arith)
 operator-levels between.Equal = (omega arith, omega arith)
 operator-levels between.NotEqual = (omega arith, omega arith)
 
-logical-levels : (op : Logical) → (3 ≤ operators.logical_level op) × (operators.logical_level op ≤ 12)
+logical-levels : (op : Logical)
+    → (3 ≤ operators.logical_level op) × (operators.logical_level op ≤ 12)
 logical-levels logic.And = (omega arith, omega arith)
 logical-levels logic.Or = (omega arith, omega arith)
 
@@ -56,7 +61,8 @@ levels (Compare c) = (omega arith, omega arith)
 levels (Logic op) = logical-levels op
 
 -- a prefix waits for an operand that binds as tightly as another prefix
-prefix_read : (sign : Prefix) (ts : List Part) (ws : List Wait) → operand (prefix_part sign ∷ ts) ws ≡ operand ts (Pre sign ∷ ws)
+prefix_read : (sign : Prefix) (ts : List Part) (ws : List Wait)
+    → operand (prefix_part sign ∷ ts) ws ≡ operand ts (Pre sign ∷ ws)
 unfolding operand
 prefix_read prefix.Not ts ws = refl
 prefix_read prefix.Invert ts ws = refl
@@ -72,11 +78,15 @@ rests_chooses k c ws j a b d r = refl
 
 rests_second : (k : ℕ) (c a : Reading) (ws : List Wait) → Rests k (Second c a ∷ ws)
 unfolding Rests settle
-rests_second k c a ws j p q d r = let later : leb 13 j ≡ false = lt-leb 13 j (omega (arith, d)) in rw later refl
+rests_second k c a ws j p q d r =
+    let later : leb 13 j ≡ false = lt-leb 13 j (omega (arith, d)) in rw later refl
 
-rests_left : (sign : Infix) (a : Reading) (ws : List Wait) → Rests (level sign - 1) (Left sign a ∷ ws)
+rests_left : (sign : Infix) (a : Reading) (ws : List Wait)
+    → Rests (level sign - 1) (Left sign a ∷ ws)
 unfolding Rests settle
-rests_left sign a ws j p q d r = let later : leb (level sign) j ≡ false = lt-leb (level sign) j (omega (arith, p, q)) in rw later refl
+rests_left sign a ws j p q d r =
+    let later : leb (level sign) j ≡ false = lt-leb (level sign) j (omega (arith, p, q)) in
+    rw later refl
 
 rests_none : (k : ℕ) → Rests k []
 unfolding Rests settle
@@ -91,15 +101,18 @@ unfolding Rests
 rests_low ws j p q d r = absurd (omega (arith, p, q))
 
 -- where nothing takes it
-rests_at : (k j : ℕ) (ws : List Wait) (r : Reading) → Rests k ws → j ≤ k → 3 ≤ j → j ≤ 12 → settle j ws r ≡ held ws r
+rests_at : (k j : ℕ) (ws : List Wait) (r : Reading) → Rests k ws → j ≤ k → 3 ≤ j → j ≤ 12
+    → settle j ws r ≡ held ws r
 unfolding Rests
 rests_at k j ws r rests p q d = rests j p q d r
 
-choice_spelled : (c a b rest : List Part) → (c ++ (part.Question ∷ (a ++ (part.Colon ∷ b)))) ++ rest ≡ c ++ (part.Question ∷ (a ++ (part.Colon ∷ (b ++ rest))))
+choice_spelled : (c a b rest : List Part) → (c ++ (part.Question ∷ (a ++ (part.Colon ∷ b)))) ++ rest
+    ≡ c ++ (part.Question ∷ (a ++ (part.Colon ∷ (b ++ rest))))
 choice_spelled c a b rest = simp append_assoc
 
 -- the parts of each tree
-pub came : (e : Nested) (k : ℕ) (ws : List Wait) (rest : List Part) → 2 ≤ k → Nests k e → Rests k ws → Came k ws e rest
+pub came : (e : Nested) (k : ℕ) (ws : List Wait) (rest : List Part) → 2 ≤ k → Nests k e → Rests k ws
+    → Came k ws e rest
 unfolding Nests parts reading operand operator settle
 came (Number v) k ws rest low fits rests = record {
   waits = ws;
@@ -109,13 +122,15 @@ came (Number v) k ws rest low fits rests = record {
 }
 came (Group e) k ws rest low fits rests =
     let inner = came e 13 (Mark ∷ ws) (part.Close ∷ rest) (omega arith) fits (rests_mark 13 ws) in
-    let settled : settle 13 inner.waits inner.got ≡ held (Mark ∷ ws) (reading e) = inner.comes 13 (omega arith) in
+    let settled : settle 13 inner.waits inner.got ≡ held (Mark ∷ ws) (reading e) =
+    inner.comes 13 (omega arith) in
     record {
       waits = ws;
       got = grouped (reading e);
       runs = ap (λ ts. operand ts (Mark ∷ ws)) (append_assoc (parts e) (part.Close ∷ []) rest)
           ∙ inner.runs
-          ∙ ap (λ (h : Held). closed_by h.waits (λ below. operator rest below (grouped h.operand))) settled;
+          ∙ ap (λ (h : Held). closed_by h.waits (λ below. operator rest below (grouped h.operand)))
+          settled;
       comes = λ j h. refl;
     }
 came (Before sign a) k ws rest low fits rests =
@@ -128,10 +143,15 @@ came (Before sign a) k ws rest low fits rests =
     }
 came (Two sign a b) k ws rest low fits rests =
     let bounds = levels sign in
-    let left = came a (level sign) ws (part.Two sign ∷ (parts b ++ rest)) (omega (arith, bounds.0)) fits.1 (rests_earlier k (level sign) ws fits.0 rests) in
+    let left =
+    came a (level sign) ws (part.Two sign ∷ (parts b ++ rest))
+    (omega (arith, bounds.0)) fits.1 (rests_earlier k (level sign) ws fits.0 rests) in
     let settled : settle (level sign) left.waits left.got ≡ held ws (reading a) =
-    left.comes (level sign) (omega arith) ∙ rests_at k (level sign) ws (reading a) rests fits.0 bounds.0 bounds.1 in
-    let right = came b (level sign - 1) (Left sign (reading a) ∷ ws) rest (omega (arith, bounds.0)) fits.2 (rests_left sign (reading a) ws) in
+    left.comes (level sign) (omega arith)
+    ∙ rests_at k (level sign) ws (reading a) rests fits.0 bounds.0 bounds.1 in
+    let right =
+    came b (level sign - 1) (Left sign (reading a) ∷ ws) rest
+    (omega (arith, bounds.0)) fits.2 (rests_left sign (reading a) ws) in
     record {
       waits = right.waits;
       got = right.got;
@@ -140,24 +160,35 @@ came (Two sign a b) k ws rest low fits rests =
           ∙ ap (λ (h : Held). operand (parts b ++ rest) (Left sign h.operand ∷ h.waits)) settled
           ∙ right.runs;
       comes = λ j h.
-          let taken : leb (level sign) j ≡ true = le-leb (level sign) j (omega (arith, fits.0, h)) in
+          let taken : leb (level sign) j ≡ true =
+          le-leb (level sign) j (omega (arith, fits.0, h)) in
           right.comes j (omega (arith, fits.0, h)) ∙ rw taken refl;
     }
 came (Choice c a b) k ws rest low fits rests =
-    let first = came c 12 ws (part.Question ∷ (parts a ++ (part.Colon ∷ (parts b ++ rest)))) (omega arith) fits.1 (rests_earlier k 12 ws (omega (arith, fits.0)) rests) in
+    let first =
+    came c 12 ws (part.Question ∷ (parts a ++ (part.Colon ∷ (parts b ++ rest))))
+    (omega arith) fits.1 (rests_earlier k 12 ws (omega (arith, fits.0)) rests) in
     let asked : settle 12 first.waits first.got ≡ held ws (reading c) =
-    first.comes 12 (omega arith) ∙ rests_at k 12 ws (reading c) rests (omega (arith, fits.0)) (omega arith) (omega arith) in
-    let left = came a 13 (Chooses (reading c) ∷ ws) (part.Colon ∷ (parts b ++ rest)) (omega arith) fits.2 (rests_chooses 13 (reading c) ws) in
-    let chosen : settle 13 left.waits left.got ≡ held (Chooses (reading c) ∷ ws) (reading a) = left.comes 13 (omega arith) in
-    let right = came b 13 (Second (reading c) (reading a) ∷ ws) rest (omega arith) fits.3 (rests_second 13 (reading c) (reading a) ws) in
+    first.comes 12 (omega arith) ∙ rests_at k 12 ws (reading c) rests (omega (arith, fits.0))
+    (omega arith) (omega arith) in
+    let left =
+    came a 13 (Chooses (reading c) ∷ ws) (part.Colon ∷ (parts b ++ rest))
+    (omega arith) fits.2 (rests_chooses 13 (reading c) ws) in
+    let chosen : settle 13 left.waits left.got ≡ held (Chooses (reading c) ∷ ws) (reading a) =
+    left.comes 13 (omega arith) in
+    let right =
+    came b 13 (Second (reading c) (reading a) ∷ ws) rest (omega arith) fits.3
+    (rests_second 13 (reading c) (reading a) ws) in
     record {
       waits = right.waits;
       got = right.got;
       runs = ap (λ ts. operand ts ws) (choice_spelled (parts c) (parts a) (parts b) rest)
           ∙ first.runs
-          ∙ ap (λ (h : Held). operand (parts a ++ (part.Colon ∷ (parts b ++ rest))) (Chooses h.operand ∷ h.waits)) asked
+          ∙ ap (λ (h : Held). operand (parts a ++ (part.Colon ∷ (parts b ++ rest)))
+          (Chooses h.operand ∷ h.waits)) asked
           ∙ left.runs
-          ∙ ap (λ (h : Held). chosen_by h.waits (λ d below. operand (parts b ++ rest) (Second d h.operand ∷ below))) chosen
+          ∙ ap (λ (h : Held). chosen_by h.waits
+          (λ d below. operand (parts b ++ rest) (Second d h.operand ∷ below))) chosen
           ∙ right.runs;
       comes = λ j h.
           let taken : leb 13 j ≡ true = le-leb 13 j (omega (arith, fits.0, h)) in

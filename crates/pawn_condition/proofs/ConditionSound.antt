@@ -1,5 +1,6 @@
 -- What is read to a value spells a tree of that value.
-use Rattle.std.proofs.Common.{◌≡◌, ℕ, ◌≤◌, ◌-◌, Bool, true, false, leb, Option, Some, None, List, [], ◌∷◌, ◌++◌, refl, sym, ap, subst, ◌∙◌, append_assoc, arith}
+use Rattle.std.proofs.Common.{◌≡◌, ℕ, ◌≤◌, ◌-◌, Bool, true, false, leb, Option, Some, None, List}
+use Rattle.std.proofs.Common.{[], ◌∷◌, ◌++◌, refl, sym, ap, subst, ◌∙◌, append_assoc, arith}
 use Rattle.std.proofs.lemmas.Bool.{leb-true, leb-false}
 use Rattle.std.proofs.lemmas.List.{append-nil}
 use Rattle.pawn_cells.specs.declared.operator.Operator.TheVariants as between
@@ -11,9 +12,12 @@ use Rattle.pawn_condition.specs.declared.part.Part.{Part}
 use Rattle.pawn_condition.specs.declared.part.Part.TheVariants as part
 use Rattle.pawn_condition.specs.declared.reading.Reading.{Reading}
 use Rattle.pawn_condition.specs.declared.evaluate.Wait.{Wait}
-use Rattle.pawn_condition.specs.declared.evaluate.Wait.TheVariants.{Mark, Pre, Left, Chooses, Second}
-use Rattle.pawn_condition.specs.Nested.{Nested, Number, Group, Before, Two, Choice, level, parts, Nests, reading, prefix_part, grouped}
-use Rattle.pawn_condition.specs.ConditionMachine.{Held, held, settle, operand, operator, whole_by, closed_by, chosen_by}
+use Rattle.pawn_condition.specs.declared.evaluate.Wait.TheVariants.{Mark, Pre, Left, Chooses}
+use Rattle.pawn_condition.specs.declared.evaluate.Wait.TheVariants.{Second}
+use Rattle.pawn_condition.specs.Nested.{Nested, Number, Group, Before, Two, Choice, level, parts}
+use Rattle.pawn_condition.specs.Nested.{Nests, reading, prefix_part, grouped}
+use Rattle.pawn_condition.specs.ConditionMachine.{Held, held, settle, operand, operator, whole_by}
+use Rattle.pawn_condition.specs.ConditionMachine.{closed_by, chosen_by}
 use Rattle.pawn_condition.proofs.ConditionComplete.{levels}
 
 -- what waits, with the trees that were read
@@ -98,12 +102,24 @@ record Settled (k : ℕ) (hs : List Half) (e : Nested) : Type 0 where
   is : settle k (waits_of hs) (reading e) ≡ held (waits_of halves) (reading tree)
   same : read halves ++ parts tree ≡ read hs ++ parts e
 
-kept : (k : ℕ) (hs : List Half) (e : Nested) → Good hs → Nests (need hs) e → Nests k e → k ≤ need hs → settle k (waits_of hs) (reading e) ≡ held (waits_of hs) (reading e) → Settled k hs e
-kept k hs e good fits at low is = record { halves = hs; tree = e; good = good; fits = fits; fits_level = at; low = low; is = is; same = refl }
+kept : (k : ℕ) (hs : List Half) (e : Nested) → Good hs → Nests (need hs) e → Nests k e → k ≤ need hs
+    → settle k (waits_of hs) (reading e) ≡ held (waits_of hs) (reading e) → Settled k hs e
+kept k hs e good fits at low is =
+    record {
+      halves = hs;
+      tree = e;
+      good = good;
+      fits = fits;
+      fits_level = at;
+      low = low;
+      is = is;
+      same = refl;
+    }
 
 -- a step that settles one more
 stepped : (k : ℕ) (h : Half) (hs : List Half) (e f : Nested) → Settled k hs f →
-    settle k (waits_of (h ∷ hs)) (reading e) ≡ settle k (waits_of hs) (reading f) → parts f ≡ parts_of_half h ++ parts e → Settled k (h ∷ hs) e
+    settle k (waits_of (h ∷ hs)) (reading e) ≡ settle k (waits_of hs) (reading f)
+    → parts f ≡ parts_of_half h ++ parts e → Settled k (h ∷ hs) e
 stepped k h hs e f s is same = record {
   halves = s.halves;
   tree = s.tree;
@@ -112,11 +128,15 @@ stepped k h hs e f s is same = record {
   fits_level = s.fits_level;
   low = s.low;
   is = is ∙ s.is;
-  same = s.same ∙ ap (λ ts. read hs ++ ts) same ∙ sym (append_assoc (read hs) (parts_of_half h) (parts e));
+  same =
+      s.same ∙ ap (λ ts. read hs ++ ts) same
+      ∙ sym (append_assoc (read hs) (parts_of_half h) (parts e));
 }
 
-left_case : (k : ℕ) (sign : Infix) (a : Nested) (hs : List Half) (e : Nested) (t : Bool) → leb (level sign) k ≡ t → Good (ALeft sign a ∷ hs) →
-    Nests (need (ALeft sign a ∷ hs)) e → Nests k e → (level sign ≤ k → Settled k hs (Two sign a e)) → Settled k (ALeft sign a ∷ hs) e
+left_case : (k : ℕ) (sign : Infix) (a : Nested) (hs : List Half) (e : Nested) (t : Bool)
+    → leb (level sign) k ≡ t → Good (ALeft sign a ∷ hs) →
+    Nests (need (ALeft sign a ∷ hs)) e → Nests k e → (level sign ≤ k → Settled k hs (Two sign a e))
+    → Settled k (ALeft sign a ∷ hs) e
 unfolding settle parts reading
 left_case k sign a hs e true y good fits at rest =
     stepped k (ALeft sign a) hs e (Two sign a e) (rest (leb-true (level sign) k y)) (rw y refl)
@@ -125,29 +145,37 @@ left_case k sign a hs e false n good fits at rest =
     let above = leb-false (level sign) k n in
     kept k (ALeft sign a ∷ hs) e good fits at (omega (arith, above)) (rw n refl)
 
-second_case : (k : ℕ) (c a : Nested) (hs : List Half) (e : Nested) (t : Bool) → leb 13 k ≡ t → Good (ASecond c a ∷ hs) →
-    Nests (need (ASecond c a ∷ hs)) e → Nests k e → (13 ≤ k → Settled k hs (Choice c a e)) → Settled k (ASecond c a ∷ hs) e
+second_case : (k : ℕ) (c a : Nested) (hs : List Half) (e : Nested) (t : Bool) → leb 13 k ≡ t
+    → Good (ASecond c a ∷ hs) →
+    Nests (need (ASecond c a ∷ hs)) e → Nests k e → (13 ≤ k → Settled k hs (Choice c a e))
+    → Settled k (ASecond c a ∷ hs) e
 unfolding settle parts reading
 second_case k c a hs e true y good fits at rest =
-    stepped k (ASecond c a) hs e (Choice c a e) (rest (leb-true 13 k y)) (rw y refl) (simp append_assoc)
+    stepped k (ASecond c a) hs e (Choice c a e) (rest (leb-true 13 k y)) (rw y refl)
+    (simp append_assoc)
 second_case k c a hs e false n good fits at rest =
     let above = leb-false 13 k n in
     kept k (ASecond c a ∷ hs) e good fits at (omega (arith, above)) (rw n refl)
 
-settled : (k : ℕ) (hs : List Half) (e : Nested) → 3 ≤ k → k ≤ 13 → Good hs → Nests (need hs) e → Nests k e → Settled k hs e
+settled : (k : ℕ) (hs : List Half) (e : Nested) → 3 ≤ k → k ≤ 13 → Good hs → Nests (need hs) e
+    → Nests k e → Settled k hs e
 unfolding settle Nests parts reading
 settled k [] e low top good fits at = kept k [] e good fits at (omega (arith, top)) refl
-settled k (AMark ∷ hs) e low top good fits at = kept k (AMark ∷ hs) e good fits at (omega (arith, top)) refl
-settled k (AChoose c ∷ hs) e low top good fits at = kept k (AChoose c ∷ hs) e good fits at (omega (arith, top)) refl
+settled k (AMark ∷ hs) e low top good fits at =
+    kept k (AMark ∷ hs) e good fits at (omega (arith, top)) refl
+settled k (AChoose c ∷ hs) e low top good fits at =
+    kept k (AChoose c ∷ hs) e good fits at (omega (arith, top)) refl
 settled k (APre sign ∷ hs) e low top good fits at =
     let f : Nested = Before sign e in
-    stepped k (APre sign) hs e f (settled k hs f low top good.1 (need_low hs, fits) (omega (arith, low), fits)) refl refl
+    stepped k (APre sign) hs e f (settled k hs f low top good.1 (need_low hs, fits)
+    (omega (arith, low), fits)) refl refl
 settled k (ALeft sign a ∷ hs) e low top good fits at =
     left_case k sign a hs e _ refl good fits at
     (λ y. settled k hs (Two sign a e) low top good.1 (good.0.0, good.0.1, fits) (y, good.0.1, fits))
 settled k (ASecond c a ∷ hs) e low top good fits at =
     second_case k c a hs e _ refl good fits at
-    (λ y. settled k hs (Choice c a e) low top good.1 (good.0.0, good.0.1, good.0.2, fits) (y, good.0.1, good.0.2, fits))
+    (λ y. settled k hs (Choice c a e) low top good.1 (good.0.0, good.0.1, good.0.2, fits)
+    (y, good.0.1, good.0.2, fits))
 
 -- a tree for all the parts
 pub record Whole (all : List Part) (r : Reading) : Type 0 where
@@ -168,31 +196,42 @@ nothing r e = absurd (never e)
 some_same : (a b : Reading) → Some a ≡ Some b → a ≡ b
 some_same a b e = cc
 
-primary : (ts us : List Part) (hs : List Half) (h : Half) → read (h ∷ hs) ++ us ≡ read hs ++ (parts_of_half h ++ us)
+primary : (ts us : List Part) (hs : List Half) (h : Half)
+    → read (h ∷ hs) ++ us ≡ read hs ++ (parts_of_half h ++ us)
 primary ts us hs h = append_assoc (read hs) (parts_of_half h) us
 
-ended : (hs halves : List Half) (e tree : Nested) (r : Reading) → Nests (need halves) tree → read halves ++ parts tree ≡ read hs ++ parts e → whole_by (waits_of halves) (reading tree) ≡ Some r → Whole (read hs ++ parts e) r
-ended hs [] e tree r fits same got = record { tree = tree; fits = fits; spelled = same; is = some_same _ _ got }
+ended : (hs halves : List Half) (e tree : Nested) (r : Reading) → Nests (need halves) tree
+    → read halves ++ parts tree ≡ read hs ++ parts e
+    → whole_by (waits_of halves) (reading tree) ≡ Some r → Whole (read hs ++ parts e) r
+ended hs [] e tree r fits same got =
+    record { tree = tree; fits = fits; spelled = same; is = some_same _ _ got }
 ended hs (h ∷ more) e tree r fits same got = nothing r got
 
 -- a part more behind what was read
-shift : (a b c : List Part) (t : Part) (ts : List Part) → a ++ b ≡ c → (a ++ (b ++ t ∷ [])) ++ ts ≡ c ++ (t ∷ ts)
+shift : (a b c : List Part) (t : Part) (ts : List Part) → a ++ b ≡ c
+    → (a ++ (b ++ t ∷ [])) ++ ts ≡ c ++ (t ∷ ts)
 shift a b c t ts e = rw (← e) (simp append_assoc)
 
-colon_case : (ts : List Part) (halves : List Half) (tree : Nested) (r : Reading) → Good halves → Nests 13 tree →
+colon_case : (ts : List Part) (halves : List Half) (tree : Nested) (r : Reading) → Good halves
+    → Nests 13 tree →
     ((hs : List Half) → Good hs → operand ts (waits_of hs) ≡ Some r → Whole (read hs ++ ts) r) →
-    chosen_by (waits_of halves) (λ c below. operand ts (Second c (reading tree) ∷ below)) ≡ Some r → Whole ((read halves ++ parts tree) ++ (part.Colon ∷ ts)) r
+    chosen_by (waits_of halves) (λ c below. operand ts (Second c (reading tree) ∷ below)) ≡ Some r
+    → Whole ((read halves ++ parts tree) ++ (part.Colon ∷ ts)) r
 colon_case ts [] tree r good fits rest got = nothing r got
 colon_case ts (AMark ∷ hs) tree r good fits rest got = nothing r got
 colon_case ts (APre sign ∷ hs) tree r good fits rest got = nothing r got
 colon_case ts (ALeft sign a ∷ hs) tree r good fits rest got = nothing r got
 colon_case ts (ASecond c a ∷ hs) tree r good fits rest got = nothing r got
 colon_case ts (AChoose c ∷ hs) tree r good fits rest got =
-    moved _ _ r (simp append_assoc) (rest (ASecond c tree ∷ hs) ((good.0.0, good.0.1, fits), good.1) got)
+    moved _ _ r (simp append_assoc)
+    (rest (ASecond c tree ∷ hs) ((good.0.0, good.0.1, fits), good.1) got)
 
-close_case : (ts : List Part) (halves : List Half) (tree : Nested) (r : Reading) → Good halves → Nests 13 tree →
-    ((hs : List Half) → Good hs → operator ts (waits_of hs) (reading (Group tree)) ≡ Some r → Whole ((read hs ++ parts (Group tree)) ++ ts) r) →
-    closed_by (waits_of halves) (λ below. operator ts below (grouped (reading tree))) ≡ Some r → Whole ((read halves ++ parts tree) ++ (part.Close ∷ ts)) r
+close_case : (ts : List Part) (halves : List Half) (tree : Nested) (r : Reading) → Good halves
+    → Nests 13 tree →
+    ((hs : List Half) → Good hs → operator ts (waits_of hs) (reading (Group tree)) ≡ Some r
+    → Whole ((read hs ++ parts (Group tree)) ++ ts) r) →
+    closed_by (waits_of halves) (λ below. operator ts below (grouped (reading tree))) ≡ Some r
+    → Whole ((read halves ++ parts tree) ++ (part.Close ∷ ts)) r
 unfolding parts reading
 close_case ts [] tree r good fits rest got = nothing r got
 close_case ts (AMark ∷ hs) tree r good fits rest got =
@@ -205,25 +244,31 @@ close_case ts (AChoose c ∷ hs) tree r good fits rest got = nothing r got
 mutual
   unfolding operand operator parts reading Nests
 
-  operand_sound : (ts : List Part) (hs : List Half) (r : Reading) → Good hs → operand ts (waits_of hs) ≡ Some r → Whole (read hs ++ ts) r
+  operand_sound : (ts : List Part) (hs : List Half) (r : Reading) → Good hs
+      → operand ts (waits_of hs) ≡ Some r → Whole (read hs ++ ts) r
   operand_sound [] hs r good got = nothing r got
   operand_sound (part.Value v ∷ ts) hs r good got =
-      moved _ _ r (append_assoc (read hs) (part.Value v ∷ []) ts) (operator_sound ts hs (Number v) r good (λ k h. tt) got)
+      moved _ _ r (append_assoc (read hs) (part.Value v ∷ []) ts)
+      (operator_sound ts hs (Number v) r good (λ k h. tt) got)
   operand_sound (part.Not ∷ ts) hs r good got =
-      moved _ _ r (append_assoc (read hs) (part.Not ∷ []) ts) (operand_sound ts (APre prefix.Not ∷ hs) r (tt, good) got)
+      moved _ _ r (append_assoc (read hs) (part.Not ∷ []) ts)
+      (operand_sound ts (APre prefix.Not ∷ hs) r (tt, good) got)
   operand_sound (part.Invert ∷ ts) hs r good got =
-      moved _ _ r (append_assoc (read hs) (part.Invert ∷ []) ts) (operand_sound ts (APre prefix.Invert ∷ hs) r (tt, good) got)
+      moved _ _ r (append_assoc (read hs) (part.Invert ∷ []) ts)
+      (operand_sound ts (APre prefix.Invert ∷ hs) r (tt, good) got)
   operand_sound (part.Question ∷ ts) hs r good got = nothing r got
   operand_sound (part.Colon ∷ ts) hs r good got = nothing r got
   operand_sound (part.Open ∷ ts) hs r good got =
-      moved _ _ r (append_assoc (read hs) (part.Open ∷ []) ts) (operand_sound ts (AMark ∷ hs) r (tt, good) got)
+      moved _ _ r (append_assoc (read hs) (part.Open ∷ []) ts)
+      (operand_sound ts (AMark ∷ hs) r (tt, good) got)
   operand_sound (part.Close ∷ ts) hs r good got = nothing r got
   operand_sound (part.Two (Cells between.Multiply) ∷ ts) hs r good got = nothing r got
   operand_sound (part.Two (Cells between.Divide) ∷ ts) hs r good got = nothing r got
   operand_sound (part.Two (Cells between.Remainder) ∷ ts) hs r good got = nothing r got
   operand_sound (part.Two (Cells between.Add) ∷ ts) hs r good got = nothing r got
   operand_sound (part.Two (Cells between.Subtract) ∷ ts) hs r good got =
-      moved _ _ r (append_assoc (read hs) (part.Two (Cells between.Subtract) ∷ []) ts) (operand_sound ts (APre prefix.Negate ∷ hs) r (tt, good) got)
+      moved _ _ r (append_assoc (read hs) (part.Two (Cells between.Subtract) ∷ []) ts)
+      (operand_sound ts (APre prefix.Negate ∷ hs) r (tt, good) got)
   operand_sound (part.Two (Cells between.ShiftLeft) ∷ ts) hs r good got = nothing r got
   operand_sound (part.Two (Cells between.ShiftRight) ∷ ts) hs r good got = nothing r got
   operand_sound (part.Two (Cells between.ShiftUnsigned) ∷ ts) hs r good got = nothing r got
@@ -235,38 +280,54 @@ mutual
   operand_sound (part.Two (Compare c) ∷ ts) hs r good got = nothing r got
   operand_sound (part.Two (Logic op) ∷ ts) hs r good got = nothing r got
 
-  operator_sound : (ts : List Part) (hs : List Half) (e : Nested) (r : Reading) → Good hs → ((k : ℕ) → 2 ≤ k → Nests k e) →
+  operator_sound : (ts : List Part) (hs : List Half) (e : Nested) (r : Reading) → Good hs
+      → ((k : ℕ) → 2 ≤ k → Nests k e) →
       operator ts (waits_of hs) (reading e) ≡ Some r → Whole ((read hs ++ parts e) ++ ts) r
   operator_sound [] hs e r good fits got =
-      let s = settled 13 hs e (omega arith) (omega arith) good (fits (need hs) (need_low hs)) (fits 13 (omega arith)) in
+      let s =
+      settled 13 hs e (omega arith) (omega arith) good (fits (need hs) (need_low hs))
+      (fits 13 (omega arith)) in
       moved _ _ r (sym (append-nil (read hs ++ parts e)))
-      (ended hs s.halves e s.tree r s.fits s.same (sym (ap (λ (h : Held). whole_by h.waits h.operand) s.is) ∙ got))
+      (ended hs s.halves e s.tree r s.fits s.same
+      (sym (ap (λ (h : Held). whole_by h.waits h.operand) s.is) ∙ got))
   operator_sound (part.Value v ∷ ts) hs e r good fits got = nothing r got
   operator_sound (part.Not ∷ ts) hs e r good fits got = nothing r got
   operator_sound (part.Invert ∷ ts) hs e r good fits got = nothing r got
   operator_sound (part.Open ∷ ts) hs e r good fits got = nothing r got
   operator_sound (part.Two sign ∷ ts) hs e r good fits got =
       let bounds = levels sign in
-      let s = settled (level sign) hs e bounds.0 (omega (arith, bounds.1)) good (fits (need hs) (need_low hs)) (fits (level sign) (omega (arith, bounds.0))) in
+      let s =
+      settled (level sign) hs e bounds.0 (omega (arith, bounds.1)) good
+      (fits (need hs) (need_low hs)) (fits (level sign) (omega (arith, bounds.0))) in
       moved _ _ r (shift (read s.halves) (parts s.tree) _ (part.Two sign) ts s.same)
       (operand_sound ts (ALeft sign s.tree ∷ s.halves) r ((s.low, s.fits_level), s.good)
       (sym (ap (λ (h : Held). operand ts (Left sign h.operand ∷ h.waits)) s.is) ∙ got))
   operator_sound (part.Question ∷ ts) hs e r good fits got =
-      let s = settled 12 hs e (omega arith) (omega arith) good (fits (need hs) (need_low hs)) (fits 12 (omega arith)) in
+      let s =
+      settled 12 hs e (omega arith) (omega arith) good (fits (need hs) (need_low hs))
+      (fits 12 (omega arith)) in
       moved _ _ r (shift (read s.halves) (parts s.tree) _ part.Question ts s.same)
-      (operand_sound ts (AChoose s.tree ∷ s.halves) r ((need_last s.halves s.low, s.fits_level), s.good)
+      (operand_sound ts (AChoose s.tree ∷ s.halves) r
+      ((need_last s.halves s.low, s.fits_level), s.good)
       (sym (ap (λ (h : Held). operand ts (Chooses h.operand ∷ h.waits)) s.is) ∙ got))
   operator_sound (part.Colon ∷ ts) hs e r good fits got =
-      let s = settled 13 hs e (omega arith) (omega arith) good (fits (need hs) (need_low hs)) (fits 13 (omega arith)) in
+      let s =
+      settled 13 hs e (omega arith) (omega arith) good (fits (need hs) (need_low hs))
+      (fits 13 (omega arith)) in
       moved _ _ r (ap (λ us. us ++ (part.Colon ∷ ts)) s.same)
-      (colon_case ts s.halves s.tree r s.good s.fits_level (λ below g o. operand_sound ts below r g o)
-      (sym (ap (λ (h : Held). chosen_by h.waits (λ c below. operand ts (Second c h.operand ∷ below))) s.is) ∙ got))
+      (colon_case ts s.halves s.tree r s.good s.fits_level
+      (λ below g o. operand_sound ts below r g o)
+      (sym (ap (λ (h : Held). chosen_by h.waits
+      (λ c below. operand ts (Second c h.operand ∷ below))) s.is) ∙ got))
   operator_sound (part.Close ∷ ts) hs e r good fits got =
-      let s = settled 13 hs e (omega arith) (omega arith) good (fits (need hs) (need_low hs)) (fits 13 (omega arith)) in
+      let s =
+      settled 13 hs e (omega arith) (omega arith) good (fits (need hs) (need_low hs))
+      (fits 13 (omega arith)) in
       moved _ _ r (ap (λ us. us ++ (part.Close ∷ ts)) s.same)
       (close_case ts s.halves s.tree r s.good s.fits_level
       (λ below g o. operator_sound ts below (Group s.tree) r g (λ k h. s.fits_level) o)
-      (sym (ap (λ (h : Held). closed_by h.waits (λ below. operator ts below (grouped h.operand))) s.is) ∙ got))
+      (sym (ap (λ (h : Held). closed_by h.waits (λ below. operator ts below (grouped h.operand)))
+      s.is) ∙ got))
 
 -- all that is read spells a tree
 pub sound : (all : List Part) (r : Reading) → operand all [] ≡ Some r → Whole all r

@@ -1,5 +1,6 @@
 -- Parts are tokens with their constants resolved.
-use Rattle.std.proofs.Common.{◌≡◌, ℕ, Option, Some, None, List, [], ◌∷◌, map, drop, length, refl, sym, ap, ◌∙◌, arith}
+use Rattle.std.proofs.Common.{◌≡◌, ℕ, Option, Some, None, List, [], ◌∷◌, map, drop, length, refl}
+use Rattle.std.proofs.Common.{sym, ap, ◌∙◌, arith}
 use Rattle.pawn_cells.specs.declared.constant.Constant.{Constant}
 use Rattle.pawn_cells.specs.declared.operator.Comparison.TheVariants as comparison
 use Rattle.pawn_cells.specs.declared.operator.Logical.TheVariants as logic
@@ -13,7 +14,8 @@ use Rattle.pawn_condition.specs.declared.part.Infix.TheVariants.{Cells, Compare,
 use Rattle.pawn_condition.specs.declared.part.Part.{Part}
 use Rattle.pawn_condition.specs.declared.part.Part.TheVariants as part
 use Rattle.pawn_condition.specs.Condition.{resolved, constant_or_name}
-use Rattle.pawn_condition.specs.Parts.{operator_of, other_of, constant_part, sign_part, part_of, with_parts, part_then, parts_of}
+use Rattle.pawn_condition.specs.Parts.{operator_of, other_of, constant_part, sign_part, part_of}
+use Rattle.pawn_condition.specs.Parts.{with_parts, part_then, parts_of}
 use Rattle.pawn_condition.proofs.NestedLaws.{word}
 
 pub same_part : (p q : Part) → (let some : Option Part = Some p in some) ≡ Some q → p ≡ q
@@ -76,7 +78,8 @@ sign_forth sign.Caret p e = ap word (sym (same_part _ p e))
 sign_forth sign.Exclamation p e = ap word (sym (same_part _ p e))
 sign_forth sign.Tilde p e = ap word (sym (same_part _ p e))
 
-name_forth : (name : List ℕ) (o : Option Constant) (p : Part) → constant_part o ≡ Some p → word p ≡ constant_or_name name o
+name_forth : (name : List ℕ) (o : Option Constant) (p : Part) → constant_part o ≡ Some p
+    → word p ≡ constant_or_name name o
 name_forth name None p e = no_part p e
 name_forth name (Some constant) p e = ap word (sym (same_part (part.Value constant.value) p e))
 
@@ -117,7 +120,8 @@ word_part part.Colon = refl
 word_part part.Open = refl
 word_part part.Close = refl
 
-name_part : (name : List ℕ) (o : Option Constant) → predefined name ≡ o → part_of (constant_or_name name o) ≡ constant_part o
+name_part : (name : List ℕ) (o : Option Constant) → predefined name ≡ o
+    → part_of (constant_or_name name o) ≡ constant_part o
 name_part name None e = ap constant_part e
 name_part name (Some constant) e = refl
 
@@ -131,7 +135,8 @@ resolved_part (kind.Sign s) = refl
 some_parts : (a b : List Part) → (let some : Option (List Part) = Some a in some) ≡ Some b → a ≡ b
 some_parts a b e = cc
 
-no_parts : {A : Type 0} (b : List Part) → (let none : Option (List Part) = None in none) ≡ Some b → A
+no_parts : {A : Type 0} (b : List Part)
+    → (let none : Option (List Part) = None in none) ≡ Some b → A
 no_parts b e = absurd (never e)
   where
     never : (let none : Option (List Part) = None in none) ≡ Some b → ⊥
@@ -139,7 +144,8 @@ no_parts b e = absurd (never e)
 
 one_spelled : (k : TokenKind) (kinds : List TokenKind) (all : List Part)
     → ((more : List Part) → parts_of kinds ≡ Some more → map word more ≡ map resolved kinds)
-    → (o : Option Part) (os : Option (List Part)) → part_of k ≡ o → parts_of kinds ≡ os → part_then o os ≡ Some all
+    → (o : Option Part) (os : Option (List Part)) → part_of k ≡ o → parts_of kinds ≡ os
+    → part_then o os ≡ Some all
     → map word all ≡ map resolved (k ∷ kinds)
 unfolding with_parts
 one_spelled k kinds all later None os f g h = no_parts all h
@@ -149,16 +155,20 @@ one_spelled k kinds all later (Some p) (Some more) f g h =
     ∙ ap (λ ts. resolved k ∷ ts) (later more g)
 
 -- the parts of tokens spell them
-pub kinds_spelled : (kinds : List TokenKind) (all : List Part) → parts_of kinds ≡ Some all → map word all ≡ map resolved kinds
+pub kinds_spelled : (kinds : List TokenKind) (all : List Part) → parts_of kinds ≡ Some all
+    → map word all ≡ map resolved kinds
 unfolding parts_of with_parts
 kinds_spelled [] all e = ap (map word) (sym (some_parts [] all e))
-kinds_spelled (k ∷ kinds) all e = one_spelled k kinds all (λ more f. kinds_spelled kinds more f) (part_of k) (parts_of kinds) refl refl e
+kinds_spelled (k ∷ kinds) all e =
+    one_spelled k kinds all (λ more f. kinds_spelled kinds more f) (part_of k)
+    (parts_of kinds) refl refl e
 
 head_same : (a b : TokenKind) (us vs : List TokenKind) → a ∷ us ≡ b ∷ vs → a ≡ b
 head_same a b us vs e = cc
 
 -- tokens that parts spell have these parts
-pub spelled_parts : (kinds : List TokenKind) (all : List Part) → map word all ≡ map resolved kinds → parts_of kinds ≡ Some all
+pub spelled_parts : (kinds : List TokenKind) (all : List Part) → map word all ≡ map resolved kinds
+    → parts_of kinds ≡ Some all
 unfolding parts_of with_parts
 spelled_parts [] [] e = refl
 spelled_parts [] (p ∷ all) e = absurd (never (ap length e))
@@ -170,6 +180,7 @@ spelled_parts (k ∷ kinds) [] e = absurd (never (ap length e))
     never : 0 ≡ length (resolved k ∷ map resolved kinds) → ⊥
     never h = omega (arith, h)
 spelled_parts (k ∷ kinds) (p ∷ all) e =
-    let first : part_of k ≡ Some p = sym (resolved_part k) ∙ ap part_of (sym (head_same _ _ _ _ e)) ∙ word_part p in
+    let first : part_of k ≡ Some p =
+    sym (resolved_part k) ∙ ap part_of (sym (head_same _ _ _ _ e)) ∙ word_part p in
     let later : parts_of kinds ≡ Some all = spelled_parts kinds all (ap (drop 1) e) in
     ap (λ o. part_then o (parts_of kinds)) first ∙ ap (λ os. part_then (Some p) os) later

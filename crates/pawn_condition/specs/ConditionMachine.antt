@@ -1,6 +1,7 @@
 -- A condition read from left to right with a stack of what waits for an operand. No promise rests
 -- on this; it is proved to give the value of the tree that the text spells.
-use Rattle.std.specs.Prelude.{ℕ, ℤ, nat_le, Bool, true, false, Option, Some, None, List, [], ◌∷◌, if◌then◌else◌}
+use Rattle.std.specs.Prelude.{ℕ, ℤ, nat_le, Bool, true, false, Option, Some, None, List, [], ◌∷◌}
+use Rattle.std.specs.Prelude.{if◌then◌else◌}
 use Rattle.pawn_cells.specs.declared.operator.Operator.{Operator}
 use Rattle.pawn_cells.specs.declared.operator.Operator.TheVariants as between
 use Rattle.pawn_cells.specs.declared.operator.Prefix.TheVariants as before
@@ -10,7 +11,8 @@ use Rattle.pawn_condition.specs.declared.part.Part.{Part}
 use Rattle.pawn_condition.specs.declared.part.Part.TheVariants as part
 use Rattle.pawn_condition.specs.declared.reading.Reading.{Reading}
 use Rattle.pawn_condition.specs.declared.evaluate.Wait.{Wait}
-use Rattle.pawn_condition.specs.declared.evaluate.Wait.TheVariants.{Mark, Pre, Left, Chooses, Second}
+use Rattle.pawn_condition.specs.declared.evaluate.Wait.TheVariants.{Mark, Pre, Left, Chooses}
+use Rattle.pawn_condition.specs.declared.evaluate.Wait.TheVariants.{Second}
 use Rattle.pawn_condition.specs.Nested.{level, plain, grouped, before_value, choice, applied}
 use Rattle.pawn_condition.specs.Parts.{parts_from}
 
@@ -77,6 +79,7 @@ is_minus (Logic op) = false
 
 -- `operand` stands before one, `operator` behind one
 unfoldable mutual
+  -- where an operand is to come: a value, or what stands before one
   pub operand : List Part → List Wait → Option Reading
   operand [] ws = None
   operand (part.Value v ∷ ts) ws = operator ts ws (plain (Some v))
@@ -89,6 +92,7 @@ unfoldable mutual
   operand (part.Open ∷ ts) ws = operand ts (Mark ∷ ws)
   operand (part.Close ∷ ts) ws = None
 
+  -- where an operand was read: an operator, a closing parenthesis, or the end
   pub operator : List Part → List Wait → Reading → Option Reading
   operator [] ws r = whole_by (settle 13 ws r).waits (settle 13 ws r).operand
   operator (part.Value v ∷ ts) ws r = None

@@ -1,6 +1,7 @@
 -- The expression of a condition: its trees, how each is spelled, and its value (Language Guide,
 -- "Operators and expressions", and "Directives", on `#if`). All operands are evaluated.
-use Rattle.std.specs.Prelude.{◌≤◌, ℕ, ◌-◌, ℤ, Option, Some, None, List, [], ◌∷◌, ◌++◌, if◌then◌else◌}
+use Rattle.std.specs.Prelude.{◌≤◌, ℕ, ◌-◌, ℤ, Option, Some, None, List, [], ◌∷◌, ◌++◌}
+use Rattle.std.specs.Prelude.{if◌then◌else◌}
 use Rattle.pawn_cells.specs.declared.operator.Comparison.{Comparison}
 use Rattle.pawn_cells.specs.declared.operator.Comparison.TheVariants as comparison
 use Rattle.pawn_cells.specs.declared.operator.Logical.{Logical}
@@ -18,6 +19,7 @@ use Rattle.pawn_token.specs.declared.sign.Sign.TheVariants as sign
 
 -- an expression, and the links of a chain of comparisons
 mutual
+  -- numbers, and operators with their operands
   pub data Expr : Type 0 where
     Number : ℤ → Expr
     Group : Expr → Expr
@@ -27,6 +29,7 @@ mutual
     Chain : Expr → Links → Expr
     Choice : Expr → Expr → Expr → Expr
 
+  -- comparisons, each with its right operand, the last one outermost
   pub data Links : Type 0 where
     First : Comparison → Expr → Links
     Then : Links → Comparison → Expr → Links
@@ -69,6 +72,7 @@ logical_sign logic.Or = sign.LogicalOr
 
 -- the tokens of an expression, and of links
 unfoldable mutual
+  -- the tokens of a tree
   pub spell : Expr → List TokenKind
   spell (Number v) = kind.Number v ∷ []
   spell (Group e) =
@@ -80,6 +84,7 @@ unfoldable mutual
   spell (Choice c a b) =
       spell c ++ (kind.Sign sign.Question ∷ (spell a ++ (kind.Sign sign.Colon ∷ spell b)))
 
+  -- those of the comparisons of a chain
   pub spell_links : Links → List TokenKind
   spell_links (First c x) = kind.Sign (comparison_sign c) ∷ spell x
   spell_links (Then links c x) = spell_links links ++ (kind.Sign (comparison_sign c) ∷ spell x)
@@ -87,6 +92,7 @@ unfoldable mutual
 -- it is an expression up to a level: operators of one level group to the left, comparisons of one
 -- row are one chain, and choices group to the right
 unfoldable mutual
+  -- an expression binds at least as tightly as a level asks, and so do its parts
   pub Fits : ℕ → Expr → Type 0
   Fits k (Number v) = Unit {0}
   Fits k (Group e) = Fits 13 e
@@ -97,6 +103,7 @@ unfoldable mutual
   Fits k (Chain a links) = (9 ≤ k) × Fits 8 a × FitLinks links
   Fits k (Choice c a b) = (13 ≤ k) × Fits 12 c × Fits 13 a × Fits 13 b
 
+  -- the right operands of a chain
   pub FitLinks : Links → Type 0
   FitLinks (First c x) = Fits 8 x
   FitLinks (Then links c x) = FitLinks links × Fits 8 x
@@ -137,6 +144,7 @@ chained (Some first) (Some links) = Some (chain first links)
 
 -- the value of an expression, and none where a divisor in it is zero
 unfoldable mutual
+  -- the value of a tree: none where it divides by zero
   pub value : Expr → Option ℤ
   value (Number v) = Some v
   value (Group e) = value e
@@ -146,6 +154,7 @@ unfoldable mutual
   value (Chain a links) = chained (value a) (values links)
   value (Choice c a b) = chosen (value c) (value a) (value b)
 
+  -- the comparisons of a chain with their operands' values
   pub values : Links → Linked
   values (First c x) = with_link (Some []) c (value x)
   values (Then links c x) = with_link (values links) c (value x)

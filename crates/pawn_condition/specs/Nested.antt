@@ -1,6 +1,7 @@
 -- Conditions as they are evaluated: a chain is nested to the left like all operators, and what a
 -- comparison comes to is kept with what its next link takes up. No promise rests on this.
-use Rattle.std.specs.Prelude.{◌≤◌, ℕ, ◌-◌, ℤ, Bool, true, false, ◌&&◌, Option, Some, None, List, [], ◌∷◌, ◌++◌}
+use Rattle.std.specs.Prelude.{◌≤◌, ℕ, ◌-◌, ℤ, Bool, true, false, ◌&&◌, Option, Some, None, List, []}
+use Rattle.std.specs.Prelude.{◌∷◌, ◌++◌}
 use Rattle.pawn_cells.specs.declared.operator.Comparison.{Comparison}
 use Rattle.pawn_cells.specs.declared.operator.Operator.TheVariants as between
 use Rattle.pawn_cells.specs.declared.operator.Prefix.{Prefix}

@@ -1,6 +1,7 @@
 -- The tokens of a condition as it is evaluated: a token at a time, and how many bytes it takes. No
 -- promise rests on this.
-use Rattle.std.specs.Prelude.{ℕ, zero, suc, ◌-◌, Option, Some, None, List, [], ◌∷◌, ◌++◌, length, if◌then◌else◌}
+use Rattle.std.specs.Prelude.{ℕ, zero, suc, ◌-◌, Option, Some, None, List, [], ◌∷◌, ◌++◌, length}
+use Rattle.std.specs.Prelude.{if◌then◌else◌}
 use Rattle.pawn_cells.specs.declared.constant.Constant.{Constant}
 use Rattle.pawn_cells.specs.declared.operator.Comparison.TheVariants as comparison
 use Rattle.pawn_cells.specs.declared.operator.Logical.TheVariants as logic

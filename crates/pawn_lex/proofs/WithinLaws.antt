@@ -1,5 +1,6 @@
 -- What lines have of tokens: no more than their bytes, and each on one of them.
-use Rattle.std.proofs.Common.{◌≡◌, ◌≤◌, ◌+◌, inl, inr, ℕ, List, [], ◌∷◌, ◌++◌, Bool, false, Result, Ok, Err, length, sym, ap, subst, ◌∙◌, arith, length-append}
+use Rattle.std.proofs.Common.{◌≡◌, ◌≤◌, ◌+◌, inl, inr, ℕ, List, [], ◌∷◌, ◌++◌, Bool, false, Result}
+use Rattle.std.proofs.Common.{Ok, Err, length, sym, ap, subst, ◌∙◌, arith, length-append}
 use Rattle.std.specs.Prelude.{All}
 use Rattle.std.proofs.lemmas.List.Elements.{All-nil, All-cons, All-append, All-weaker}
 use Rattle.std.proofs.lemmas.List.Sums.{sum_by-append, sum_by-cons}
@@ -31,11 +32,17 @@ record LineTakes (line : Line) (tokens : List Token) (n m : ℕ) : Type 0 where
   named : All Named tokens
   placed : All (On line) tokens
 
-leads_take : (line : Line) (first : Bool) (at : List ℕ) (tokens : List Token) (end : List ℕ) → Leads line first at tokens end
+leads_take : (line : Line) (first : Bool) (at : List ℕ) (tokens : List Token) (end : List ℕ)
+    → Leads line first at tokens end
     → LineTakes line tokens (length at) (length end)
 leads_take line first at [] end here =
     let same = ap length here in
-    record { few = omega (arith, same); small = omega (arith, same); named = All-nil Named; placed = All-nil (On line) }
+    record {
+      few = omega (arith, same);
+      small = omega (arith, same);
+      named = All-nil Named;
+      placed = All-nil (On line);
+    }
 leads_take line first at (token ∷ tokens) end (rest, next, others) =
     let later = leads_take line false rest tokens end others in
     let here = past_blanks at in
@@ -46,14 +53,31 @@ leads_take line first at (token ∷ tokens) end (rest, next, others) =
     let blank = past_blanks-le at in
     record {
       few = omega (arith, later.few, shorter, blank);
-      small = omega (arith, later.small, takes.1, blank, size_is, sum_by-cons (λ (t : Token). name_size t.kind) token tokens);
+      small =
+          omega (
+            arith,
+            later.small,
+            takes.1,
+            blank,
+            size_is,
+            sum_by-cons (λ (t : Token). name_size t.kind) token tokens,
+          );
       named = All-cons Named token tokens (subst IsNameOrOther kind_is takes.0) later.named;
-      placed = All-cons (On line) token tokens (ap (λ (t : Token). t.place) next.token_is) later.placed;
+      placed =
+          All-cons (On line) token tokens (ap (λ (t : Token). t.place) next.token_is) later.placed;
     }
 
 -- all tokens of lines
-pub tokens_within : (lines : List Line) (tokens : List Token) → AreTokens lines tokens → AreWithin lines tokens
-tokens_within [] tokens none = subst (AreWithin []) (sym none) (record { few = omega arith; small = omega arith; named = All-nil Named; placed = All-nil (λ (token : Token). IsPlaceOf [] token.place) })
+pub tokens_within : (lines : List Line) (tokens : List Token) → AreTokens lines tokens
+    → AreWithin lines tokens
+tokens_within [] tokens none =
+    subst (AreWithin []) (sym none)
+    (record {
+      few = omega arith;
+      small = omega arith;
+      named = All-nil Named;
+      placed = All-nil (λ (token : Token). IsPlaceOf [] token.place);
+    })
 tokens_within (line ∷ lines) tokens (here, more, is, tokenised, others) =
     let takes = leads_take line _ line.bytes here tokenised.end tokenised.leads in
     let later = tokens_within lines more others in
@@ -65,16 +89,22 @@ tokens_within (line ∷ lines) tokens (here, more, is, tokenised, others) =
       small = omega (arith, takes.small, later.small, summed, bytes);
       named = All-append Named here more takes.named later.named;
       placed = All-append (λ (token : Token). IsPlaceOf (line ∷ lines) token.place) here more
-          (All-weaker (On line) (λ (token : Token). IsPlaceOf (line ∷ lines) token.place) (λ token e. inl e) here takes.placed)
-          (All-weaker (λ (token : Token). IsPlaceOf lines token.place) (λ (token : Token). IsPlaceOf (line ∷ lines) token.place) (λ token e. inr e) more later.placed);
+          (All-weaker (On line) (λ (token : Token). IsPlaceOf (line ∷ lines) token.place)
+          (λ token e. inl e) here takes.placed)
+          (All-weaker (λ (token : Token). IsPlaceOf lines token.place)
+          (λ (token : Token). IsPlaceOf (line ∷ lines) token.place)
+          (λ token e. inr e) more later.placed);
     })
 
-fault_within : (lines : List Line) (fault : ℕ) (place : Place) → IsFirstFault lines fault place → IsPlaceOf lines place
+fault_within : (lines : List Line) (fault : ℕ) (place : Place) → IsFirstFault lines fault place
+    → IsPlaceOf lines place
 fault_within [] fault place is = absurd is
 fault_within (line ∷ lines) fault place (inl (wrong, e)) = inl e
-fault_within (line ∷ lines) fault place (inr (here, tokens, later)) = inr (fault_within lines fault place later)
+fault_within (line ∷ lines) fault place (inr (here, tokens, later)) =
+    inr (fault_within lines fault place later)
 
-pub answer_within : (lines : List Line) (answer : Result Tokens LexFault) → IsAnswer lines answer → IsWithin lines answer
+pub answer_within : (lines : List Line) (answer : Result Tokens LexFault) → IsAnswer lines answer
+    → IsWithin lines answer
 answer_within lines (Ok tokens) are = tokens_within lines tokens.list are
 answer_within lines (Err (lex.Source fault place)) is = fault_within lines fault place is
 answer_within lines (Err lex.Memory) is = tt

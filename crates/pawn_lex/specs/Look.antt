@@ -1,5 +1,6 @@
 -- A look at tokens by their number, counted from 0.
-use Rattle.std.specs.Prelude.{◌≡◌, ℕ, List, [], ◌∷◌, Bool, false, Option, Some, None, slice_get, if◌then◌else◌}
+use Rattle.std.specs.Prelude.{◌≡◌, ℕ, List, [], ◌∷◌, Bool, false, Option, Some, None, slice_get}
+use Rattle.std.specs.Prelude.{if◌then◌else◌}
 use Rattle.std.specs.Str.{bytes_eq}
 use Rattle.pawn_token.specs.declared.key.Key.{Key}
 use Rattle.pawn_token.specs.declared.kind.TokenKind.{TokenKind}

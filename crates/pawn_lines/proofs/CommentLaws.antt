@@ -1,5 +1,6 @@
 -- The scan of single bytes is the definition of comments.
-use Rattle.std.proofs.Common.{◌≡◌, ℕ, ◌==◌, List, [], ◌∷◌, Bool, true, false, refl, sym, ap, subst, ◌∙◌}
+use Rattle.std.proofs.Common.{◌≡◌, ℕ, ◌==◌, List, [], ◌∷◌, Bool, true, false, refl, sym, ap, subst}
+use Rattle.std.proofs.Common.{◌∙◌}
 use Rattle.std.specs.Prelude.{◌&&◌}
 use Rattle.std.proofs.lemmas.Bool.{eqb-true}
 use Rattle.pawn_lines.specs.Comments.{Text, Remark, clean, with_byte}
@@ -29,16 +30,20 @@ text_other (Within q) b (c ∷ rest) h = refl
 text_other (Escaped q) b (c ∷ rest) h = refl
 
 -- the same bytes behind it
-text_more : (quote : Quote) (b : ℕ) (bs : List ℕ) → Agrees bs → (is_outside quote && (b == 47)) ≡ false →
+text_more : (quote : Quote) (b : ℕ) (bs : List ℕ) → Agrees bs
+    → (is_outside quote && (b == 47)) ≡ false →
     before (b ∷ []) (scan (Reads (quote_after 92 quote b)) bs) ≡ clean (Text quote) (b ∷ bs)
 unfolding before
-text_more quote b bs ih h = ap (with_byte b) (ih.text (quote_after 92 quote b)) ∙ sym (text_other quote b bs h)
+text_more quote b bs ih h =
+    ap (with_byte b) (ih.text (quote_after 92 quote b)) ∙ sym (text_other quote b bs h)
 
-in_text : (quote : Quote) (b : ℕ) (bs : List ℕ) → Agrees bs → (t : Bool) → (is_outside quote && (b == 47)) ≡ t →
+in_text : (quote : Quote) (b : ℕ) (bs : List ℕ) → Agrees bs → (t : Bool)
+    → (is_outside quote && (b == 47)) ≡ t →
     scan (Reads quote) (b ∷ bs) ≡ clean (Text quote) (b ∷ bs)
 unfolding scan one before
 in_text Outside b bs ih true h =
-    rw h (let P : ℕ → Type 0 = λ x. scan Slash bs ≡ clean (Text Outside) (x ∷ bs) in subst P (sym (eqb-true b 47 h)) ih.slash)
+    rw h (let P : ℕ → Type 0 = λ x. scan Slash bs ≡ clean (Text Outside) (x ∷ bs) in subst P
+    (sym (eqb-true b 47 h)) ih.slash)
 in_text (Within q) b bs ih true h = cc
 in_text (Escaped q) b bs ih true h = cc
 in_text quote b bs ih false h = rw h (text_more quote b bs ih h)
@@ -55,10 +60,12 @@ unfolding clean
 remark_other c [] e = refl
 remark_other c (d ∷ cs) e = rw e refl
 
-in_remark : (b : ℕ) (bs : List ℕ) → Agrees bs → (t : Bool) → (b == 42) ≡ t → scan Inside (b ∷ bs) ≡ clean Remark (b ∷ bs)
+in_remark : (b : ℕ) (bs : List ℕ) → Agrees bs → (t : Bool) → (b == 42) ≡ t
+    → scan Inside (b ∷ bs) ≡ clean Remark (b ∷ bs)
 unfolding scan one before
 in_remark b bs ih true h =
-    rw h (let P : ℕ → Type 0 = λ x. scan Star bs ≡ clean Remark (x ∷ bs) in subst P (sym (eqb-true b 42 h)) ih.star)
+    rw h (let P : ℕ → Type 0 = λ x. scan Star bs ≡ clean Remark (x ∷ bs) in subst P
+    (sym (eqb-true b 42 h)) ih.star)
 in_remark b bs ih false h = rw h (ih.inside ∙ sym (remark_other b bs h))
 
 behind_star : (b : ℕ) (bs : List ℕ) → Agrees bs → (t : Bool) → (b == 47) ≡ t →
@@ -87,7 +94,8 @@ agrees (b ∷ bs) =
       star = behind_star b bs ih _ refl remark;
     }
 
-pub scan_is_clean : (unclosed : Bool) (bs : List ℕ) → scan (mode_at unclosed) bs ≡ clean (part_at unclosed) bs
+pub scan_is_clean : (unclosed : Bool) (bs : List ℕ)
+    → scan (mode_at unclosed) bs ≡ clean (part_at unclosed) bs
 scan_is_clean true bs = (agrees bs).inside
 scan_is_clean false bs = (agrees bs).text Outside
 

@@ -6,7 +6,10 @@ use Rattle.pawn_lines.specs.declared.row.Row.{Row}
 
 -- a row more
 pub blanked_more : (made rest : List Row) (row : Row) (unclosed : Bool) (last : ℕ) →
-    with_rows (made ++ (record { number = row.number; bytes = (clean (part_at unclosed) row.bytes).bytes }) ∷ [])
+    with_rows (made ++ (record {
+      number = row.number;
+      bytes = (clean (part_at unclosed) row.bytes).bytes;
+    }) ∷ [])
     (blanked (clean (part_at unclosed) row.bytes).unclosed row.number rest) ≡
     with_rows made (blanked unclosed last (row ∷ rest))
 unfolding blanked

@@ -1,5 +1,6 @@
 -- A file has no more lines than bytes.
-use Rattle.std.proofs.Common.{◌≡◌, ℕ, ◌+◌, ◌-◌, ◌<◌, ◌≤◌, List, [], ◌∷◌, Bool, true, false, zero, suc, cond, Option, Some, None, length, drop, take, refl, ap, arith}
+use Rattle.std.proofs.Common.{◌≡◌, ℕ, ◌+◌, ◌-◌, ◌<◌, ◌≤◌, List, [], ◌∷◌, Bool, true, false, zero}
+use Rattle.std.proofs.Common.{suc, cond, Option, Some, None, length, drop, take, refl, ap, arith}
 use Rattle.std.specs.List.{position}
 use Rattle.std.specs.Str.Lines.{lines}
 use Rattle.std.proofs.lemmas.List.{length-drop, length-take}
@@ -9,18 +10,21 @@ use Rattle.pawn_lines.specs.File.{part_at, file_of, blanked, File}
 use Rattle.pawn_lines.specs.Joined.{rows_of, joined, glued, is_last, goes_on, front_of}
 use Rattle.pawn_lines.proofs.JoinedLaws.{first_line, last_line, ends_line}
 
-lines_by : (k : ℕ) (bs : List ℕ) → length bs ≤ suc k → 0 < length bs → ((rest : List ℕ) → length rest ≤ k → length (lines rest) ≤ length rest) →
+lines_by : (k : ℕ) (bs : List ℕ) → length bs ≤ suc k → 0 < length bs
+    → ((rest : List ℕ) → length rest ≤ k → length (lines rest) ≤ length rest) →
     (at : Option ℕ) → position ends_line bs ≡ at → length (lines bs) ≤ length bs
 lines_by k bs h some ih None e = rw (last_line bs some e) (omega arith)
 lines_by k bs h some ih (Some n) e =
-    let shorter : length (drop 1 (drop n bs)) + 1 ≤ length bs = rw (length-drop 1 (drop n bs), length-drop n bs) (omega (arith, some)) in
+    let shorter : length (drop 1 (drop n bs)) + 1 ≤ length bs =
+    rw (length-drop 1 (drop n bs), length-drop n bs) (omega (arith, some)) in
     let rest = ih (drop 1 (drop n bs)) (omega (arith, h, shorter)) in
     rw (first_line bs n e) (omega (arith, rest, shorter))
 
 count_lines : (k : ℕ) (bs : List ℕ) → length bs ≤ k → length (lines bs) ≤ length bs
 count_lines k [] h = omega arith
 count_lines zero (b ∷ bs) h = absurd (omega arith)
-count_lines (suc k) (b ∷ bs) h = lines_by k (b ∷ bs) h (omega arith) (λ rest l. count_lines k rest l) _ refl
+count_lines (suc k) (b ∷ bs) h =
+    lines_by k (b ∷ bs) h (omega arith) (λ rest l. count_lines k rest l) _ refl
 
 count_glued : (n : ℕ) (front : List ℕ) (rows : List Row) → length (glued n front rows) ≡ length rows
 unfolding glued
@@ -36,14 +40,20 @@ count_by false false n m row front rows h = omega (arith, h)
 count_joined : (n : ℕ) (ls : List (List ℕ)) → length (joined n ls) ≤ length ls
 unfolding joined
 count_joined n [] = omega arith
-count_joined n (line ∷ rest) = count_by (is_last rest) (goes_on line) n (length rest) _ (front_of line) (joined (n + 1) rest) (count_joined (n + 1) rest)
+count_joined n (line ∷ rest) =
+    count_by (is_last rest) (goes_on line) n (length rest) _ (front_of line) (joined (n + 1) rest)
+    (count_joined (n + 1) rest)
 
-count_blanked : (unclosed : Bool) (last : ℕ) (rows : List Row) → length (blanked unclosed last rows).rows ≡ length rows
+count_blanked : (unclosed : Bool) (last : ℕ) (rows : List Row)
+    → length (blanked unclosed last rows).rows ≡ length rows
 unfolding blanked
 count_blanked unclosed last [] = refl
-count_blanked unclosed last (row ∷ rest) = ap suc (count_blanked (clean (part_at unclosed) row.bytes).unclosed row.number rest)
+count_blanked unclosed last (row ∷ rest) =
+    ap suc (count_blanked (clean (part_at unclosed) row.bytes).unclosed row.number rest)
 
-count_closed : (t : Bool) (file : File) → length (cond t (record file { rows = take (length file.rows - 1) file.rows }) file).rows ≤ length file.rows
+count_closed : (t : Bool) (file : File)
+    → length (cond t (record file { rows = take (length file.rows - 1) file.rows }) file).rows
+    ≤ length file.rows
 count_closed true file = rw (length-take (length file.rows - 1) file.rows) (omega arith)
 count_closed false file = omega arith
 

@@ -68,4 +68,5 @@ answered rules control quote joined (suc left) (b ∷ rest) =
 answered rules control quote joined zero (b ∷ rest) =
     answer_then rules b rest
     (if begins_whole_name quote joined b then defined_at (b ∷ rest) else None)
-    (λ left. answered rules control (quote_after control quote b) (is_in class.NameByte b) left rest)
+    (λ left. answered rules control (quote_after control quote b)
+    (is_in class.NameByte b) left rest)

@@ -1,4 +1,4 @@
-ghost use Rattle.std.specs.Prelude.{◌≡◌, ◌≢◌, ◌≤◌, ℕ};
+ghost use Rattle.std.specs.Prelude.{◌≡◌, ◌≢◌, ℕ};
 
 use pawn_base::Bytes;
 use std::alloc::Global;
@@ -32,12 +32,12 @@ pub trait Files {
     ghost use Rattle.std.specs.declared.option.Option.{Option};
     ghost use Rattle.pawn_outside.specs.Held.{Held};
     ghost use Rattle.pawn_outside.specs.Answers.{IsRead, IsPut};
-    ghost use Rattle.pawn_outside.specs.Rose.{Rose};
+    ghost use Rattle.pawn_outside.specs.Rose.{risen};
 
     /// The map from names to bytes that is held, where the object tells it.
     ghost held: { Self → Option Held };
 
-    /// How often the files failed. It never falls, and stands still at the greatest u64.
+    /// How often the files failed. It stands still at the greatest u64.
     ghost faults: { Self → ℕ };
 
     /// No call fails from now on.
@@ -48,9 +48,9 @@ pub trait Files {
         ensures same { held self.new ≡ held self.old }
         ensures answer { IsRead (held self.old) name.now limit result }
 
-        // Failed comes only where the count rose, and never where no call fails.
-        ensures later { faults self.old ≤ faults self.new }
-        ensures cause { result ≡ ReadAnswer.Failed → Rose (faults self.old) (faults self.new) }
+        // A read that fails counts one fault, and another none. None fails where no call does.
+        ensures steady { result ≢ ReadAnswer.Failed → faults self.new ≡ faults self.old }
+        ensures cause { result ≡ ReadAnswer.Failed → faults self.new ≡ risen (faults self.old) }
         ensures unfailing { never_fails self.old →
             never_fails self.new × (result ≢ ReadAnswer.Failed) };
 
@@ -58,9 +58,9 @@ pub trait Files {
     fn put(&mut self, name: &str, bytes: &[u8]) -> PutAnswer
         ensures answer { IsPut (held self.old) name.now bytes.now result (held self.new) }
 
-        // Failed comes only where the count rose, and never where no call fails.
-        ensures later { faults self.old ≤ faults self.new }
-        ensures cause { result ≡ PutAnswer.Failed → Rose (faults self.old) (faults self.new) }
+        // A put that fails counts one fault, and another none. None fails where no call does.
+        ensures steady { result ≢ PutAnswer.Failed → faults self.new ≡ faults self.old }
+        ensures cause { result ≡ PutAnswer.Failed → faults self.new ≡ risen (faults self.old) }
         ensures unfailing { never_fails self.old →
             never_fails self.new × (result ≢ PutAnswer.Failed) };
 }

@@ -1,4 +1,4 @@
-ghost use Rattle.std.specs.Prelude.{◌≡◌, ◌≢◌, ◌≤◌, OnOk, OnErr, IfOk, IfSome, Some, None};
+ghost use Rattle.std.specs.Prelude.{◌≡◌, ◌≢◌, OnOk, OnErr, IfOk, IfSome, Some, None};
 ghost use Rattle.std.specs.Option.{option_copied};
 ghost use Rattle.std.specs.FinMap.{empty, get, insert};
 
@@ -92,7 +92,7 @@ impl Files for MemoryFiles {
     ghost use Rattle.std.specs.Prelude.{◌≡◌, Some, []};
     ghost use Rattle.pawn_outside.specs.Answers.{IsRead, IsPut};
     ghost use Rattle.pawn_outside.specs.MemoryFiles.{IsAfterRead, IsAfterPut};
-    ghost use Rattle.pawn_outside.specs.Rose.{Rose};
+    ghost use Rattle.pawn_outside.specs.Rose.{risen};
 
     ghost held = { λ files. Some files.held };
 
@@ -106,9 +106,10 @@ impl Files for MemoryFiles {
         // As of all files.
         ensures same { self.new.held ≡ self.old.held }
         ensures answer { IsRead (Some self.old.held) name.now limit result }
-        ensures later { self.old.schedule.faults ≤ self.new.schedule.faults }
+        ensures steady { result ≢ ReadAnswer.Failed →
+            self.new.schedule.faults ≡ self.old.schedule.faults }
         ensures cause { result ≡ ReadAnswer.Failed →
-            Rose self.old.schedule.faults self.new.schedule.faults }
+            self.new.schedule.faults ≡ risen self.old.schedule.faults }
         ensures unfailing { self.old.schedule.fails ≡ [] →
             (self.new.schedule.fails ≡ []) × (result ≢ ReadAnswer.Failed) }
     {
@@ -131,9 +132,10 @@ impl Files for MemoryFiles {
 
         // As of all files.
         ensures answer { IsPut (Some self.old.held) name.now bytes.now result (Some self.new.held) }
-        ensures later { self.old.schedule.faults ≤ self.new.schedule.faults }
+        ensures steady { result ≢ PutAnswer.Failed →
+            self.new.schedule.faults ≡ self.old.schedule.faults }
         ensures cause { result ≡ PutAnswer.Failed →
-            Rose self.old.schedule.faults self.new.schedule.faults }
+            self.new.schedule.faults ≡ risen self.old.schedule.faults }
         ensures unfailing { self.old.schedule.fails ≡ [] →
             (self.new.schedule.fails ≡ []) × (result ≢ PutAnswer.Failed) }
     {

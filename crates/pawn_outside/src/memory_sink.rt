@@ -73,10 +73,10 @@ impl MemorySink {
 }
 
 impl Sink for MemorySink {
-    ghost use Rattle.std.specs.Prelude.{◌≡◌, ◌≤◌, ◌+◌, Some, [], length};
+    ghost use Rattle.std.specs.Prelude.{◌≡◌, ◌+◌, Some, [], length};
     ghost use Rattle.pawn_outside.specs.Answers.{IsWrite};
     ghost use Rattle.pawn_outside.specs.MemorySink.{IsAfterWrite, HasRoom};
-    ghost use Rattle.pawn_outside.specs.Rose.{Rose};
+    ghost use Rattle.pawn_outside.specs.Rose.{risen};
 
     ghost taken = { λ sink. Some sink.taken };
 
@@ -89,9 +89,10 @@ impl Sink for MemorySink {
 
         // As of all sinks.
         ensures answer { IsWrite (Some self.old.taken) bytes.now result (Some self.new.taken) }
-        ensures later { self.old.schedule.faults ≤ self.new.schedule.faults }
+        ensures steady { result ≡ WriteAnswer.Taken →
+            self.new.schedule.faults ≡ self.old.schedule.faults }
         ensures cause { result ≡ WriteAnswer.Failed →
-            Rose self.old.schedule.faults self.new.schedule.faults }
+            self.new.schedule.faults ≡ risen self.old.schedule.faults }
         ensures unfailing { (rest : ℕ) → HasRoom self.old (length bytes.now + rest) →
             HasRoom self.new rest × (result ≡ WriteAnswer.Taken) }
     {

@@ -1,4 +1,4 @@
-ghost use Rattle.std.specs.Prelude.{◌≡◌, ◌≤◌, ◌↔◌, [], IsTrue, IfOk};
+ghost use Rattle.std.specs.Prelude.{◌≡◌, ◌↔◌, [], IsTrue, IfOk};
 
 use pawn_base::{List, Memory};
 use std::alloc::Global;
@@ -42,8 +42,7 @@ impl Schedule {
 
     /// Counts a call that failed.
     pub fn count_fault(&mut self)
-        ensures after { self.new ≡ faulted self.old }
-        ensures later { self.old.faults ≤ self.new.faults }
+        ensures { self.new ≡ faulted self.old }
     {
         self.faults = self.faults.saturating_add(1);
     }

@@ -1,4 +1,4 @@
-ghost use Rattle.std.specs.Prelude.{◌≡◌, ◌≤◌, ◌+◌, ℕ, List, length};
+ghost use Rattle.std.specs.Prelude.{◌≡◌, ◌+◌, ℕ, List, length};
 
 /// What a write answers.
 #[derive(Clone, Copy, Debug, PartialEq, Eq)]
@@ -13,12 +13,12 @@ pub enum WriteAnswer {
 pub trait Sink {
     ghost use Rattle.std.specs.declared.option.Option.{Option};
     ghost use Rattle.pawn_outside.specs.Answers.{IsWrite};
-    ghost use Rattle.pawn_outside.specs.Rose.{Rose};
+    ghost use Rattle.pawn_outside.specs.Rose.{risen};
 
     /// The bytes taken so far, where the object tells them.
     ghost taken: { Self → Option (List ℕ) };
 
-    /// How often the sink failed. It never falls, and stands still at the greatest u64.
+    /// How often the sink failed. It stands still at the greatest u64.
     ghost faults: { Self → ℕ };
 
     /// The next so many bytes will be taken, in however many writes.
@@ -28,9 +28,9 @@ pub trait Sink {
     fn write(&mut self, bytes: &[u8]) -> WriteAnswer
         ensures answer { IsWrite (taken self.old) bytes.now result (taken self.new) }
 
-        // Failed comes only where the count rose, and never where there is room.
-        ensures later { faults self.old ≤ faults self.new }
-        ensures cause { result ≡ WriteAnswer.Failed → Rose (faults self.old) (faults self.new) }
+        // A write that fails counts one fault, and another none. None fails where there is room.
+        ensures steady { result ≡ WriteAnswer.Taken → faults self.new ≡ faults self.old }
+        ensures cause { result ≡ WriteAnswer.Failed → faults self.new ≡ risen (faults self.old) }
         ensures unfailing { (rest : ℕ) → has_room self.old (length bytes.now + rest) →
             has_room self.new rest × (result ≡ WriteAnswer.Taken) };
 }

@@ -1,11 +1,14 @@
 -- Each step keeps the bounds.
-use Rattle.std.proofs.Common.{◌≡◌, ℕ, ◌+◌, ◌<◌, ◌≤◌, ◌++◌, List, [], ◌∷◌, Bool, true, false, zero, suc, cond, if◌then◌else◌, ltb, Option, Some, None, Result, Ok, Err, length, refl, sym, ap, subst, ◌∙◌, arith}
+use Rattle.std.proofs.Common.{◌≡◌, ℕ, ◌+◌, ◌<◌, ◌≤◌, ◌++◌, List, [], ◌∷◌, Bool, true, false, zero}
+use Rattle.std.proofs.Common.{suc, cond, if◌then◌else◌, ltb, Option, Some, None, Result, Ok, Err}
+use Rattle.std.proofs.Common.{length, refl, sym, ap, subst, ◌∙◌, arith}
 use Rattle.std.specs.Prelude.{All}
 use Rattle.std.proofs.lemmas.Bool.{ltb-false}
 use Rattle.std.proofs.lemmas.List.{length-append}
 use Rattle.std.proofs.lemmas.List.Elements.{All-append, All-weaker}
 use Rattle.std.proofs.lemmas.List.Sums.{sum_by-append}
 use Rattle.pawn_pre.specs.declared.line.Line.{Line}
+use Rattle.pawn_pre.specs.declared.line.TheConstants.{MOST_BYTES}
 use Rattle.pawn_pre.specs.declared.state.Part.{Part}
 use Rattle.pawn_pre.specs.declared.state.Part.TheVariants.{Chosen, Waiting, Done}
 use Rattle.pawn_pre.specs.declared.state.Conditional.{Conditional}
@@ -22,7 +25,11 @@ use Rattle.pawn_macro.specs.Define.{definition, undefined}
 use Rattle.pawn_macro.specs.Evaluation.{Value, proceed, or_fault}
 use Rattle.pawn_pre.specs.Level.{Level}
 use Rattle.pawn_pre.specs.Lists.{first_of}
-use Rattle.pawn_pre.specs.Work.{act, keep, with_line, line_of, is_in_chosen, begin_if, turn_elseif, elseif_by, elseif_part, turn_else, else_by, end_if, end_by, assert_true, define, undefine, without, set_pragma, pragma_by, in_chosen, if_chosen, push, replaced, condition_of, number_of, with_settings, is_set, with_definition, conditional, part_of}
+use Rattle.pawn_pre.specs.Work.{act, keep, with_line, line_of, is_in_chosen, begin_if, turn_elseif}
+use Rattle.pawn_pre.specs.Work.{elseif_by, elseif_part, turn_else, else_by, end_if, end_by}
+use Rattle.pawn_pre.specs.Work.{assert_true, define, undefine, without, set_pragma, pragma_by}
+use Rattle.pawn_pre.specs.Work.{in_chosen, if_chosen, push, replaced, condition_of, number_of}
+use Rattle.pawn_pre.specs.Work.{with_settings, is_set, with_definition, conditional, part_of}
 use Rattle.pawn_pre.specs.Walk.{Stack, lines_of, entered, first_stack}
 use Rattle.std.specs.Prelude.{IfOk}
 use Rattle.pawn_cells.specs.declared.place.Place.{Place}
@@ -48,29 +55,36 @@ Stays w (Err kind) = Unit {0}
 same : (w : Work) → Same w w
 same w = record { lines = refl; size = refl; file = refl; rows = omega arith }
 
-stays_then : {A : Type 0} (w : Work) (r : Result A ℕ) (f : A → Result Work ℕ) → ((a : A) → Stays w (f a)) → Stays w (proceed r f)
+stays_then : {A : Type 0} (w : Work) (r : Result A ℕ) (f : A → Result Work ℕ)
+    → ((a : A) → Stays w (f a)) → Stays w (proceed r f)
 unfolding Stays
 stays_then w (Ok a) f h = h a
 stays_then w (Err kind) f h = tt
 
-stays_if : (w : Work) (t : Bool) (a b : Result Work ℕ) → Stays w a → Stays w b → Stays w (cond t a b)
+stays_if : (w : Work) (t : Bool) (a b : Result Work ℕ) → Stays w a → Stays w b
+    → Stays w (cond t a b)
 stays_if w true a b h k = h
 stays_if w false a b h k = k
 
-stays_elseif : (value : Value) (w : Work) (rest : List ℕ) (o : Option Conditional) → Stays w (elseif_by value w rest o)
+stays_elseif : (value : Value) (w : Work) (rest : List ℕ) (o : Option Conditional)
+    → Stays w (elseif_by value w rest o)
 unfolding Stays
 stays_elseif value w rest None = tt
 stays_elseif value w rest (Some c) = stays_if w c.past _ _ tt (by_part c.part)
   where
     by_part : (part : Part) → Stays w (elseif_part value w rest part)
     by_part Chosen = record { lines = refl; size = refl; file = refl; rows = omega arith }
-    by_part Waiting = stays_then w (condition_of value w rest) (λ v. Ok (replaced w (conditional (part_of v) false))) (λ v. record { lines = refl; size = refl; file = refl; rows = omega arith })
+    by_part Waiting =
+        stays_then w (condition_of value w rest)
+        (λ v. Ok (replaced w (conditional (part_of v) false)))
+        (λ v. record { lines = refl; size = refl; file = refl; rows = omega arith })
     by_part Done = record { lines = refl; size = refl; file = refl; rows = omega arith }
 
 stays_else : (w : Work) (o : Option Conditional) → Stays w (else_by w o)
 unfolding Stays
 stays_else w None = tt
-stays_else w (Some c) = stays_if w c.past _ _ tt (record { lines = refl; size = refl; file = refl; rows = omega arith })
+stays_else w (Some c) =
+    stays_if w c.past _ _ tt (record { lines = refl; size = refl; file = refl; rows = omega arith })
 
 stays_end : (w : Work) (o : Option Conditional) → Stays w (end_by w o)
 unfolding Stays
@@ -81,17 +95,33 @@ stays_without : (w : Work) (o : Option (List ℕ)) → Same w (without w o)
 stays_without w None = same w
 stays_without w (Some key) = record { lines = refl; size = refl; file = refl; rows = omega arith }
 
-stays_pragma : (value : Value) (w : Work) (rest : List ℕ) (s : Setting) → Stays w (pragma_by value w rest s)
+stays_pragma : (value : Value) (w : Work) (rest : List ℕ) (s : Setting)
+    → Stays w (pragma_by value w rest s)
 unfolding Stays
-stays_pragma value w rest setting.Semicolon = stays_then w (number_of value w rest) (λ v. Ok (with_settings w (record w.settings { strict = is_set v }))) (λ v. record { lines = refl; size = refl; file = refl; rows = omega arith })
-stays_pragma value w rest setting.Pack = stays_then w (number_of value w rest) (λ v. Ok (with_settings w (record w.settings { packed = is_set v }))) (λ v. record { lines = refl; size = refl; file = refl; rows = omega arith })
-stays_pragma value w rest setting.Control = stays_then w (or_fault 11 (quoted_byte (past_blanks rest))) (λ c. Ok (with_settings w (record w.settings { control = c }))) (λ v. record { lines = refl; size = refl; file = refl; rows = omega arith })
-stays_pragma value w rest setting.Dynamic = stays_then w (number_of value w rest) (λ v. Ok (with_settings w (record w.settings { dynamic = v }))) (λ v. record { lines = refl; size = refl; file = refl; rows = omega arith })
+stays_pragma value w rest setting.Semicolon =
+    stays_then w (number_of value w rest)
+    (λ v. Ok (with_settings w (record w.settings { strict = is_set v })))
+    (λ v. record { lines = refl; size = refl; file = refl; rows = omega arith })
+stays_pragma value w rest setting.Pack =
+    stays_then w (number_of value w rest)
+    (λ v. Ok (with_settings w (record w.settings { packed = is_set v })))
+    (λ v. record { lines = refl; size = refl; file = refl; rows = omega arith })
+stays_pragma value w rest setting.Control =
+    stays_then w (or_fault 11 (quoted_byte (past_blanks rest)))
+    (λ c. Ok (with_settings w (record w.settings { control = c })))
+    (λ v. record { lines = refl; size = refl; file = refl; rows = omega arith })
+stays_pragma value w rest setting.Dynamic =
+    stays_then w (number_of value w rest)
+    (λ v. Ok (with_settings w (record w.settings { dynamic = v })))
+    (λ v. record { lines = refl; size = refl; file = refl; rows = omega arith })
 stays_pragma value w rest setting.Other = same w
 
-stays_chosen : (value : Value) (w : Work) (d : Word) (rest : List ℕ) → Stays w (in_chosen value w d rest)
+stays_chosen : (value : Value) (w : Work) (d : Word) (rest : List ℕ)
+    → Stays w (in_chosen value w d rest)
 unfolding Stays define undefine assert_true set_pragma
-stays_chosen value w word.Define rest = stays_then w (or_fault 6 (definition w.settings.control rest)) (λ d. Ok (with_definition w d)) (λ d. record { lines = refl; size = refl; file = refl; rows = omega arith })
+stays_chosen value w word.Define rest =
+    stays_then w (or_fault 6 (definition w.settings.control rest)) (λ d. Ok (with_definition w d))
+    (λ d. record { lines = refl; size = refl; file = refl; rows = omega arith })
 stays_chosen value w word.Undef rest = stays_without w (undefined rest)
 stays_chosen value w word.If rest = same w
 stays_chosen value w word.ElseIf rest = same w
@@ -100,18 +130,28 @@ stays_chosen value w word.Endif rest = same w
 stays_chosen value w word.Include rest = same w
 stays_chosen value w word.TryInclude rest = same w
 stays_chosen value w word.Error rest = tt
-stays_chosen value w word.Assert rest = stays_then w (condition_of value w rest) (λ v. if is_zero v then Err 5 else Ok w) (λ v. stays_if w (is_zero v) (Err 5) (Ok w) tt (same w))
-stays_chosen value w word.Endinput rest = record { lines = refl; size = refl; file = refl; rows = omega arith }
-stays_chosen value w word.Pragma rest = stays_pragma value w (pragma rest).rest (pragma rest).setting
+stays_chosen value w word.Assert rest =
+    stays_then w (condition_of value w rest) (λ v. if is_zero v then Err 5 else Ok w)
+    (λ v. stays_if w (is_zero v) (Err 5) (Ok w) tt (same w))
+stays_chosen value w word.Endinput rest =
+    record { lines = refl; size = refl; file = refl; rows = omega arith }
+stays_chosen value w word.Pragma rest =
+    stays_pragma value w (pragma rest).rest (pragma rest).setting
 stays_chosen value w word.Unknown rest = tt
 
-stays_if_chosen : (value : Value) (w : Work) (d : Word) (rest : List ℕ) → Stays w (if_chosen value w d rest)
+stays_if_chosen : (value : Value) (w : Work) (d : Word) (rest : List ℕ)
+    → Stays w (if_chosen value w d rest)
 unfolding Stays
-stays_if_chosen value w d rest = stays_if w (is_in_chosen w) _ _ (stays_chosen value w d rest) (same w)
+stays_if_chosen value w d rest =
+    stays_if w (is_in_chosen w) _ _ (stays_chosen value w d rest) (same w)
 
 stays : (value : Value) (w : Work) (d : Word) (rest : List ℕ) → Stays w (act value w d rest)
 unfolding act begin_if turn_elseif turn_else end_if Stays
-stays value w word.If rest = stays_if w (is_in_chosen w) (proceed (condition_of value w rest) (λ v. Ok (push w (part_of v)))) (Ok (push w Done)) (stays_then w (condition_of value w rest) (λ v. Ok (push w (part_of v))) (λ v. record { lines = refl; size = refl; file = refl; rows = omega arith })) (record { lines = refl; size = refl; file = refl; rows = omega arith })
+stays value w word.If rest =
+    stays_if w (is_in_chosen w) (proceed (condition_of value w rest) (λ v. Ok (push w (part_of v))))
+    (Ok (push w Done)) (stays_then w (condition_of value w rest) (λ v. Ok (push w (part_of v)))
+    (λ v. record { lines = refl; size = refl; file = refl; rows = omega arith }))
+    (record { lines = refl; size = refl; file = refl; rows = omega arith })
 stays value w word.ElseIf rest = stays_elseif value w rest (first_of w.top.conditionals)
 stays value w word.Else rest = stays_else w (first_of w.top.conditionals)
 stays value w word.Endif rest = stays_end w (first_of w.top.conditionals)
@@ -134,12 +174,15 @@ sound_same files w new s h = record {
 }
 
 -- a directive keeps what is sound
-pub acted_sound : (files : ℕ) (value : Value) (w new : Work) (d : Word) (rest : List ℕ) → act value w d rest ≡ Ok new → IsSound files w → IsSound files new
+pub acted_sound : (files : ℕ) (value : Value) (w new : Work) (d : Word) (rest : List ℕ)
+    → act value w d rest ≡ Ok new → IsSound files w → IsSound files new
 unfolding Stays
-acted_sound files value w new d rest e h = sound_same files w new (subst (λ r. Stays w r) e (stays value w d rest)) h
+acted_sound files value w new d rest e h =
+    sound_same files w new (subst (λ r. Stays w r) e (stays value w d rest)) h
 
 -- and leaves no more lines
-pub acted_rows : (value : Value) (w new : Work) (d : Word) (rest : List ℕ) → act value w d rest ≡ Ok new → length new.top.rows ≤ length w.top.rows
+pub acted_rows : (value : Value) (w new : Work) (d : Word) (rest : List ℕ)
+    → act value w d rest ≡ Ok new → length new.top.rows ≤ length w.top.rows
 unfolding Stays
 acted_rows value w new d rest e = (subst (λ r. Stays w r) e (stays value w d rest)).rows
 
@@ -150,7 +193,8 @@ All-single : {A : Type 0} (P : A → Type 0) (x : A) → P x → All P (x ∷ []
 All-single P x p zero d h = p
 All-single P x p (suc k) d h = absurd (omega arith)
 
-All-push : {A : Type 0} (P : A → Type 0) (xs : List A) (x : A) → All P xs → P x → All P (xs ++ x ∷ [])
+All-push : {A : Type 0} (P : A → Type 0) (xs : List A) (x : A) → All P xs → P x
+    → All P (xs ++ x ∷ [])
 All-push P xs x h k = All-append P xs (x ∷ []) h (All-single P x k)
 
 All-cons : {A : Type 0} (P : A → Type 0) (xs : List A) (x : A) → P x → All P xs → All P (x ∷ xs)
@@ -162,70 +206,101 @@ All-rest P xs x h k d l = h (suc k) d (omega arith)
 All-first : {A : Type 0} (P : A → Type 0) (xs : List A) (x : A) → All P (x ∷ xs) → P x
 All-first P xs x h = h 0 x (omega arith)
 
-pub bytes_of-push : (lines : List Line) (line : Line) → bytes_of (lines ++ line ∷ []) ≡ bytes_of lines + length line.bytes
-bytes_of-push lines line = sum_by-append (λ (l : Line). length l.bytes) lines (line ∷ []) ∙ omega arith
+pub bytes_of-push : (lines : List Line) (line : Line)
+    → bytes_of (lines ++ line ∷ []) ≡ bytes_of lines + length line.bytes
+bytes_of-push lines line =
+    sum_by-append (λ (l : Line). length l.bytes) lines (line ∷ []) ∙ omega arith
 
 -- a line more keeps what is sound
 IfSound : ℕ → Result Work ℕ → Type 0
 IfSound files (Ok new) = IsSound files new
 IfSound files (Err kind) = Unit {0}
 
-line_sound : (files : ℕ) (w : Work) (number : ℕ) (bytes : List ℕ) → IsSound files w → (t : Bool) → ltb 1048576 (w.size + length bytes) ≡ t →
-    IfSound files (cond t (Err 10) (Ok (record w { lines = w.lines ++ line_of w number bytes ∷ []; size = w.size + length bytes })))
+line_sound : (files : ℕ) (w : Work) (number : ℕ) (bytes : List ℕ) → IsSound files w → (t : Bool)
+    → ltb MOST_BYTES (w.size + length bytes) ≡ t →
+    IfSound files (cond t (Err 10)
+    (Ok (record w {
+      lines = w.lines ++ line_of w number bytes ∷ [];
+      size = w.size + length bytes;
+    })))
 unfolding IfSound
 line_sound files w number bytes h true e = tt
 line_sound files w number bytes h false e = record {
-  counted = ap (λ n. n + length bytes) h.counted ∙ sym (bytes_of-push w.lines (line_of w number bytes));
-  small = ltb-false 1048576 (w.size + length bytes) e;
-  placed = All-push (λ (line : Line). line.place.file < files) w.lines (line_of w number bytes) h.placed h.named;
+  counted =
+      ap (λ n. n + length bytes) h.counted ∙ sym (bytes_of-push w.lines (line_of w number bytes));
+  small = ltb-false MOST_BYTES (w.size + length bytes) e;
+  placed =
+      All-push (λ (line : Line). line.place.file < files) w.lines
+      (line_of w number bytes) h.placed h.named;
   named = h.named;
 }
 
-kept_by : (files : ℕ) (w : Work) (number : ℕ) (r : Result (List ℕ) ℕ) → IsSound files w → IfSound files (proceed r (λ line. with_line w number line))
+kept_by : (files : ℕ) (w : Work) (number : ℕ) (r : Result (List ℕ) ℕ) → IsSound files w
+    → IfSound files (proceed r (λ line. with_line w number line))
 unfolding IfSound
 kept_by files w number (Ok line) h = line_sound files w number line h _ refl
 kept_by files w number (Err kind) h = tt
 
-kept_if : (files : ℕ) (t : Bool) (a b : Result Work ℕ) → IfSound files a → IfSound files b → IfSound files (cond t a b)
+kept_if : (files : ℕ) (t : Bool) (a b : Result Work ℕ) → IfSound files a → IfSound files b
+    → IfSound files (cond t a b)
 kept_if files true a b h k = h
 kept_if files false a b h k = k
 
-pub kept_sound : (files : ℕ) (w new : Work) (number : ℕ) (bytes : List ℕ) → keep w number bytes ≡ Ok new → IsSound files w → IsSound files new
+pub kept_sound : (files : ℕ) (w new : Work) (number : ℕ) (bytes : List ℕ)
+    → keep w number bytes ≡ Ok new → IsSound files w → IsSound files new
 unfolding keep IfSound
 kept_sound files w new number bytes e h =
     subst (λ r. IfSound files r) e
-    (kept_if files (is_in_chosen w) _ _ (kept_by files w number (expanded w.rules w.settings.control bytes) h) h)
+    (kept_if files (is_in_chosen w) _ _
+    (kept_by files w number (expanded w.rules w.settings.control bytes) h) h)
 
 -- another innermost file of those begun
-pub top_sound : (files : ℕ) (w : Work) (top : Level) → IsSound files w → top.file < files → IsSound files (record w { top = top })
-top_sound files w top h k = record { counted = h.counted; small = h.small; placed = h.placed; named = k }
+pub top_sound : (files : ℕ) (w : Work) (top : Level) → IsSound files w → top.file < files
+    → IsSound files (record w { top = top })
+top_sound files w top h k =
+    record { counted = h.counted; small = h.small; placed = h.placed; named = k }
 
 pub bounded : (p : Stack) → IsSoundStack p → IsBounded (lines_of p)
-bounded p h = record { small = let e = h.work.counted in omega (arith, h.work.small); placed = h.work.placed }
+bounded p h =
+    record { small = let e = h.work.counted in omega (arith, h.work.small); placed = h.work.placed }
 
-pub entered_sound : (p : Stack) (name bytes : List ℕ) → IsSoundStack p → IsSoundStack (entered p name bytes)
+pub entered_sound : (p : Stack) (name bytes : List ℕ) → IsSoundStack p
+    → IsSoundStack (entered p name bytes)
 entered_sound p name bytes h =
-    let longer : (n : ℕ) → n < length p.names → n < length (p.names ++ name ∷ []) = λ n k. omega (arith, k, length-append p.names (name ∷ [])) in
+    let longer : (n : ℕ) → n < length p.names → n < length (p.names ++ name ∷ []) =
+    λ n k. omega (arith, k, length-append p.names (name ∷ [])) in
     record {
       work = record {
         counted = h.work.counted;
         small = h.work.small;
-        placed = All-weaker (λ (line : Line). line.place.file < length p.names) (λ (line : Line). line.place.file < length (p.names ++ name ∷ []))
+        placed =
+            All-weaker (λ (line : Line). line.place.file < length p.names)
+            (λ (line : Line). line.place.file < length (p.names ++ name ∷ []))
             (λ line k. longer line.place.file k) p.work.lines h.work.placed;
         named = omega (arith, length-append p.names (name ∷ []));
       };
-      below = All-cons (λ (file : Level). file.file < length (p.names ++ name ∷ [])) p.below p.work.top (longer p.work.top.file h.work.named)
-          (All-weaker (λ (file : Level). file.file < length p.names) (λ (file : Level). file.file < length (p.names ++ name ∷ []))
+      below =
+          All-cons (λ (file : Level). file.file < length (p.names ++ name ∷ [])) p.below p.work.top
+          (longer p.work.top.file h.work.named)
+          (All-weaker (λ (file : Level). file.file < length p.names)
+          (λ (file : Level). file.file < length (p.names ++ name ∷ []))
           (λ file k. longer file.file k) p.below h.below);
     }
 
 pub first_sound : (name : List ℕ) (bytes : List ℕ) → IsSoundStack (first_stack name bytes)
 first_sound name bytes = record {
-  work = record { counted = refl; small = omega arith; placed = All-none (λ (line : Line). line.place.file < 1); named = omega arith };
+  work =
+      record {
+        counted = refl;
+        small = omega arith;
+        placed = All-none (λ (line : Line). line.place.file < 1);
+        named = omega arith;
+      };
   below = All-none (λ (file : Level). file.file < 1);
 }
 
-pub next_sound : (p : Stack) (file : Level) (rest : List Level) → p.below ≡ file ∷ rest → IsSoundStack p →
+pub next_sound : (p : Stack) (file : Level) (rest : List Level) → p.below ≡ file ∷ rest
+    → IsSoundStack p →
     IsSoundStack (record { names = p.names; below = rest; work = record p.work { top = file } })
 next_sound p file rest e h =
     let P : Level → Type 0 = λ f. f.file < length p.names in
@@ -235,26 +310,39 @@ next_sound p file rest e h =
       below = All-rest P rest file all;
     }
 
-pub work_sound : (p : Stack) (w : Work) → IsSoundStack p → IsSound (length p.names) w → IsSoundStack (record p { work = w })
+pub work_sound : (p : Stack) (w : Work) → IsSoundStack p → IsSound (length p.names) w
+    → IsSoundStack (record p { work = w })
 work_sound p w h k = record { work = k; below = h.below }
 
 -- what a line's work leaves
-pub told_leaves : (p new : Stack) (place : Place) (done : Result (Unit {0}) Refusal) (result : Result Bool PreFault) →
+pub told_leaves : (p new : Stack) (place : Place) (done : Result (Unit {0}) Refusal)
+    (result : Result Bool PreFault) →
     IsTold p place done result → IfOk done (λ d. IsSoundStack new) → Leaves result new
 told_leaves p new place (Ok d) result e h = subst (λ r. Leaves r new) (sym e) h
 told_leaves p new place (Err (refusal.Fault kind)) (Ok b) e h = absurd e
 told_leaves p new place (Err (refusal.Fault kind)) (Err r) e h = tt
 told_leaves p new place (Err refusal.Memory) result e h = subst (λ r. Leaves r new) (sym e) tt
 
-pub row_sound : (p : Stack) (top : Level) → top.file ≡ p.work.top.file → IsSoundStack p → IsSoundStack (record p { work = record p.work { top = top } })
-row_sound p top e h = record { work = top_sound (length p.names) p.work top h.work (omega (arith, h.work.named)); below = h.below }
+pub row_sound : (p : Stack) (top : Level) → top.file ≡ p.work.top.file → IsSoundStack p
+    → IsSoundStack (record p { work = record p.work { top = top } })
+row_sound p top e h =
+    record {
+      work = top_sound (length p.names) p.work top h.work (omega (arith, h.work.named));
+      below = h.below;
+    }
 
-pub kept_page : (p : Stack) (new : Work) (number : ℕ) (bytes : List ℕ) (done : Result (Unit {0}) Refusal) → IsSoundStack p →
-    Acted (keep p.work number bytes) done new → IfOk done (λ d. IsSoundStack (record p { work = new }))
-kept_page p new number bytes (Ok d) h e = work_sound p new h (kept_sound (length p.names) p.work new number bytes e h.work)
+pub kept_page : (p : Stack) (new : Work) (number : ℕ) (bytes : List ℕ)
+    (done : Result (Unit {0}) Refusal) → IsSoundStack p →
+    Acted (keep p.work number bytes) done new
+    → IfOk done (λ d. IsSoundStack (record p { work = new }))
+kept_page p new number bytes (Ok d) h e =
+    work_sound p new h (kept_sound (length p.names) p.work new number bytes e h.work)
 kept_page p new number bytes (Err r) h e = tt
 
-pub acted_page : (p : Stack) (new : Work) (value : Value) (w : Word) (rest : List ℕ) (done : Result (Unit {0}) Refusal) → IsSoundStack p →
-    Acted (act value p.work w rest) done new → IfOk done (λ d. IsSoundStack (record p { work = new }))
-acted_page p new value w rest (Ok d) h e = work_sound p new h (acted_sound (length p.names) value p.work new w rest e h.work)
+pub acted_page : (p : Stack) (new : Work) (value : Value) (w : Word) (rest : List ℕ)
+    (done : Result (Unit {0}) Refusal) → IsSoundStack p →
+    Acted (act value p.work w rest) done new
+    → IfOk done (λ d. IsSoundStack (record p { work = new }))
+acted_page p new value w rest (Ok d) h e =
+    work_sound p new h (acted_sound (length p.names) value p.work new w rest e h.work)
 acted_page p new value w rest (Err r) h e = tt

@@ -68,7 +68,8 @@ shown marks mode outer top below = record {
 
 -- the open lines
 abbrev pub lines_in : Level → List Open → List Open
-lines_in file rest = lines_of_rows file.file file.rows (End (place file.file file.last) file.unclosed ∷ rest)
+lines_in file rest =
+    lines_of_rows file.file file.rows (End (place file.file file.last) file.unclosed ∷ rest)
 
 unfoldable pub lines_below : List Level → List Open
 lines_below [] = []
@@ -87,7 +88,8 @@ Covers (outer ∷ lower) [] = ⊥
 -- the turn that is on its way
 abbrev pub dropped_by : Way → List Mark → Partner → Turn
 dropped_by Waits marks found = dropped_if marks found
-dropped_by (Passes past) marks found = if past then dropped_else marks found else dropped_elseif marks found
+dropped_by (Passes past) marks found =
+    if past then dropped_else marks found else dropped_elseif marks found
 
 abbrev pub pending : Value → Held → Mode → List Mark → List Open → Turn
 pending value map Reads marks rest = turn value map marks rest
@@ -104,7 +106,8 @@ pub record Follows (value : Value) (map : Held) (s : Stack) (t : Turn) : Type 0 
   pub shows : s ≡ shown marks mode outer top below
   pub opens : conditionals marks ≡ marked mode outer ∷ lower
   pub covers : Covers lower below
-  pub leads : (o : Outcome) → EndsBy value map (pending value map mode marks (lines_open top below)) o → EndsBy value map t o
+  pub leads : (o : Outcome) → EndsBy value map (pending value map mode marks (lines_open top below))
+      o → EndsBy value map t o
 
 -- a step mirrors a turn
 abbrev pub Mirrors : Value → Held → Turned → Turn → Type 0

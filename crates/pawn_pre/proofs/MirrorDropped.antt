@@ -7,7 +7,8 @@ use Rattle.pawn_cells.specs.declared.place.Place.{Place}
 use Rattle.pawn_pre.specs.declared.directive.Word.{Word}
 use Rattle.pawn_pre.specs.declared.directive.Word.TheVariants as word
 use Rattle.pawn_pre.specs.declared.work.Work.{Work}
-use Rattle.pawn_pre.specs.Work.{act, keep, begin_if, turn_elseif, turn_else, end_if, elseif_by, else_by, end_by, is_in_chosen, replaced, conditional, part_of}
+use Rattle.pawn_pre.specs.Work.{act, keep, begin_if, turn_elseif, turn_else, end_if, elseif_by}
+use Rattle.pawn_pre.specs.Work.{else_by, end_by, is_in_chosen, replaced, conditional, part_of}
 use Rattle.pawn_pre.specs.Conditionals.{if_by}
 use Rattle.pawn_pre.specs.Lists.{first_of}
 use Rattle.pawn_pre.specs.Marks.{Mark, Opens, Closes, begun, kept, rules, settings, conditionals}
@@ -19,24 +20,28 @@ use Rattle.pawn_pre.specs.Turn.{Turn, Goes, fault}
 use Rattle.pawn_macro.specs.Evaluation.{Value}
 use Rattle.pawn_pre.specs.Walk as walks
 use Rattle.pawn_pre.specs.Walk.{Turned, On, Stopped, worked}
-use Rattle.pawn_pre.proofs.Mirror.{Way, Waits, Passes, Drops, Covers, Follows, Mirrors, chosen, passed, part_by, marked_by, shown, dropped_by, lines_open}
+use Rattle.pawn_pre.proofs.Mirror.{Way, Waits, Passes, Drops, Covers, Follows, Mirrors, chosen}
+use Rattle.pawn_pre.proofs.Mirror.{passed, part_by, marked_by, shown, dropped_by, lines_open}
 use Rattle.pawn_pre.proofs.MirrorKept.{fails, by_result, reads_on}
 use Rattle.pawn_pre.proofs.MirrorParts.{opened_by}
 use Rattle.pawn_pre.proofs.PageLaws.{started}
 
-not_chosen : (way : Way) (inner outer : List Bool) → is_chosen (first_of (passed inner (part_by way ∷ chosen outer))) ≡ false
+not_chosen : (way : Way) (inner outer : List Bool)
+    → is_chosen (first_of (passed inner (part_by way ∷ chosen outer))) ≡ false
 unfolding passed
 not_chosen Waits [] outer = refl
 not_chosen (Passes past) [] outer = refl
 not_chosen way (past ∷ inner) outer = refl
 
-lacks : (way : Way) (marks : List Mark) (kind : ℕ) (at : Place) → dropped_by way marks (Lacks kind at) ≡ fault marks at kind
+lacks : (way : Way) (marks : List Mark) (kind : ℕ) (at : Place)
+    → dropped_by way marks (Lacks kind at) ≡ fault marks at kind
 lacks Waits marks kind at = refl
 lacks (Passes true) marks kind at = refl
 lacks (Passes false) marks kind at = refl
 
 -- a turn that goes on is followed where the next turn is
-turned_on : (value : Value) (map : Held) (turned : Turned) (marks : List Mark) (rest : List Open) → Mirrors value map turned (turn value map marks rest) →
+turned_on : (value : Value) (map : Held) (turned : Turned) (marks : List Mark) (rest : List Open)
+    → Mirrors value map turned (turn value map marks rest) →
     Mirrors value map turned (Goes marks rest)
 turned_on value map (On s) marks rest f = record {
   marks = f.marks;
@@ -52,11 +57,13 @@ turned_on value map (On s) marks rest f = record {
 }
 turned_on value map (Stopped outcome) marks rest e = started value map marks rest outcome e
 
-module _ (value : Value) (map : Held) (marks : List Mark) (lower : List (List Bool)) (top : Level) (below : List Level) (covers : Covers lower below) (number : ℕ)
+module _ (value : Value) (map : Held) (marks : List Mark) (lower : List (List Bool)) (top : Level)
+    (below : List Level) (covers : Covers lower below) (number : ℕ)
     (outer : List Bool) where
   -- on the way, the same turn
   stays : (way : Way) (inner : List Bool) → conditionals marks ≡ marked_by way outer ∷ lower →
-      Follows value map (shown marks (Drops way inner) outer top below) (dropped_by way marks (partner inner (lines_open top below)))
+      Follows value map (shown marks (Drops way inner) outer top below)
+      (dropped_by way marks (partner inner (lines_open top below)))
   stays way inner opens = record {
     marks = marks;
     mode = Drops way inner;
@@ -71,78 +78,113 @@ module _ (value : Value) (map : Held) (marks : List Mark) (lower : List (List Bo
   }
 
   -- what is done in chosen parts only
-  module _ (way : Way) (inner : List Bool) (opens : conditionals marks ≡ marked_by way outer ∷ lower) where
+  module _ (way : Way) (inner : List Bool)
+      (opens : conditionals marks ≡ marked_by way outer ∷ lower) where
     passed_over : (a : Result Work ℕ) →
         Mirrors value map (worked (shown marks (Drops way inner) outer top below) number
-        (cond (is_in_chosen (shown marks (Drops way inner) outer top below).work) a (Ok (shown marks (Drops way inner) outer top below).work)))
+        (cond (is_in_chosen (shown marks (Drops way inner) outer top below).work) a
+        (Ok (shown marks (Drops way inner) outer top below).work)))
         (dropped_by way marks (partner inner (lines_open top below)))
-    passed_over a = fails (λ r. Mirrors value map (worked (shown marks (Drops way inner) outer top below) number r) (dropped_by way marks (partner inner (lines_open top below))))
+    passed_over a =
+        fails (λ r. Mirrors value map (worked (shown marks (Drops way inner) outer top below) number
+        r) (dropped_by way marks (partner inner (lines_open top below))))
         _ a _ (not_chosen way inner outer) (stays way inner opens)
 
     pub drops_plain : (bytes : List ℕ) →
-        Mirrors value map (worked (shown marks (Drops way inner) outer top below) number (keep (shown marks (Drops way inner) outer top below).work number bytes))
-        (dropped_by way marks (partner inner (Line (place top.file number) (Plain bytes) ∷ lines_open top below)))
+        Mirrors value map (worked (shown marks (Drops way inner) outer top below) number
+        (keep (shown marks (Drops way inner) outer top below).work number bytes))
+        (dropped_by way marks (partner inner
+        (Line (place top.file number) (Plain bytes) ∷ lines_open top below)))
     unfolding keep partner
     drops_plain bytes = passed_over _
 
     include_passed : (optional : Bool) (bytes : List ℕ) →
-        Mirrors value map (walks.include map (shown marks (Drops way inner) outer top below) number optional bytes)
+        Mirrors value map (walks.include map (shown marks (Drops way inner) outer top below) number
+        optional bytes)
         (dropped_by way marks (partner inner (lines_open top below)))
     unfolding walks.include
-    include_passed optional bytes = fails (λ t. Mirrors value map t (dropped_by way marks (partner inner (lines_open top below))))
+    include_passed optional bytes =
+        fails (λ t. Mirrors value map t
+        (dropped_by way marks (partner inner (lines_open top below))))
         _ _ _ (not_chosen way inner outer) (stays way inner opens)
 
     drops_if : (bytes : List ℕ) →
-        Mirrors value map (worked (shown marks (Drops way inner) outer top below) number (act value (shown marks (Drops way inner) outer top below).work word.If bytes))
+        Mirrors value map (worked (shown marks (Drops way inner) outer top below) number
+        (act value (shown marks (Drops way inner) outer top below).work word.If bytes))
         (dropped_by way marks (partner (false ∷ inner) (lines_open top below)))
     unfolding act begin_if passed
-    drops_if bytes = fails (λ r. Mirrors value map (worked (shown marks (Drops way inner) outer top below) number r) (dropped_by way marks (partner (false ∷ inner) (lines_open top below))))
+    drops_if bytes =
+        fails (λ r. Mirrors value map (worked (shown marks (Drops way inner) outer top below) number
+        r) (dropped_by way marks (partner (false ∷ inner) (lines_open top below))))
         _ _ _ (not_chosen way inner outer) (stays way (false ∷ inner) opens)
 
   -- the partner's line
   dropped : Way → List Bool → Word → List ℕ → Turn
-  dropped way inner w bytes = dropped_by way marks (partner inner (Line (place top.file number) (Directs w bytes) ∷ lines_open top below))
+  dropped way inner w bytes =
+      dropped_by way marks (partner inner
+      (Line (place top.file number) (Directs w bytes) ∷ lines_open top below))
 
-  drops_elseif : (way : Way) (inner : List Bool) (opens : conditionals marks ≡ marked_by way outer ∷ lower) (bytes : List ℕ) →
+  drops_elseif : (way : Way) (inner : List Bool)
+      (opens : conditionals marks ≡ marked_by way outer ∷ lower) (bytes : List ℕ) →
       Mirrors value map (worked (shown marks (Drops way inner) outer top below) number
-      (elseif_by value (shown marks (Drops way inner) outer top below).work bytes (first_of (passed inner (part_by way ∷ chosen outer)))))
+      (elseif_by value (shown marks (Drops way inner) outer top below).work bytes
+      (first_of (passed inner (part_by way ∷ chosen outer)))))
       (dropped way inner word.ElseIf bytes)
   unfolding dropped partner passed chosen turn
   drops_elseif way (true ∷ inner) opens bytes = rw (lacks way marks 2 (place top.file number)) refl
   drops_elseif way (false ∷ inner) opens bytes = stays way (false ∷ inner) opens
-  drops_elseif Waits [] opens bytes = turned_on value map _ marks (Line (place top.file number) (Directs word.If bytes) ∷ lines_open top below)
-      (by_result value map marks lower top below covers number (Drops Waits []) outer (condition_at value marks bytes)
-      (λ v. Ok (replaced (shown marks (Drops Waits []) outer top below).work (conditional (part_of v) false)))
+  drops_elseif Waits [] opens bytes =
+      turned_on value map _ marks (Line (place top.file number) (Directs word.If bytes)
+      ∷ lines_open top below)
+      (by_result value map marks lower top below covers number (Drops Waits []) outer
+      (condition_at value marks bytes)
+      (λ v. Ok (replaced (shown marks (Drops Waits []) outer top below).work
+      (conditional (part_of v) false)))
       (λ v. if_by (not (is_zero v)) marks (lines_open top below))
       (λ v. opened_by value map marks lower top below covers number outer opens (is_zero v)))
   drops_elseif (Passes true) [] opens bytes = refl
-  drops_elseif (Passes false) [] opens bytes = turned_on value map (On (shown marks (Drops (Passes false) []) outer top below)) marks (Line (place top.file number) (Directs word.ElseIf bytes) ∷ lines_open top below)
+  drops_elseif (Passes false) [] opens bytes =
+      turned_on value map (On (shown marks (Drops (Passes false) []) outer top below)) marks
+      (Line (place top.file number) (Directs word.ElseIf bytes) ∷ lines_open top below)
       (rw opens (stays (Passes false) [] opens))
 
-  drops_else : (way : Way) (inner : List Bool) (opens : conditionals marks ≡ marked_by way outer ∷ lower) (bytes : List ℕ) →
+  drops_else : (way : Way) (inner : List Bool)
+      (opens : conditionals marks ≡ marked_by way outer ∷ lower) (bytes : List ℕ) →
       Mirrors value map (worked (shown marks (Drops way inner) outer top below) number
-      (else_by (shown marks (Drops way inner) outer top below).work (first_of (passed inner (part_by way ∷ chosen outer)))))
+      (else_by (shown marks (Drops way inner) outer top below).work
+      (first_of (passed inner (part_by way ∷ chosen outer)))))
       (dropped way inner word.Else bytes)
   unfolding dropped partner passed chosen turn begun kept rules settings conditionals
   drops_else way (true ∷ inner) opens bytes = rw (lacks way marks 2 (place top.file number)) refl
   drops_else way (false ∷ inner) opens bytes = stays way (true ∷ inner) opens
-  drops_else Waits [] opens bytes = reads_on value map marks lower top below covers number (Opens true ∷ marks) (true ∷ outer) (rw opens refl)
+  drops_else Waits [] opens bytes =
+      reads_on value map marks lower top below covers number (Opens true ∷ marks) (true ∷ outer)
+      (rw opens refl)
   drops_else (Passes true) [] opens bytes = refl
-  drops_else (Passes false) [] opens bytes = turned_on value map (On (shown marks (Drops (Passes true) []) outer top below)) marks (Line (place top.file number) (Directs word.Else bytes) ∷ lines_open top below)
+  drops_else (Passes false) [] opens bytes =
+      turned_on value map (On (shown marks (Drops (Passes true) []) outer top below)) marks
+      (Line (place top.file number) (Directs word.Else bytes) ∷ lines_open top below)
       (rw opens (stays (Passes true) [] opens))
 
-  drops_endif : (way : Way) (inner : List Bool) (opens : conditionals marks ≡ marked_by way outer ∷ lower) (bytes : List ℕ) →
+  drops_endif : (way : Way) (inner : List Bool)
+      (opens : conditionals marks ≡ marked_by way outer ∷ lower) (bytes : List ℕ) →
       Mirrors value map (worked (shown marks (Drops way inner) outer top below) number
-      (end_by (shown marks (Drops way inner) outer top below).work (first_of (passed inner (part_by way ∷ chosen outer)))))
+      (end_by (shown marks (Drops way inner) outer top below).work
+      (first_of (passed inner (part_by way ∷ chosen outer)))))
       (dropped way inner word.Endif bytes)
   unfolding dropped partner passed chosen begun kept rules settings conditionals
   drops_endif way (past ∷ inner) opens bytes = stays way inner opens
-  drops_endif Waits [] opens bytes = reads_on value map marks lower top below covers number marks outer opens
-  drops_endif (Passes true) [] opens bytes = reads_on value map marks lower top below covers number (Closes ∷ marks) outer (rw opens refl)
-  drops_endif (Passes false) [] opens bytes = reads_on value map marks lower top below covers number (Closes ∷ marks) outer (rw opens refl)
+  drops_endif Waits [] opens bytes =
+      reads_on value map marks lower top below covers number marks outer opens
+  drops_endif (Passes true) [] opens bytes =
+      reads_on value map marks lower top below covers number (Closes ∷ marks) outer (rw opens refl)
+  drops_endif (Passes false) [] opens bytes =
+      reads_on value map marks lower top below covers number (Closes ∷ marks) outer (rw opens refl)
 
-  pub drops : (way : Way) (inner : List Bool) (opens : conditionals marks ≡ marked_by way outer ∷ lower) (w : Word) (bytes : List ℕ) →
-      Mirrors value map (walks.direct value map (shown marks (Drops way inner) outer top below) number w bytes) (dropped_by way marks
+  pub drops : (way : Way) (inner : List Bool)
+      (opens : conditionals marks ≡ marked_by way outer ∷ lower) (w : Word) (bytes : List ℕ) →
+      Mirrors value map (walks.direct value map
+      (shown marks (Drops way inner) outer top below) number w bytes) (dropped_by way marks
       (partner inner (Line (place top.file number) (Directs w bytes) ∷ lines_open top below)))
   unfolding dropped act turn_elseif turn_else end_if partner
   drops way inner opens word.Define bytes = passed_over way inner opens _

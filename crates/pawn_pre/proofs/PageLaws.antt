@@ -1,5 +1,6 @@
 -- Turns of a page, one after another.
-use Rattle.std.proofs.Common.{◌≡◌, ℕ, zero, suc, List, [], ◌∷◌, Bool, true, false, Option, Some, None}
+use Rattle.std.proofs.Common.{◌≡◌, ℕ, zero, suc, List, [], ◌∷◌, Bool, true, false, Option, Some}
+use Rattle.std.proofs.Common.{None}
 use Rattle.std.proofs.Common.{refl, ap, sym, subst, ◌∙◌}
 use Rattle.std.specs.Bool.{MatchBool}
 use Rattle.std.specs.FinMap.{get}
@@ -20,13 +21,16 @@ EndsBy value map (Goes marks rest) o = Ends value map marks rest o
 EndsBy value map (Halts outcome) o = outcome ≡ o
 
 module _ (value : Value) (map : Held) where
-  started_by : (marks : List Mark) (rest : List Open) (o : Outcome) (t : Turn) → turn value map marks rest ≡ t → EndsBy value map t o → Ends value map marks rest o
+  started_by : (marks : List Mark) (rest : List Open) (o : Outcome) (t : Turn)
+      → turn value map marks rest ≡ t → EndsBy value map t o → Ends value map marks rest o
   unfolding run
-  started_by marks rest o (Goes next lines) e ends = record { turns = suc ends.turns; ends = rw e ends.ends }
+  started_by marks rest o (Goes next lines) e ends =
+      record { turns = suc ends.turns; ends = rw e ends.ends }
   started_by marks rest o (Halts outcome) e ends = record { turns = 1; ends = rw e (ap Some ends) }
 
   -- a turn, and what it comes to
-  pub started : (marks : List Mark) (rest : List Open) (o : Outcome) → EndsBy value map (turn value map marks rest) o → Ends value map marks rest o
+  pub started : (marks : List Mark) (rest : List Open) (o : Outcome)
+      → EndsBy value map (turn value map marks rest) o → Ends value map marks rest o
   started marks rest o ends = started_by marks rest o (turn value map marks rest) refl ends
 
 -- two runs that come to an end come to the same
@@ -38,7 +42,8 @@ one_turn : (value : Value) (map : Held) (m n : ℕ) (t : Turn) (a b : Outcome) �
 one_turn value map m n (Goes marks rest) a b x y same = same marks rest x y
 one_turn value map m n (Halts o) a b x y same = cc
 
-one_run : (value : Value) (map : Held) (m n : ℕ) (marks : List Mark) (rest : List Open) (a b : Outcome) →
+one_run : (value : Value) (map : Held) (m n : ℕ) (marks : List Mark) (rest : List Open)
+    (a b : Outcome) →
     run value map m marks rest ≡ Some a → run value map n marks rest ≡ Some b → a ≡ b
 unfolding run
 one_run value map zero n marks rest a b x y = cc
@@ -49,7 +54,8 @@ one_run value map (suc m) (suc n) marks rest a b x y =
 
 one_end : (value : Value) (map : Held) (marks : List Mark) (rest : List Open) (a b : Outcome) →
     Ends value map marks rest a → Ends value map marks rest b → a ≡ b
-one_end value map marks rest a b x y = one_run value map x.turns y.turns marks rest a b x.ends y.ends
+one_end value map marks rest a b x y =
+    one_run value map x.turns y.turns marks rest a b x.ends y.ends
 
 abbrev pub FirstEnds : Value → Held → List ℕ → List ℕ → Outcome → Type 0
 FirstEnds value map name bytes o =

@@ -10,7 +10,8 @@ use Rattle.pawn_pre.specs.Walk.{Stack, On, Stopped, step, run, Ends}
 
 module _ (value : Value) (map : Held) where
   -- a step that goes on
-  pub goes : (p q : Stack) (o : Outcome) → step value map p ≡ On q → Ends value map q o → Ends value map p o
+  pub goes : (p q : Stack) (o : Outcome) → step value map p ≡ On q → Ends value map q o
+      → Ends value map p o
   unfolding run
   goes p q o e ends = record { steps = suc ends.steps; ends = rw e ends.ends }
 
@@ -20,7 +21,8 @@ module _ (value : Value) (map : Held) where
   stops p o e = record { steps = 1; ends = rw e refl }
 
   -- a step that refuses, behind steps that lead there
-  pub blames : (first p new : Stack) (refused : PreFault) → ((o : Outcome) → Ends value map p o → Ends value map first o) →
+  pub blames : (first p new : Stack) (refused : PreFault)
+      → ((o : Outcome) → Ends value map p o → Ends value map first o) →
       Says (step value map p) (Err refused) new → EndsIn value map first (Err refused)
   blames first p new (fault.Source kind place file) leads e = leads _ (stops p _ e)
   blames first p new fault.NoSource leads e = e

@@ -3,6 +3,7 @@
 use Rattle.std.specs.Prelude.{ℕ, ◌+◌, nat_lt, List, ◌∷◌, length, if◌then◌else◌}
 use Rattle.pawn_cells.specs.declared.place.Place.{Place}
 use Rattle.pawn_pre.specs.declared.line.Line.{Line}
+use Rattle.pawn_pre.specs.declared.line.TheConstants.{MOST_BYTES}
 use Rattle.pawn_pre.specs.Bounds.{bytes_of}
 use Rattle.pawn_pre.specs.Marks.{Mark, Keeps, kept, rules, settings}
 use Rattle.pawn_pre.specs.OpenLines.{Open}
@@ -23,10 +24,10 @@ line_at marks at bytes = record {
 abbrev pub size : List Mark → ℕ
 size marks = bytes_of (kept marks)
 
--- fault 10 where that is more than 1,048,576
+-- fault 10 where that is more than all lines may have
 abbrev pub with_line : List Mark → Place → List ℕ → List Open → Turn
 with_line marks at bytes rest =
-    if nat_lt 1048576 (size marks + length bytes) then fault marks at 10
+    if nat_lt MOST_BYTES (size marks + length bytes) then fault marks at 10
     else Goes (Keeps (line_at marks at bytes) ∷ marks) rest
 
 -- a line is rewritten and kept

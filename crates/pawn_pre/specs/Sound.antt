@@ -1,6 +1,7 @@
 -- What holds of the walk's lines on the way, for the proof alone.
 use Rattle.std.specs.Prelude.{◌≡◌, ◌<◌, ◌≤◌, ℕ, length, All, Bool, true, false, Result, Ok, Err}
 use Rattle.pawn_pre.specs.declared.fault.PreFault.{PreFault}
+use Rattle.pawn_pre.specs.declared.line.TheConstants.{MOST_BYTES}
 use Rattle.pawn_pre.specs.declared.work.Work.{Work}
 use Rattle.pawn_pre.specs.Bounds.{bytes_of, ArePlaced, IsBounded}
 use Rattle.pawn_pre.specs.Level.{Level}
@@ -9,7 +10,7 @@ use Rattle.pawn_pre.specs.Walk.{Stack, lines_of}
 -- what holds of lines, of what is settled with so many files begun
 pub record IsSound (files : ℕ) (w : Work) : Type 0 where
   pub counted : w.size ≡ bytes_of w.lines
-  pub small : w.size ≤ 1048576
+  pub small : w.size ≤ MOST_BYTES
   pub placed : ArePlaced files w.lines
   pub named : w.top.file < files
 

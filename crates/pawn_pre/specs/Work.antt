@@ -4,6 +4,7 @@ use Rattle.std.specs.Prelude.{List, [], ◌∷◌, ◌++◌, length, Bool, true,
 use Rattle.std.specs.FinMap.{insert, remove, empty}
 use Rattle.pawn_cells.specs.Cells.{is_zero}
 use Rattle.pawn_pre.specs.declared.line.Line.{Line}
+use Rattle.pawn_pre.specs.declared.line.TheConstants.{MOST_BYTES}
 use Rattle.pawn_pre.specs.declared.state.Part.{Part}
 use Rattle.pawn_pre.specs.declared.state.Part.TheVariants.{Chosen, Waiting, Done}
 use Rattle.pawn_pre.specs.declared.state.Conditional.{Conditional}
@@ -60,10 +61,10 @@ line_of w number bytes = record {
   bytes = bytes;
 }
 
--- fault 10 where all lines together have more than 1,048,576 bytes
+-- fault 10 where all lines together have too many bytes
 abbrev pub with_line : Work → ℕ → List ℕ → Result Work ℕ
 with_line w number bytes =
-    if nat_lt 1048576 (w.size + length bytes) then Err 10
+    if nat_lt MOST_BYTES (w.size + length bytes) then Err 10
     else Ok (record w {
       lines = w.lines ++ line_of w number bytes ∷ [];
       size = w.size + length bytes;

@@ -12,5 +12,5 @@ mod walk;
 mod work;
 
 pub use fault::PreFault;
-pub use line::{Line, Lines};
+pub use line::{Line, Lines, MOST_BYTES};
 pub use source::preprocess;

@@ -1,6 +1,9 @@
 use pawn_base::{Bytes, List};
 use pawn_cells::Place;
 
+/// The most bytes that all lines of a source have together.
+pub const MOST_BYTES: u64 = 1_048_576;
+
 /// A line as the preprocessor leaves it, with the settings in force there.
 #[derive(Debug, Drop)]
 pub struct Line {

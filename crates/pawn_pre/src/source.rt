@@ -1,7 +1,7 @@
-ghost use Rattle.std.specs.Prelude.{◌≡◌, ◌≢◌, ◌≤◌, Some, IfOk};
+ghost use Rattle.std.specs.Prelude.{◌≡◌, ◌≢◌, Some, IfOk};
 ghost use Rattle.pawn_outside.specs.Held.{Held};
 ghost use Rattle.pawn_outside.specs.OnlyRead.{OnlyRead};
-ghost use Rattle.pawn_outside.specs.Rose.{Rose};
+ghost use Rattle.pawn_outside.specs.Rose.{risen};
 ghost use Rattle.pawn_condition.specs.ConditionMachine.{value_of};
 ghost use Rattle.pawn_pre.specs.Answers.{Answers};
 ghost use Rattle.pawn_pre.specs.Bounds.{IsBounded};
@@ -24,9 +24,10 @@ fn drive<F: Files>(alloc: Global, walk: Walk, files: &mut F) -> Result<Lines, Pr
 
     // The files were only read.
     ensures same { F.held files.new ≡ F.held files.old }
-    ensures later { F.faults files.old ≤ F.faults files.new }
+    ensures steady { result ≢ Err PreFault.Files →
+        F.faults files.new ≡ F.faults files.old }
     ensures cause { result ≡ Err PreFault.Files →
-        Rose (F.faults files.old) (F.faults files.new) }
+        F.faults files.new ≡ risen (F.faults files.old) }
     ensures unfailing { F.never_fails files.old →
         F.never_fails files.new × (result ≢ Err PreFault.Files) }
 {
@@ -53,9 +54,10 @@ fn read_lines<F: Files>(alloc: Global, name: &str, files: &mut F) -> Result<Line
 
     // The files were only read.
     ensures same { F.held files.new ≡ F.held files.old }
-    ensures later { F.faults files.old ≤ F.faults files.new }
+    ensures steady { result ≢ Err PreFault.Files →
+        F.faults files.new ≡ F.faults files.old }
     ensures cause { result ≡ Err PreFault.Files →
-        Rose (F.faults files.old) (F.faults files.new) }
+        F.faults files.new ≡ risen (F.faults files.old) }
     ensures unfailing { F.never_fails files.old →
         F.never_fails files.new × (result ≢ Err PreFault.Files) }
 {

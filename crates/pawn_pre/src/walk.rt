@@ -2,7 +2,7 @@ ghost use Rattle.std.specs.Prelude.{◌≡◌, ◌≢◌, ◌≤◌, ◌<◌, �
 ghost use Rattle.std.specs.Prelude.{OnOk, IfOk, IsTrue};
 ghost use Rattle.std.specs.Str.{IsAscii};
 ghost use Rattle.pawn_outside.specs.Held.{Held};
-ghost use Rattle.pawn_outside.specs.Rose.{Rose};
+ghost use Rattle.pawn_outside.specs.Rose.{risen};
 ghost use Rattle.pawn_outside.specs.Answers.{IsRead};
 ghost use Rattle.pawn_pre.specs.Walk as walks;
 ghost use Rattle.pawn_pre.specs.Outcome.{Fault, name_of};
@@ -70,9 +70,10 @@ fn read_named<F: Files>(alloc: Global, files: &mut F, name: &[u8]) -> ReadAnswer
     requires { IsAscii name.now }
     ensures same { F.held files.new ≡ F.held files.old }
     ensures answer { IsRead (F.held files.old) name.now 16777216 result }
-    ensures later { F.faults files.old ≤ F.faults files.new }
+    ensures steady { result ≢ ReadAnswer.Failed →
+        F.faults files.new ≡ F.faults files.old }
     ensures cause { result ≡ ReadAnswer.Failed →
-        Rose (F.faults files.old) (F.faults files.new) }
+        F.faults files.new ≡ risen (F.faults files.old) }
     ensures unfailing { F.never_fails files.old →
         F.never_fails files.new × (result ≢ ReadAnswer.Failed) }
 {
@@ -208,9 +209,10 @@ impl Walk {
             Says (walks.asked map self.old line optional named) result self.new }
         ensures falls { FallsBelow (remaining self.old + 1) result self.new }
         ensures bounds { IsSoundStack self.old → Leaves result self.new }
-        ensures later { F.faults files.old ≤ F.faults files.new }
+        ensures steady { result ≢ Err PreFault.Files →
+            F.faults files.new ≡ F.faults files.old }
         ensures cause { result ≡ Err PreFault.Files →
-            Rose (F.faults files.old) (F.faults files.new) }
+            F.faults files.new ≡ risen (F.faults files.old) }
         ensures unfailing { F.never_fails files.old →
             F.never_fails files.new × (result ≢ Err PreFault.Files) }
     {
@@ -252,9 +254,10 @@ impl Walk {
             Says (walks.include map self.old line optional rest.now) result self.new }
         ensures falls { FallsBelow (remaining self.old + 1) result self.new }
         ensures bounds { IsSoundStack self.old → Leaves result self.new }
-        ensures later { F.faults files.old ≤ F.faults files.new }
+        ensures steady { result ≢ Err PreFault.Files →
+            F.faults files.new ≡ F.faults files.old }
         ensures cause { result ≡ Err PreFault.Files →
-            Rose (F.faults files.old) (F.faults files.new) }
+            F.faults files.new ≡ risen (F.faults files.old) }
         ensures unfailing { F.never_fails files.old →
             F.never_fails files.new × (result ≢ Err PreFault.Files) }
     {
@@ -297,9 +300,10 @@ impl Walk {
             Says (walks.step value_of map self.old) result self.new }
         ensures falls { FallsBelow (remaining self.old) result self.new }
         ensures bounds { IsSoundStack self.old → Leaves result self.new }
-        ensures later { F.faults files.old ≤ F.faults files.new }
+        ensures steady { result ≢ Err PreFault.Files →
+            F.faults files.new ≡ F.faults files.old }
         ensures cause { result ≡ Err PreFault.Files →
-            Rose (F.faults files.old) (F.faults files.new) }
+            F.faults files.new ≡ risen (F.faults files.old) }
         ensures unfailing { F.never_fails files.old →
             F.never_fails files.new × (result ≢ Err PreFault.Files) }
     {

@@ -6,16 +6,13 @@ ghost use Rattle.pawn_condition.specs.ConditionMachine.{value_of};
 
 use super::directive::{Setting, Word, pragma, quoted_byte};
 use super::level::Level;
-use super::line::Line;
+use super::line::{Line, MOST_BYTES};
 use super::state::{Conditional, Part, Settings};
 use pawn_base::{Bytes, List, Memory};
 use pawn_cells::Place;
 use pawn_lines::past_blanks;
 use pawn_macro::{Refusal, Table, read_definition, undefined};
 use std::alloc::Global;
-
-/// The most bytes that all lines have together.
-const MOST_BYTES: u64 = 1_048_576;
 
 /// What the lines of the innermost open file work on.
 #[derive(Drop)]

@@ -3,7 +3,8 @@ use Rattle.std.proofs.Common.{◌≤◌, ◌<◌, ◌+◌, ◌*◌, ℕ, List, [
 use Rattle.std.specs.Char.{digit_value}
 use Rattle.std.specs.Str.Parse.{digits_value_after}
 
-pub value_grows : (radix n : ℕ) (digits : List ℕ) → 0 < radix → n ≤ digits_value_after radix n digits
+pub value_grows : (radix n : ℕ) (digits : List ℕ) → 0 < radix
+    → n ≤ digits_value_after radix n digits
 value_grows radix n [] positive = omega arith
 value_grows radix n (digit ∷ digits) positive =
     let first = mul-le-mul_left n positive in

@@ -1,5 +1,8 @@
--- Signs: no two are spelled alike, and the first of the table that stands at a place is the longest.
-use Rattle.std.proofs.Common.{◌≡◌, ◌<◌, ◌≤◌, ◌⊎◌, inl, inr, ℕ, List, [], ◌∷◌, ◌++◌, Bool, true, false, ◌&&◌, Some, None, cond, length, drop, refl, sym, ap, subst, ◌∙◌, arith, nat_eq, nat_le}
+-- Signs: no two are spelled alike, and the first of the table that stands at a place is the
+-- longest.
+use Rattle.std.proofs.Common.{◌≡◌, ◌<◌, ◌≤◌, ◌⊎◌, inl, inr, ℕ, List, [], ◌∷◌, ◌++◌, Bool, true}
+use Rattle.std.proofs.Common.{false, ◌&&◌, Some, None, cond, length, drop, refl, sym, ap, subst}
+use Rattle.std.proofs.Common.{◌∙◌, arith, nat_eq, nat_le}
 use Rattle.std.specs.List.{find, list_all, starts_with}
 use Rattle.std.proofs.lemmas.Bool.Decides.{Decides-eqb, nat_tests}
 use Rattle.std.proofs.lemmas.Slice.Eq.{starts_is}
@@ -63,7 +66,8 @@ sign_found sign.Exclamation = refl
 sign_found sign.Tilde = refl
 
 -- a sign has a byte at least
-some_if_found : (sign : Sign) (spelling : List ℕ) → sign_at spelling ≡ Some sign → 0 < length spelling
+some_if_found : (sign : Sign) (spelling : List ℕ) → sign_at spelling ≡ Some sign
+    → 0 < length spelling
 unfolding sign_at sign_spelling
 some_if_found sign [] e = absurd (cc)
 some_if_found sign (byte ∷ spelling) e = omega arith
@@ -80,11 +84,15 @@ sign_one a b e =
 abbrev pub stands : List ℕ → Sign → Bool
 stands bytes sign = starts_with nat_eq bytes (sign_spelling sign)
 
-pub stands_parts : (bytes : List ℕ) (sign : Sign) → stands bytes sign ≡ true → bytes ≡ sign_spelling sign ++ drop (length (sign_spelling sign)) bytes
-stands_parts bytes sign h = (starts_is Decides-eqb bytes (sign_spelling sign) (stands bytes sign) refl).0 h
+pub stands_parts : (bytes : List ℕ) (sign : Sign) → stands bytes sign ≡ true
+    → bytes ≡ sign_spelling sign ++ drop (length (sign_spelling sign)) bytes
+stands_parts bytes sign h =
+    (starts_is Decides-eqb bytes (sign_spelling sign) (stands bytes sign) refl).0 h
 
-parts_stand : (bytes : List ℕ) (sign : Sign) (rest : List ℕ) → bytes ≡ sign_spelling sign ++ rest → stands bytes sign ≡ true
-parts_stand bytes sign rest e = (starts_is Decides-eqb bytes (sign_spelling sign) (stands bytes sign) refl).1 rest e
+parts_stand : (bytes : List ℕ) (sign : Sign) (rest : List ℕ) → bytes ≡ sign_spelling sign ++ rest
+    → stands bytes sign ≡ true
+parts_stand bytes sign rest e =
+    (starts_is Decides-eqb bytes (sign_spelling sign) (stands bytes sign) refl).1 rest e
 
 -- no sign of a list is spelled longer than so
 is_bounded : ℕ → List Sign → Bool
@@ -100,17 +108,20 @@ unfolding falls is_bounded sign_spelling
 signs_fall = refl
 
 -- what is found is the first element or stands behind it
-find_step : (p : Sign → Bool) (first : Sign) (signs : List Sign) (found : Sign) → find p (first ∷ signs) ≡ Some found
+find_step : (p : Sign → Bool) (first : Sign) (signs : List Sign) (found : Sign)
+    → find p (first ∷ signs) ≡ Some found
     → ((p first ≡ true) × (found ≡ first)) ⊎ ((p first ≡ false) × (find p signs ≡ Some found))
 find_step p first signs found e =
     elim (bool_cases (p first)) [
       | inl passes ↦
-          let here : Some first ≡ Some found = sym (ap (λ b. cond b (Some first) (find p signs)) passes) ∙ e in
+          let here : Some first ≡ Some found =
+          sym (ap (λ b. cond b (Some first) (find p signs)) passes) ∙ e in
           inl (passes, cc)
       | inr fails ↦ inr (fails, sym (ap (λ b. cond b (Some first) (find p signs)) fails) ∙ e)
     ]
 
-find_passes : (p : Sign → Bool) (signs : List Sign) (found : Sign) → find p signs ≡ Some found → p found ≡ true
+find_passes : (p : Sign → Bool) (signs : List Sign) (found : Sign) → find p signs ≡ Some found
+    → p found ≡ true
 find_passes p [] found e = absurd (cc)
 find_passes p (first ∷ signs) found e =
     elim (find_step p first signs found e) [
@@ -118,7 +129,8 @@ find_passes p (first ∷ signs) found e =
       | inr (fails, later) ↦ find_passes p signs found later
     ]
 
-found_bounded : (p : Sign → Bool) (n : ℕ) (signs : List Sign) (found : Sign) → is_bounded n signs ≡ true → find p signs ≡ Some found
+found_bounded : (p : Sign → Bool) (n : ℕ) (signs : List Sign) (found : Sign)
+    → is_bounded n signs ≡ true → find p signs ≡ Some found
     → length (sign_spelling found) ≤ n
 unfolding is_bounded
 found_bounded p n [] found bounded e = absurd (cc)
@@ -132,8 +144,10 @@ found_bounded p n (first ∷ signs) found bounded e =
     ]
 
 -- the first that passes one test is as long as each that passes it
-found_longest : (p q : Sign → Bool) (signs : List Sign) (found other : Sign) → falls signs ≡ true → find q signs ≡ Some found
-    → find p signs ≡ Some other → q other ≡ true → length (sign_spelling other) ≤ length (sign_spelling found)
+found_longest : (p q : Sign → Bool) (signs : List Sign) (found other : Sign) → falls signs ≡ true
+    → find q signs ≡ Some found
+    → find p signs ≡ Some other → q other ≡ true
+    → length (sign_spelling other) ≤ length (sign_spelling found)
 unfolding falls
 found_longest p q [] found other fall e f passes = absurd (cc)
 found_longest p q (first ∷ signs) found other fall e f passes =
@@ -142,27 +156,33 @@ found_longest p q (first ∷ signs) found other fall e f passes =
       | inl (here, is) ↦
           subst (λ sign. length (sign_spelling other) ≤ length (sign_spelling sign)) (sym is)
           (elim (find_step p first signs other f) [
-            | inl (also, same) ↦ subst (λ sign. length (sign_spelling sign) ≤ length (sign_spelling first)) (sym same) (omega arith)
-            | inr (fails, later) ↦ found_bounded p (length (sign_spelling first)) signs other parts.0 later
+            | inl (also, same) ↦ subst (λ sign. length (sign_spelling sign)
+                ≤ length (sign_spelling first)) (sym same) (omega arith)
+            | inr (fails, later) ↦ found_bounded p
+                (length (sign_spelling first)) signs other parts.0 later
           ])
       | inr (not_here, later) ↦
           elim (find_step p first signs other f) [
             | inl (also, same) ↦
                 let wrong : q first ≡ true = ap q (sym same) ∙ passes in
                 absurd (cc)
-            | inr (fails, further) ↦ found_longest p q signs found other parts.1 later further passes
+            | inr (fails, further) ↦ found_longest p q signs found other parts.1 later
+                further passes
           ]
     ]
 
-none_passes : (p q : Sign → Bool) (signs : List Sign) (other : Sign) → find q signs ≡ None → find p signs ≡ Some other → q other ≡ true → ⊥
+none_passes : (p q : Sign → Bool) (signs : List Sign) (other : Sign) → find q signs ≡ None
+    → find p signs ≡ Some other → q other ≡ true → ⊥
 none_passes p q [] other e f passes = absurd (cc)
 none_passes p q (first ∷ signs) other e f passes =
     elim (bool_cases (q first)) [
       | inl here ↦
-          let wrong : Some first ≡ None = sym (ap (λ b. cond b (Some first) (find q signs)) here) ∙ e in
+          let wrong : Some first ≡ None =
+          sym (ap (λ b. cond b (Some first) (find q signs)) here) ∙ e in
           absurd (cc)
       | inr not_here ↦
-          let later : find q signs ≡ None = sym (ap (λ b. cond b (Some first) (find q signs)) not_here) ∙ e in
+          let later : find q signs ≡ None =
+          sym (ap (λ b. cond b (Some first) (find q signs)) not_here) ∙ e in
           elim (find_step p first signs other f) [
             | inl (also, same) ↦
                 let wrong : q first ≡ true = ap q (sym same) ∙ passes in
@@ -172,17 +192,22 @@ none_passes p q (first ∷ signs) other e f passes =
     ]
 
 -- the sign that is read stands at the front, and no longer one does
-pub sign_stands : (at : List ℕ) (sign : Sign) → sign_at at ≡ Some sign → at ≡ sign_spelling sign ++ drop (length (sign_spelling sign)) at
+pub sign_stands : (at : List ℕ) (sign : Sign) → sign_at at ≡ Some sign
+    → at ≡ sign_spelling sign ++ drop (length (sign_spelling sign)) at
 unfolding sign_at
 sign_stands at sign e = stands_parts at sign (find_passes (stands at) SIGNS sign e)
 
-pub sign_longest : (at : List ℕ) (sign other : Sign) (rest : List ℕ) → sign_at at ≡ Some sign → at ≡ sign_spelling other ++ rest
+pub sign_longest : (at : List ℕ) (sign other : Sign) (rest : List ℕ) → sign_at at ≡ Some sign
+    → at ≡ sign_spelling other ++ rest
     → length (sign_spelling other) ≤ length (sign_spelling sign)
 unfolding sign_at
 sign_longest at sign other rest e parts =
-    found_longest (stands (sign_spelling other)) (stands at) SIGNS sign other signs_fall e (sign_found other) (parts_stand at other rest parts)
+    found_longest (stands (sign_spelling other)) (stands at) SIGNS sign other signs_fall e
+    (sign_found other) (parts_stand at other rest parts)
 
-pub sign_none : (at : List ℕ) (other : Sign) (rest : List ℕ) → sign_at at ≡ None → at ≡ sign_spelling other ++ rest → ⊥
+pub sign_none : (at : List ℕ) (other : Sign) (rest : List ℕ) → sign_at at ≡ None
+    → at ≡ sign_spelling other ++ rest → ⊥
 unfolding sign_at
 sign_none at other rest e parts =
-    none_passes (stands (sign_spelling other)) (stands at) SIGNS other e (sign_found other) (parts_stand at other rest parts)
+    none_passes (stands (sign_spelling other)) (stands at) SIGNS other e (sign_found other)
+    (parts_stand at other rest parts)

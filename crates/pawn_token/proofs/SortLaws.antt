@@ -1,5 +1,6 @@
 -- The first two bytes tell what kind of form can stand at a place.
-use Rattle.std.proofs.Common.{◌≡◌, ◌≢◌, ◌<◌, ℕ, List, [], ◌∷◌, ◌++◌, Bool, true, false, ◌&&◌, ◌==◌, cond, length, refl, sym, ap, ◌∙◌, arith, codes}
+use Rattle.std.proofs.Common.{◌≡◌, ◌≢◌, ◌<◌, ℕ, List, [], ◌∷◌, ◌++◌, Bool, true, false, ◌&&◌, ◌==◌}
+use Rattle.std.proofs.Common.{cond, length, refl, sym, ap, ◌∙◌, arith, codes}
 use Rattle.std.specs.List.{list_all}
 use Rattle.std.proofs.lemmas.Bool.Decides.{nat_tests}
 use Rattle.pawn_token.specs.declared.class.Class.TheVariants as class
@@ -29,24 +30,28 @@ sort_of (Mark sign) = OfMark
 
 unfoldable pub sort_by : ℕ → ℕ → Sort
 sort_by first second =
-    cond (is_in class.NameStart first) OfWord (cond (is_in class.Digit first) OfNumber (cond (first == 39) OfCharacter
+    cond (is_in class.NameStart first) OfWord
+    (cond (is_in class.Digit first) OfNumber (cond (first == 39) OfCharacter
     (cond (first == 34) OfText (cond (first == 33 && second == 34) OfText OfMark))))
 
 -- by the bytes at the place
 abbrev pub sort_at : List ℕ → Sort
 sort_at at = sort_by (byte_at at 0) (byte_at at 1)
 
-pub letter_sort : (first second : ℕ) → is_in class.NameStart first ≡ true → sort_by first second ≡ OfWord
+pub letter_sort : (first second : ℕ) → is_in class.NameStart first ≡ true
+    → sort_by first second ≡ OfWord
 unfolding sort_by
 letter_sort first second h =
     ap (λ b. cond b OfWord (cond (is_in class.Digit first) OfNumber (cond (first == 39) OfCharacter
     (cond (first == 34) OfText (cond (first == 33 && second == 34) OfText OfMark))))) h
 
-pub digit_sort : (first second : ℕ) → is_in class.Digit first ≡ true → sort_by first second ≡ OfNumber
+pub digit_sort : (first second : ℕ) → is_in class.Digit first ≡ true
+    → sort_by first second ≡ OfNumber
 unfolding sort_by
 digit_sort first second h =
     ap (λ b. cond b OfWord (cond (is_in class.Digit first) OfNumber (cond (first == 39) OfCharacter
-    (cond (first == 34) OfText (cond (first == 33 && second == 34) OfText OfMark))))) (digit_is_no_letter first h)
+    (cond (first == 34) OfText (cond (first == 33 && second == 34) OfText OfMark)))))
+    (digit_is_no_letter first h)
     ∙ ap (λ b. cond b OfNumber (cond (first == 39) OfCharacter
     (cond (first == 34) OfText (cond (first == 33 && second == 34) OfText OfMark)))) h
 
@@ -68,7 +73,8 @@ pub record IsMarkPlace (at : List ℕ) : Type 0 where
   pub no_turned_text : byte_at at 0 ≡ 33 → byte_at at 1 ≢ 34
 
 -- the same by the first byte
-pub mark_place : (at : List ℕ) (first : ℕ) → first ≡ byte_at at 0 → is_in class.NameStart first ≡ false → is_in class.Digit first ≡ false
+pub mark_place : (at : List ℕ) (first : ℕ) → first ≡ byte_at at 0
+    → is_in class.NameStart first ≡ false → is_in class.Digit first ≡ false
     → first ≢ 39 → first ≢ 34 → (byte_at at 0 ≡ 33 → byte_at at 1 ≢ 34) → IsMarkPlace at
 mark_place at first is letter digit quote text turned = record {
   no_letter = ap (is_in class.NameStart) (sym is) ∙ letter;
@@ -78,7 +84,8 @@ mark_place at first is letter digit quote text turned = record {
   no_turned_text = turned;
 }
 
-pub mark_sort : (first second : ℕ) → is_in class.NameStart first ≡ false → is_in class.Digit first ≡ false → first ≢ 39 → first ≢ 34
+pub mark_sort : (first second : ℕ) → is_in class.NameStart first ≡ false
+    → is_in class.Digit first ≡ false → first ≢ 39 → first ≢ 34
     → (first ≡ 33 → second ≢ 34) → sort_by first second ≡ OfMark
 unfolding sort_by
 mark_sort first second no_letter no_digit no_quote no_text no_turned =
@@ -89,12 +96,14 @@ mark_sort first second no_letter no_digit no_quote no_text no_turned =
     (cond (first == 34) OfText (cond (first == 33 && second == 34) OfText OfMark))))) no_letter
     ∙ ap (λ b. cond b OfNumber (cond (first == 39) OfCharacter
     (cond (first == 34) OfText (cond (first == 33 && second == 34) OfText OfMark)))) no_digit
-    ∙ ap (λ b. cond b OfCharacter (cond (first == 34) OfText (cond (first == 33 && second == 34) OfText OfMark))) quote
+    ∙ ap (λ b. cond b OfCharacter (cond (first == 34) OfText
+    (cond (first == 33 && second == 34) OfText OfMark))) quote
     ∙ ap (λ b. cond b OfText (cond (first == 33 && second == 34) OfText OfMark)) double
     ∙ ap (λ b. cond b OfText OfMark) turned
 
 -- a sign's first byte is none of a longer form
-sign_sort : (sign : Sign) (rest : List ℕ) → (sign_spelling sign ≡ codes "!" → byte_at rest 0 ≢ 34) → sort_at (sign_spelling sign ++ rest) ≡ OfMark
+sign_sort : (sign : Sign) (rest : List ℕ) → (sign_spelling sign ≡ codes "!" → byte_at rest 0 ≢ 34)
+    → sort_at (sign_spelling sign ++ rest) ≡ OfMark
 unfolding sort_by is_in sign_spelling
 sign_sort sign.ShiftUnsignedAssign rest no_text = refl
 sign_sort sign.ShiftUnsigned rest no_text = refl
@@ -148,19 +157,23 @@ sign_sort sign.Exclamation rest no_text =
     ap (λ b. cond b OfText OfMark) test
 sign_sort sign.Tilde rest no_text = refl
 
-numeral_sort : (radix : Radix) (digits rest : List ℕ) → 0 < length digits → list_all (is_in (digit_class radix)) digits ≡ true
+numeral_sort : (radix : Radix) (digits rest : List ℕ) → 0 < length digits
+    → list_all (is_in (digit_class radix)) digits ≡ true
     → sort_at ((prefix radix ++ digits) ++ rest) ≡ OfNumber
 unfolding sort_by is_in
 numeral_sort Ten [] rest some all = absurd (omega (arith, some))
 numeral_sort Ten (digit ∷ digits) rest some all =
-    digit_sort digit (byte_at (digits ++ rest) 0) (both (is_in class.Digit digit) (list_all (is_in class.Digit) digits) all).0
+    digit_sort digit (byte_at (digits ++ rest) 0)
+    (both (is_in class.Digit digit) (list_all (is_in class.Digit) digits) all).0
 numeral_sort Sixteen digits rest some all = refl
 numeral_sort Two digits rest some all = refl
 
 -- what fits has the sort of its place
-pub begins : (control : ℕ) (setting : Bool) (at : List ℕ) (form : Form) (spelling rest : List ℕ) → Fits control setting at form spelling rest
+pub begins : (control : ℕ) (setting : Bool) (at : List ℕ) (form : Form) (spelling rest : List ℕ)
+    → Fits control setting at form spelling rest
     → sort_at at ≡ sort_of form
-begins control setting at (Word word) [] rest fits = absurd (cc (zero_is_out class.NameStart, fits.spelled.1.letter))
+begins control setting at (Word word) [] rest fits =
+    absurd (cc (zero_is_out class.NameStart, fits.spelled.1.letter))
 begins control setting at (Word word) (byte ∷ spelling) rest fits =
     ap sort_at fits.parts ∙ letter_sort byte (byte_at (spelling ++ rest) 0) fits.spelled.1.letter
 begins control setting at (Numeral value) spelling rest fits =
@@ -196,7 +209,8 @@ as_character (Character byte) e = (byte, refl)
 as_character (Literal bytes packed) e = absurd (cc)
 as_character (Mark sign) e = absurd (cc)
 
-pub as_text : (form : Form) → sort_of form ≡ OfText → (bytes : List ℕ) × (packed : Bool) × (form ≡ Literal bytes packed)
+pub as_text : (form : Form) → sort_of form ≡ OfText
+    → (bytes : List ℕ) × (packed : Bool) × (form ≡ Literal bytes packed)
 as_text (Word word) e = absurd (cc)
 as_text (Numeral value) e = absurd (cc)
 as_text (Character byte) e = absurd (cc)

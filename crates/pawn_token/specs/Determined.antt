@@ -5,7 +5,8 @@ use Rattle.pawn_token.specs.Forms.{IsToken, IsFault}
 
 -- under one control character and packing, at every place
 pub record IsDetermined (control : ℕ) (packed : Bool) : Type 0 where
-  pub token : (at : List ℕ) (a b : TokenKind) (rest more : List ℕ) → IsToken control packed at a rest
+  pub token : (at : List ℕ) (a b : TokenKind) (rest more : List ℕ)
+      → IsToken control packed at a rest
       → IsToken control packed at b more → (a ≡ b) × (rest ≡ more)
   pub fault : (at : List ℕ) (a b : ℕ) → IsFault control packed at a → IsFault control packed at b
       → a ≡ b

@@ -1,6 +1,8 @@
 -- Single tokens, as the Pawn Language Guide's general syntax gives them: what bytes spell, the
 -- longest spelling at a place, and which token or fault that is.
-use Rattle.std.specs.Prelude.{◌≡◌, ◌≢◌, ◌≤◌, ◌<◌, ℕ, ℤ, pos, List, ◌∷◌, ◌++◌, Bool, true, false, not, IsTrue, Option, Some, None, Result, Ok, Err, length, codes, nat_le, if◌then◌else◌}
+use Rattle.std.specs.Prelude.{◌≡◌, ◌≢◌, ◌≤◌, ◌<◌, ℕ, ℤ, pos, List, ◌∷◌, ◌++◌, Bool, true, false}
+use Rattle.std.specs.Prelude.{not, IsTrue, Option, Some, None, Result, Ok, Err, length, codes}
+use Rattle.std.specs.Prelude.{nat_le, if◌then◌else◌}
 use Rattle.pawn_token.specs.declared.class.Class.TheVariants as class
 use Rattle.pawn_token.specs.declared.key.Key.{Key}
 use Rattle.pawn_token.specs.declared.sign.Sign.{Sign}

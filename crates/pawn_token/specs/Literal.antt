@@ -1,6 +1,7 @@
 -- Literals, as the Pawn Language Guide's general syntax gives them: bytes and escapes up to the
 -- quote. An escape begins with the control character of its line.
-use Rattle.std.specs.Prelude.{◌≡◌, ℕ, List, [], ◌∷◌, Option, Some, None, Result, Ok, Err, nat_lt, ◌==◌, ◌||◌, if◌then◌else◌, drop}
+use Rattle.std.specs.Prelude.{◌≡◌, ℕ, List, [], ◌∷◌, Option, Some, None, Result, Ok, Err, nat_lt}
+use Rattle.std.specs.Prelude.{◌==◌, ◌||◌, if◌then◌else◌, drop}
 use Rattle.std.specs.Str.Parse.{digits_value}
 use Rattle.pawn_token.specs.declared.class.Class.{Class}
 use Rattle.pawn_token.specs.declared.class.Class.TheVariants as class

@@ -1,6 +1,7 @@
 -- Numbers, as the Pawn Language Guide's general syntax gives them: digits in a radix behind its
 -- prefix, and what must not stand behind them.
-use Rattle.std.specs.Prelude.{◌≡◌, ◌<◌, ◌^◌, ℕ, ℤ, List, [], ◌++◌, Bool, IsTrue, Result, Ok, Err, length, codes, nat_lt, ◌==◌, ◌&&◌, ◌||◌, if◌then◌else◌}
+use Rattle.std.specs.Prelude.{◌≡◌, ◌<◌, ◌^◌, ℕ, ℤ, List, [], ◌++◌, Bool, IsTrue, Result, Ok, Err}
+use Rattle.std.specs.Prelude.{length, codes, nat_lt, ◌==◌, ◌&&◌, ◌||◌, if◌then◌else◌}
 use Rattle.std.specs.Int.{cast_signed, w32}
 use Rattle.std.specs.List.{list_all}
 use Rattle.std.specs.Str.Parse.{digits_value}

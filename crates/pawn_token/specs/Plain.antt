@@ -1,5 +1,6 @@
 -- A token that is no text, as a function of the place where it stands.
-use Rattle.std.specs.Prelude.{◌≡◌, ℕ, pos, List, Bool, false, Option, Some, None, Result, Ok, Err, length, drop, ◌==◌, ◌&&◌, if◌then◌else◌}
+use Rattle.std.specs.Prelude.{◌≡◌, ℕ, pos, List, Bool, false, Option, Some, None, Result, Ok, Err}
+use Rattle.std.specs.Prelude.{length, drop, ◌==◌, ◌&&◌, if◌then◌else◌}
 use Rattle.pawn_token.specs.declared.class.Class.TheVariants as class
 use Rattle.pawn_token.specs.declared.kind.TokenKind.{TokenKind}
 use Rattle.pawn_token.specs.declared.kind.TokenKind.TheVariants as kind

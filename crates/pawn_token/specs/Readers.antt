@@ -9,7 +9,8 @@ use Rattle.pawn_token.specs.Forms.{IsToken, IsFault}
 use Rattle.pawn_token.specs.Literal.{IsBody, HasFault, character_at}
 
 -- this token with these bytes behind it, or this fault
-abbrev pub Gives : Result TokenKind ℕ → List ℕ → Result (TokenKind × Bor (List ℕ)) TokenFault → Type 0
+abbrev pub Gives : Result TokenKind ℕ → List ℕ → Result (TokenKind × Bor (List ℕ)) TokenFault
+    → Type 0
 Gives token rest (Ok read) = (token ≡ Ok read.0) × (read.1.now ≡ rest)
 Gives token rest (Err (bad.Source fault)) = token ≡ Err fault
 Gives token rest (Err bad.Memory) = Unit {0}

@@ -24,6 +24,7 @@ use Rattle.pawn_base.specs.contracts.list.List.TheInside as inside
 abbrev pub the_former : Former {0} → Former {0}
 the_former elements = list elements
 
+-- how a list's weight is found by its elements' weights
 abbrev pub the_weighed : {elements : Former {0}} → Weighed elements → Weighed (the_former elements)
 the_weighed weighed = w_list weighed
 
@@ -35,16 +36,21 @@ the_empty = []
 abbrev pub the_items : (X : Type 0) → List X → List X
 the_items X elements = elements
 
-pub the_items_listed : (X : Type 0) (d : List X) → listed _ (children (the_former this) X d) ≡ the_items X d
+-- and so are the children that it stores, listed
+pub the_items_listed : (X : Type 0) (d : List X)
+    → listed _ (children (the_former this) X d) ≡ the_items X d
 the_items_listed X elements = list-listed X elements
 
 -- the struct around the `Vec`, and back
 abbrev field : Former {0}
-field = via (vec.the_former this Global) Inside (λ X whole. whole.items) (λ X items. record { items = items }) (λ X whole. refl) (λ X items. refl)
+field =
+    via (vec.the_former this Global) Inside (λ X whole. whole.items)
+    (λ X items. record { items = items }) (λ X whole. refl) (λ X items. refl)
 
 module _ (R S : RattleType) (h : R.Denot → S.Denot) where
   -- at two types of element that are laid out alike, a `List` is laid out alike
-  pub the_places : Alike R S h → Alike (contract.the_row R) (contract.the_row S) ((the_former this).map R.Denot S.Denot h)
+  pub the_places : Alike R S h → Alike (contract.the_row R) (contract.the_row S)
+      ((the_former this).map R.Denot S.Denot h)
   the_places alike =
       view_places field (list this) view (λ X Y k u. refl) (λ X u. refl) R.Denot S.Denot h
       (contract.the_row R).coded (contract.the_row S).coded (invariant R.Denot) (invariant S.Denot)
@@ -54,5 +60,7 @@ module _ (R S : RattleType) (h : R.Denot → S.Denot) where
       (laid _ _ _ (vec.the_places global.the_row ghosts R S h alike), tt))
 
   -- and coded alike
-  pub the_codes_placed : Recodes R S h → Recodes (contract.the_row R) (contract.the_row S) ((the_former this).map R.Denot S.Denot h)
-  the_codes_placed recodes elements = sym (code_map R.coded.code S.coded.code h (λ x. sym (recodes x)) elements)
+  pub the_codes_placed : Recodes R S h
+      → Recodes (contract.the_row R) (contract.the_row S) ((the_former this).map R.Denot S.Denot h)
+  the_codes_placed recodes elements =
+      sym (code_map R.coded.code S.coded.code h (λ x. sym (recodes x)) elements)

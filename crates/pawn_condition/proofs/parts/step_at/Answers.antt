@@ -12,7 +12,8 @@ pub returns-in-Some : goal.returns-in-Some
 returns-in-Some c =
     sym (token_step c.args.control c.args.bytes.now _ _ c.requires c.in-Ok.ensures.answer
     ∙ ap (step_with (length c.args.bytes.now) _) (sym c.in-Some.ensures)
-    ∙ ap (λ n. Some (record { part = c.in-Some.part; size = n })) (sym c.saturating_sub-size.ensures))
+    ∙ ap (λ n. Some (record { part = c.in-Some.part; size = n }))
+    (sym c.saturating_sub-size.ensures))
 
 pub returns : goal.returns
 returns c =

@@ -8,4 +8,5 @@ pub returns-clause-only : goal.returns-clause-only
 returns-clause-only c = one_value c.args.control c.args.text.now
 
 pub returns-clause-told : goal.returns-clause-told
-returns-clause-told c value is = told_by c.args.control c.args.text.now _ c.computed.ensures value is
+returns-clause-told c value is =
+    told_by c.args.control c.args.text.now _ c.computed.ensures value is

@@ -11,7 +11,9 @@ returns-then-is_long c =
 
 pub loop-piece-preserved : goal.loop-piece-preserved
 loop-piece-preserved c = record {
-  so_far = front_more_at _ _ _ _ _ _ _ c.loop-piece-test.true c.loop-piece.invariant.so_far c.in_ok-put_piece.ensures.put;
+  so_far =
+      front_more_at _ _ _ _ _ _ _ c.loop-piece-test.true c.loop-piece.invariant.so_far
+      c.in_ok-put_piece.ensures.put;
   short = rw c.in_ok-put_piece.ensures.put (length-up_to_long _);
 }
 
@@ -19,4 +21,5 @@ pub returns : goal.returns
 unfolding filled
 returns c =
     let none : drop c.loop-piece.piece-index c.args.text.now ≡ [] = grind (arith, common_steps) in
-    front_whole _ _ _ c.loop-piece.invariant.so_far c.loop-piece.invariant.short (ap (λ t. filled c.args.given.now t) none)
+    front_whole _ _ _ c.loop-piece.invariant.so_far c.loop-piece.invariant.short
+    (ap (λ t. filled c.args.given.now t) none)

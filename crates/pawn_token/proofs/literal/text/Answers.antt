@@ -11,6 +11,8 @@ loop-byte-smaller c =
 
 pub loop-byte-preserved : goal.loop-byte-preserved
 loop-byte-preserved c =
-    subst (λ found. Spells c.args.control 34 c.args.bytes.now found c.in-Ok-Some.rest.now) (sym c.in_ok-push-in-Ok-Some.ensures.ok)
-    (spells_more c.args.control 34 c.args.bytes.now c.loop-byte.found c.loop-byte.at.now c.in-Ok-Some.byte c.in-Ok-Some.rest.now c.loop-byte.invariant
+    subst (λ found. Spells c.args.control 34 c.args.bytes.now found c.in-Ok-Some.rest.now)
+    (sym c.in_ok-push-in-Ok-Some.ensures.ok)
+    (spells_more c.args.control 34 c.args.bytes.now c.loop-byte.found c.loop-byte.at.now
+    c.in-Ok-Some.byte c.in-Ok-Some.rest.now c.loop-byte.invariant
     (sym c.in-Ok-Some.ensures ∙ ap (λ f. unit_seen (Ok f)) c.in-Ok-Some.field-0-is))

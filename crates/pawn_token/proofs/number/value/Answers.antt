@@ -10,8 +10,11 @@ returns-then-next-limit c below =
     let digits = c.args.digits.now in
     let i = c.loop-byte.byte-index in
     let sum = c.loop-byte.sum * c.args.base + digit_value (get_or digits i 0) in
-    let step : digits_value_after c.args.base sum (drop (suc i) digits) ≡ digits_value c.args.base digits =
-    sym (ap (digits_value_after c.args.base c.loop-byte.sum) (drop-cons digits i 0 c.loop-byte-test.true)) ∙ c.loop-byte.invariant.so_far in
+    let step : digits_value_after c.args.base sum (drop (suc i) digits)
+    ≡ digits_value c.args.base digits =
+    sym (ap (digits_value_after c.args.base c.loop-byte.sum)
+    (drop-cons digits i 0 c.loop-byte-test.true)) ∙ c.loop-byte.invariant.so_far in
     let grows = value_grows c.args.base sum (drop (suc i) digits) c.requires.positive in
-    let base : c.loop-byte.sum * c.from.result ≡ c.loop-byte.sum * c.args.base = ap (λ n. c.loop-byte.sum * n) c.from.ensures in
+    let base : c.loop-byte.sum * c.from.result ≡ c.loop-byte.sum * c.args.base =
+    ap (λ n. c.loop-byte.sum * n) c.from.ensures in
     omega (arith, below, step, grows, base)

@@ -6,5 +6,6 @@ use Rattle.pawn_macro.proofs.table.Table.number.Goals as goal
 
 pub returns : goal.returns
 returns c = λ value is.
-    subst (λ v. Tells (spec.number v c.args.self.now c.args.control c.args.bytes.now) c.evaluated.result)
+    subst (λ v. Tells (spec.number v c.args.self.now c.args.control c.args.bytes.now)
+    c.evaluated.result)
     (only_value value is) c.evaluated.ensures

@@ -10,7 +10,8 @@ pub loop-known-init : goal.loop-known-init
 loop-known-init c =
     ap (λ files. get files.held c.args.name.now) (sym c.self.view_is)
     ∙ get-from_entries nat_list_cmp_total _ _
-    ∙ ap (find (slice_cmp nat_cmp) c.args.name.now) (sym c.into_iter-known-iterator.ensures.into_iter_gives.0)
+    ∙ ap (find (slice_cmp nat_cmp) c.args.name.now)
+    (sym c.into_iter-known-iterator.ensures.into_iter_gives.0)
 
 pub returns-then-eq : goal.returns-then-eq
 returns-then-eq c =

@@ -6,4 +6,5 @@ use Rattle.std.specs.VecDeque.Iter.{deque_iter_rest}
 use Rattle.pawn_outside.proofs.memory_files.MemoryFiles.find.Given as goal
 
 abbrev pub invariant-loop-known : goal.invariant-loop-known
-invariant-loop-known l = get l.self.held l.name ≡ find (slice_cmp nat_cmp) l.name (deque_iter_rest l.known-iterator)
+invariant-loop-known l =
+    get l.self.held l.name ≡ find (slice_cmp nat_cmp) l.name (deque_iter_rest l.known-iterator)
