@@ -1,9 +1,11 @@
--- What contracts see of a block, in cells of four bytes: the code, and the memory that begins with the
--- data. An address counts bytes from the first cell of the one or of the other.
-use Rattle.std.specs.Prelude.{◌++◌, ◌+◌, ◌/◌, ◌%◌, ◌-◌, ◌≤◌, ℕ, ℤ, pos, List, length, take, drop, replicate, slice_set}
+-- What contracts see of a block, in cells of four bytes: the code, and the memory that begins with
+-- the data. An address counts bytes from the first cell of the one or of the other.
+use Rattle.std.specs.Prelude.{◌++◌, ◌+◌, ◌/◌, ◌%◌, ◌-◌, ◌≤◌, ℕ, ℤ, pos, List, length, take, drop}
+use Rattle.std.specs.Prelude.{replicate, slice_set}
 use Rattle.std.specs.List.{slice_index_or}
 use Rattle.pawn_cells.specs.Cells.{char_at, with_char}
 
+-- all cells of a block
 pub record Contents : Type 0 where
   pub code : List ℤ
   -- data, heap and stack
@@ -15,6 +17,7 @@ pub record Contents : Type 0 where
 abbrev pub cell_at : List ℤ → ℕ → ℤ
 cell_at cells at = slice_index_or cells (at / 4) (pos 0)
 
+-- another cell in its place
 abbrev pub with_cell : List ℤ → ℕ → ℤ → List ℤ
 with_cell cells at value = slice_set cells (at / 4) value
 
@@ -22,6 +25,7 @@ with_cell cells at value = slice_set cells (at / 4) value
 abbrev pub byte_at : List ℤ → ℕ → ℕ
 byte_at cells at = char_at (cell_at cells at) (3 - at % 4)
 
+-- another byte in its place; the rest of its cell stays
 abbrev pub with_byte : List ℤ → ℕ → ℕ → List ℤ
 with_byte cells at byte = with_cell cells at (with_char (cell_at cells at) (3 - at % 4) byte)
 
@@ -35,7 +39,12 @@ with_part cells at count part = take (at / 4) cells ++ (part ++ drop (at / 4 + c
 
 -- what a block holds that was just made
 abbrev pub zeros : (code store room : ℕ) → Contents
-zeros code store room = record { code = replicate code (pos 0); memory = replicate (store + room) (pos 0); store = store }
+zeros code store room =
+    record {
+      code = replicate code (pos 0);
+      memory = replicate (store + room) (pos 0);
+      store = store;
+    }
 
 -- what is always so of a block's cells: code and data are among them, and each address fits
 pub record AreWithin (code store : ℕ) (cells : List ℤ) : Type 0 where

@@ -7,7 +7,12 @@ use Rattle.amx_block.specs.contracts.block.Block.{the_row}
 
 -- cells written over as many others, from an address on; none is added
 abbrev pub written_over : List ℤ → ℕ → List ℤ → List ℤ
-written_over cells at new = refill (length cells) cells (take (at / 4) cells ++ (new ++ drop (length new) (drop (at / 4) cells)))
+written_over cells at new =
+    refill (length cells) cells (take (at / 4) cells
+    ++ (new ++ drop (length new) (drop (at / 4) cells)))
 
+-- the memory from an address on is lent, and what it ends as is written there
 abbrev pub LendsPart : MutBor Contents → ℕ → MutBor (List ℤ) → Fml
-LendsPart block at part = Lends the_row (Array i32 0) block part (λ new. record block.now { memory = written_over block.now.memory at new })
+LendsPart block at part =
+    Lends the_row (Array i32 0) block part
+    (λ new. record block.now { memory = written_over block.now.memory at new })

@@ -1,8 +1,10 @@
 -- What reading a count of cells answers, and the cause of each refusal: the first in the order of
 -- the bytes (Implementer's Guide, "File format", on compact encoding).
-use Rattle.std.specs.Prelude.{◌≡◌, ◌<◌, ◌≤◌, ◌++◌, ℕ, List, [], ℤ, Option, None, Some, Result, Ok, Err, length}
+use Rattle.std.specs.Prelude.{◌≡◌, ◌<◌, ◌≤◌, ◌++◌, ℕ, List, [], ℤ, Option, None, Some, Result, Ok}
+use Rattle.std.specs.Prelude.{Err, length}
 use Rattle.amx_compact.specs.declared.fault.CompactFault.{CompactFault}
-use Rattle.amx_compact.specs.declared.fault.CompactFault.TheVariants.{Short, OpenGroup, GroupTooLong, TooMany, Memory}
+use Rattle.amx_compact.specs.declared.fault.CompactFault.TheVariants.{Short, OpenGroup}
+use Rattle.amx_compact.specs.declared.fault.CompactFault.TheVariants.{GroupTooLong, TooMany, Memory}
 use Rattle.amx_compact.specs.Spelled.{GoesOn, SpelledAll}
 
 -- a number of cells, and then these bytes

@@ -1,6 +1,7 @@
 -- Compact cells: which bytes spell a cell, and which of its spellings is the shortest
 -- (Implementer's Guide, "File format", on compact encoding).
-use Rattle.std.specs.Prelude.{◌≡◌, ◌+◌, ◌*◌, ◌/◌, ◌%◌, ◌^◌, ◌<◌, ◌≤◌, ◌++◌, ℕ, List, [], ◌∷◌, ℤ, pos, ◌-ℤ◌, length, slice_index}
+use Rattle.std.specs.Prelude.{◌≡◌, ◌+◌, ◌*◌, ◌/◌, ◌%◌, ◌^◌, ◌<◌, ◌≤◌, ◌++◌, ℕ, List, [], ◌∷◌, ℤ}
+use Rattle.std.specs.Prelude.{pos, ◌-ℤ◌, length, slice_index}
 use Rattle.pawn_cells.specs.Cells.{wrap}
 
 -- the seven low bits of each byte, times the powers of 128 that count the bytes behind it

@@ -1,9 +1,11 @@
 -- Numbers with some of their bytes changed.
-use Rattle.std.proofs.Common.{◌≡◌, inl, inr, ◌+◌, ◌-◌, ◌*◌, ◌/◌, ◌%◌, ◌^◌, ◌<◌, ◌≤◌, ℕ, zero, suc, arith, refl, subst, sym}
+use Rattle.std.proofs.Common.{◌≡◌, inl, inr, ◌+◌, ◌-◌, ◌*◌, ◌/◌, ◌%◌, ◌^◌, ◌<◌, ◌≤◌, ℕ, zero, suc}
+use Rattle.std.proofs.Common.{arith, refl, subst, sym}
 use Rattle.amx_effects.specs.Parts.{IsCount, IsPart}
 
 abbrev pub changed : (bits from count n : ℕ) → ℕ
-changed bits from count n = bits - bits / 256 ^ from % 256 ^ count * 256 ^ from + n % 256 ^ count * 256 ^ from
+changed bits from count n =
+    bits - bits / 256 ^ from % 256 ^ count * 256 ^ from + n % 256 ^ count * 256 ^ from
 
 one : (bits from n : ℕ) → bits < 2 ^ 32 → from < 4 → changed bits from 1 n < 2 ^ 32
 one bits zero n h f = omega arith
@@ -26,15 +28,23 @@ four bits (suc (suc zero)) n h a f = absurd (omega arith)
 four bits (suc (suc (suc zero))) n h a f = absurd (omega arith)
 four bits (suc (suc (suc (suc k)))) n h a f = absurd (omega arith)
 
-changed_by : (bits from count n : ℕ) → bits < 2 ^ 32 → IsCount count → from % count ≡ 0 → from < 4 → changed bits from count n < 2 ^ 32
-changed_by bits from count n h (inl e) a f = subst (λ c. changed bits from c n < 2 ^ 32) (sym e) (one bits from n h f)
-changed_by bits from count n h (inr (inl e)) a f = subst (λ c. changed bits from c n < 2 ^ 32) (sym e) (two bits from n h (subst (λ c. from % c ≡ 0) e a) f)
-changed_by bits from count n h (inr (inr e)) a f = subst (λ c. changed bits from c n < 2 ^ 32) (sym e) (four bits from n h (subst (λ c. from % c ≡ 0) e a) f)
+changed_by : (bits from count n : ℕ) → bits < 2 ^ 32 → IsCount count → from % count ≡ 0 → from < 4
+    → changed bits from count n < 2 ^ 32
+changed_by bits from count n h (inl e) a f =
+    subst (λ c. changed bits from c n < 2 ^ 32) (sym e) (one bits from n h f)
+changed_by bits from count n h (inr (inl e)) a f =
+    subst (λ c. changed bits from c n < 2 ^ 32) (sym e)
+    (two bits from n h (subst (λ c. from % c ≡ 0) e a) f)
+changed_by bits from count n h (inr (inr e)) a f =
+    subst (λ c. changed bits from c n < 2 ^ 32) (sym e)
+    (four bits from n h (subst (λ c. from % c ≡ 0) e a) f)
 
-pub changed_fits : (bits from count n : ℕ) → bits < 2 ^ 32 → IsPart from count → changed bits from count n < 2 ^ 32
+pub changed_fits : (bits from count n : ℕ) → bits < 2 ^ 32 → IsPart from count
+    → changed bits from count n < 2 ^ 32
 changed_fits bits from count n h p = changed_by bits from count n h p.is_count p.aligned p.below
 
-pub moved_fits : (bits from count n : ℕ) → bits < 2 ^ 32 → IsPart from count → n % 256 ^ count * 256 ^ from < 2 ^ 32
+pub moved_fits : (bits from count n : ℕ) → bits < 2 ^ 32 → IsPart from count
+    → n % 256 ^ count * 256 ^ from < 2 ^ 32
 moved_fits bits from count n h p = omega (arith, changed_fits bits from count n h p)
 
 -- ---- powers of 256

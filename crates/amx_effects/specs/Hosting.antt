@@ -1,5 +1,7 @@
--- What a host does to a machine: it starts it, sees its registers and sets them, and is lent its memory.
-use Rattle.std.specs.Prelude.{◌≡◌, ◌%◌, ◌≤◌, ℤ, pos, ℕ, List, Option, None, Some, Bool, true, false, length, replicate, if◌then◌else◌}
+-- What a host does to a machine: it starts it, sees its registers and sets them, and is lent its
+-- memory.
+use Rattle.std.specs.Prelude.{◌≡◌, ◌%◌, ◌≤◌, ℤ, pos, ℕ, List, Option, None, Some, Bool, true, false}
+use Rattle.std.specs.Prelude.{length, replicate, if◌then◌else◌}
 use Rattle.pawn_cells.specs.Cells.{bits_of, cell_of}
 use Rattle.amx_block.specs.Lending.{written_over}
 use Rattle.amx_ops.specs.declared.amx.Amx.{Amx}

@@ -6,6 +6,8 @@ use Rattle.amx_effects.specs.Machine.{Machine}
 use Rattle.amx_effects.specs.Hosting.{with_live}
 use Rattle.amx_effects.specs.contracts.registers.Core.{the_row}
 
+-- the live memory from an address on is lent, and what it ends as is written there
 abbrev pub LendsLive : MutBor Machine → ℕ → MutBor (List ℤ) → Fml
 LendsLive m at part =
-    Lends (the_row (record { mir = named 1; lft = [] })) (Array i32 0) m part (λ new. record m.now { state = with_live m.now.state at new })
+    Lends (the_row (record { mir = named 1; lft = [] })) (Array i32 0) m part
+    (λ new. record m.now { state = with_live m.now.state at new })

@@ -13,7 +13,8 @@ pub record Machine : Type 0 where
 abbrev pub cell_count : Amx → ℕ
 cell_count amx = length amx.store + amx.room
 
--- first HEA, HEA, STK and the top rise in whole cells, within the limit of memory; code and count are the file's
+-- first HEA, HEA, STK and the top rise in whole cells, within the limit of memory; code and count
+-- are the file's
 pub record IsSound (amx : Amx) (top stk hea : ℕ) (block : Contents) : Type 0 where
   pub code : block.code ≡ amx.code
   pub size : length amx.code + length block.memory ≤ 33554432

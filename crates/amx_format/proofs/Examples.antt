@@ -3,7 +3,8 @@ use Rattle.std.proofs.Common.{◌≡◌, ◌⊎◌, inl, inr, ℕ, pos, List, []
 use Rattle.std.specs.Prelude.{slice_set}
 use Rattle.amx_ops.specs.declared.amx.Amx.{Amx}
 use Rattle.amx_format.specs.declared.encoding.Encoding.TheVariants.{Plain}
-use Rattle.amx_format.specs.declared.fault.FormatFault.TheVariants.{TooShort, Magic, Version, RecordSize, SizeDiffers, Order}
+use Rattle.amx_format.specs.declared.fault.FormatFault.TheVariants.{TooShort, Magic, Version}
+use Rattle.amx_format.specs.declared.fault.FormatFault.TheVariants.{RecordSize, SizeDiffers, Order}
 use Rattle.amx_format.specs.Numbers.{half_at, word_at}
 use Rattle.amx_format.specs.Header.{header_of, HasVersions, HasSize, HasOrder}
 use Rattle.amx_format.specs.Faults.{IsFirst, IsFreeOfAll, order}
@@ -41,9 +42,16 @@ smallest_is_written = refl
 sound : IsFreeOfAll order smallest
 unfolding half_at word_at header_of
 sound =
-    let versions : HasVersions (header_of smallest) = record { format = refl; first = omega arith; last = omega arith } in
+    let versions : HasVersions (header_of smallest) =
+    record { format = refl; first = omega arith; last = omega arith } in
     let size : HasSize (header_of smallest) 80 =
-    record { least = omega arith; signed = omega arith; within = omega arith; whole = λ e. refl; plain = λ e. refl } in
+    record {
+      least = omega arith;
+      signed = omega arith;
+      within = omega arith;
+      whole = λ e. refl;
+      plain = λ e. refl;
+    } in
     let places : HasOrder (header_of smallest) = record {
       tables = record {
         first = omega arith;
@@ -62,8 +70,28 @@ sound =
         top = omega arith;
         row = λ e. omega arith;
       };
-    } in
-    (omega arith, (refl, (versions, (refl, (size, (places, (λ index below. absurd (omega (arith, below)), (λ index below. absurd (omega (arith, below)), tt))))))))
+    } in (
+      omega arith,
+      (
+        refl,
+        (
+          versions,
+          (
+            refl,
+            (
+              size,
+              (
+                places,
+                (
+                  λ index below. absurd (omega (arith, below)),
+                  (λ index below. absurd (omega (arith, below)), tt),
+                ),
+              ),
+            ),
+          ),
+        ),
+      ),
+    )
 
 smallest_is_its_file : IsFile smallest empty_main
 unfolding half_at word_at header_of
@@ -95,21 +123,44 @@ version_nine = inr (omega arith, inr (refl, inl (λ h. omega (arith, h.last), re
 records_of_twelve : IsFirst (slice_set smallest 10 12) RecordSize
 unfolding half_at word_at header_of
 records_of_twelve =
-    let versions : HasVersions (header_of (slice_set smallest 10 12)) = record { format = refl; first = omega arith; last = omega arith } in
+    let versions : HasVersions (header_of (slice_set smallest 10 12)) =
+    record { format = refl; first = omega arith; last = omega arith } in
     inr (omega arith, inr (refl, inr (versions, inl (λ e. omega (arith, e), refl))))
 
 size_above : IsFirst (slice_set smallest 0 81) SizeDiffers
 unfolding half_at word_at header_of
 size_above =
-    let versions : HasVersions (header_of (slice_set smallest 0 81)) = record { format = refl; first = omega arith; last = omega arith } in
-    inr (omega arith, inr (refl, inr (versions, inr (refl, inl (λ h. omega (arith, h.within), refl)))))
+    let versions : HasVersions (header_of (slice_set smallest 0 81)) =
+    record { format = refl; first = omega arith; last = omega arith } in
+    inr (
+      omega arith,
+      inr (
+        refl,
+        inr
+            (versions, inr (refl, inl (λ h. omega (arith, h.within), refl))),
+      ),
+    )
 
 -- with a name table at 59
 name_table_moved : IsFirst (slice_set smallest 52 59) Order
 unfolding half_at word_at header_of
 name_table_moved =
     let there : List ℕ = slice_set smallest 52 59 in
-    let versions : HasVersions (header_of there) = record { format = refl; first = omega arith; last = omega arith } in
+    let versions : HasVersions (header_of there) =
+    record { format = refl; first = omega arith; last = omega arith } in
     let size : HasSize (header_of there) 80 =
-    record { least = omega arith; signed = omega arith; within = omega arith; whole = λ e. refl; plain = λ e. refl } in
-    inr (omega arith, inr (refl, inr (versions, inr (refl, inr (size, inl (λ h. omega (arith, h.tables.tags.whole), refl))))))
+    record {
+      least = omega arith;
+      signed = omega arith;
+      within = omega arith;
+      whole = λ e. refl;
+      plain = λ e. refl;
+    } in
+    inr (
+      omega arith,
+      inr (
+        refl,
+        inr
+            (versions, inr (refl, inr (size, inl (λ h. omega (arith, h.tables.tags.whole), refl)))),
+      ),
+    )

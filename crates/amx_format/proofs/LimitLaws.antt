@@ -1,5 +1,6 @@
 -- The Amx of a file is within the limits of memory and of tables.
-use Rattle.std.proofs.Common.{◌≡◌, ◌+◌, ◌-◌, ◌/◌, ◌<◌, ◌≤◌, ◌^◌, ℕ, zero, suc, List, Result, Ok, Err, length, refl, ap, ◌∙◌, arith}
+use Rattle.std.proofs.Common.{◌≡◌, ◌+◌, ◌-◌, ◌/◌, ◌<◌, ◌≤◌, ◌^◌, ℕ, zero, suc, List, Result, Ok}
+use Rattle.std.proofs.Common.{Err, length, refl, ap, ◌∙◌, arith}
 use Rattle.std.specs.Prelude.{IfOk}
 use Rattle.amx_ops.specs.declared.amx.Amx.{Amx}
 use Rattle.amx_format.specs.declared.fault.FormatFault.{FormatFault}
@@ -14,8 +15,10 @@ length-records_at bytes place zero = refl
 length-records_at bytes place (suc n) = ap suc (length-records_at bytes (place + 8) n)
 
 -- the parts of a file from code to stack top, in cells
-parts : (cod dat hea stp code store room : ℕ) → cod ≤ dat → dat ≤ hea → hea ≤ stp → stp - cod ≤ 134217728
-    → code ≡ (dat - cod) / 4 → store ≡ (hea - dat) / 4 → room ≡ (stp - hea) / 4 → code + store + room ≤ 33554432
+parts : (cod dat hea stp code store room : ℕ) → cod ≤ dat → dat ≤ hea → hea ≤ stp
+    → stp - cod ≤ 134217728
+    → code ≡ (dat - cod) / 4 → store ≡ (hea - dat) / 4 → room ≡ (stp - hea) / 4
+    → code + store + room ≤ 33554432
 parts cod dat hea stp code store room a b c d e f g = omega arith
 
 few : (first past top n : ℕ) → past ≤ top → top < 2 ^ 31 → n ≡ (past - first) / 8 → n < 2 ^ 31
@@ -36,15 +39,39 @@ module _ (bytes : List ℕ) (amx : Amx) (file : IsFile bytes amx) where
       let t = order.tables in
       let p = order.parts in
       record {
-        memory = parts h.cod h.dat h.hea h.stp _ _ _ p.code.rises p.store.rises p.room.rises p.memory file.cells.code_length file.cells.store_length file.room;
+        memory =
+            parts h.cod h.dat h.hea h.stp _ _ _ p.code.rises p.store.rises p.room.rises p.memory
+            file.cells.code_length file.cells.store_length file.room;
         publics = few h.publics h.natives h.stp _
-            (omega (arith, t.natives.rises, t.libraries.rises, t.variables.rises, t.tags.rises, t.names, p.code.rises, p.store.rises, p.room.rises)) p.top
-            (ap length file.publics ∙ length-records_at bytes h.publics ((h.natives - h.publics) / 8));
+            (omega (
+              arith,
+              t.natives.rises,
+              t.libraries.rises,
+              t.variables.rises,
+              t.tags.rises,
+              t.names,
+              p.code.rises,
+              p.store.rises,
+              p.room.rises,
+            )) p.top
+            (ap length file.publics ∙ length-records_at bytes h.publics
+            ((h.natives - h.publics) / 8));
         natives = few h.natives h.libraries h.stp _
-            (omega (arith, t.libraries.rises, t.variables.rises, t.tags.rises, t.names, p.code.rises, p.store.rises, p.room.rises)) p.top
-            (ap length file.natives ∙ length-records_at bytes h.natives ((h.libraries - h.natives) / 8));
+            (omega (
+              arith,
+              t.libraries.rises,
+              t.variables.rises,
+              t.tags.rises,
+              t.names,
+              p.code.rises,
+              p.store.rises,
+              p.room.rises,
+            )) p.top
+            (ap length file.natives ∙ length-records_at bytes h.natives
+            ((h.libraries - h.natives) / 8));
       }
 
-pub limits_of : (bytes : List ℕ) (answer : Result Amx FormatFault) → Answers bytes answer → IfOk answer IsWithinLimits
+pub limits_of : (bytes : List ℕ) (answer : Result Amx FormatFault) → Answers bytes answer
+    → IfOk answer IsWithinLimits
 limits_of bytes (Ok amx) file = within_limits bytes amx file
 limits_of bytes (Err fault) first = tt

@@ -1,13 +1,20 @@
 -- Why bytes are no file: each fault, and which one comes first.
-use Rattle.std.specs.Prelude.{◌≡◌, ◌⊎◌, ◌+◌, ◌-◌, ◌≤◌, ℕ, List, [], ◌∷◌, Option, Some, None, Err, true, length, take, drop}
+use Rattle.std.specs.Prelude.{◌≡◌, ◌⊎◌, ◌+◌, ◌-◌, ◌≤◌, ℕ, List, [], ◌∷◌, Option, Some, None, Err}
+use Rattle.std.specs.Prelude.{true, length, take, drop}
 use Rattle.amx_compact.specs.declared.fault.CompactFault.{CompactFault}
-use Rattle.amx_compact.specs.declared.fault.CompactFault.TheVariants.{Short, OpenGroup, GroupTooLong, TooMany, Memory as NoMemory}
+use Rattle.amx_compact.specs.declared.fault.CompactFault.TheVariants.{Short, OpenGroup}
+use Rattle.amx_compact.specs.declared.fault.CompactFault.TheVariants.{GroupTooLong, TooMany}
+use Rattle.amx_compact.specs.declared.fault.CompactFault.TheVariants.{Memory as NoMemory}
 use Rattle.amx_compact.specs.Causes.{Answers as CellsAnswer}
 use Rattle.amx_format.specs.declared.fault.FormatFault.{FormatFault}
-use Rattle.amx_format.specs.declared.fault.FormatFault.TheVariants.{TooShort, Magic, Version, RecordSize, Order, NameOutside, NameOpen, SizeDiffers, Compact, Memory}
+use Rattle.amx_format.specs.declared.fault.FormatFault.TheVariants.{TooShort, Magic, Version}
+use Rattle.amx_format.specs.declared.fault.FormatFault.TheVariants.{RecordSize, Order, NameOutside}
+use Rattle.amx_format.specs.declared.fault.FormatFault.TheVariants.{NameOpen, SizeDiffers, Compact}
+use Rattle.amx_format.specs.declared.fault.FormatFault.TheVariants.{Memory}
 use Rattle.amx_format.specs.declared.header.Header.{Header}
 use Rattle.amx_format.specs.declared.header.TheConstants.{HEADER, MAGIC, RECORD}
-use Rattle.amx_format.specs.Header.{header_of, is_compact, code_cells, store_cells, HasVersions, HasSize, HasOrder}
+use Rattle.amx_format.specs.Header.{header_of, is_compact, code_cells, store_cells, HasVersions}
+use Rattle.amx_format.specs.Header.{HasSize, HasOrder}
 use Rattle.amx_format.specs.Names.{AllNames, IsInside, IsClosed}
 
 -- the number that a refusal is printed with
@@ -39,7 +46,8 @@ row_of bytes h = take (h.size - h.cod) (drop h.cod bytes)
 pub record HasCellFault (bytes : List ℕ) (fault : FormatFault) : Type 0 where
   pub compact : is_compact (header_of bytes).flags ≡ true
   pub cause : CompactFault
-  pub breaks : CellsAnswer (row_of bytes (header_of bytes)) (code_cells (header_of bytes) + store_cells (header_of bytes)) (Err cause)
+  pub breaks : CellsAnswer (row_of bytes (header_of bytes))
+      (code_cells (header_of bytes) + store_cells (header_of bytes)) (Err cause)
   pub is : fault ≡ of_cells cause
 
 -- the bytes haven't the fault, if those before it aren't there
@@ -51,7 +59,8 @@ IsFreeOf RecordSize bytes = (header_of bytes).record_size ≡ RECORD
 IsFreeOf SizeDiffers bytes = HasSize (header_of bytes) (length bytes)
 IsFreeOf Order bytes = HasOrder (header_of bytes)
 IsFreeOf NameOutside bytes = AllNames (IsInside (header_of bytes)) bytes (header_of bytes)
-IsFreeOf NameOpen bytes = AllNames (IsClosed (take (header_of bytes).cod bytes)) bytes (header_of bytes)
+IsFreeOf NameOpen bytes =
+    AllNames (IsClosed (take (header_of bytes).cod bytes)) bytes (header_of bytes)
 IsFreeOf (Compact number) bytes = ¬ HasCellFault bytes (Compact number)
 IsFreeOf Memory bytes = Unit {0}
 
@@ -64,10 +73,13 @@ abbrev pub IsFreeOfAll : List FormatFault → List ℕ → Type 0
 IsFreeOfAll [] bytes = Unit {0}
 IsFreeOfAll (it ∷ later) bytes = IsFreeOf it bytes × IsFreeOfAll later bytes
 
--- the first of these that the bytes have, or behind them all one of cells. Want of memory has no cause
+-- the first of these that the bytes have, or behind them all one of cells. Want of memory has no
+-- cause
 abbrev pub IsFirstOf : List FormatFault → List ℕ → FormatFault → Type 0
 IsFirstOf [] bytes fault = HasCellFault bytes fault ⊎ (fault ≡ Memory)
-IsFirstOf (it ∷ later) bytes fault = ((¬ IsFreeOf it bytes) × (fault ≡ it)) ⊎ (IsFreeOf it bytes × IsFirstOf later bytes fault)
+IsFirstOf (it ∷ later) bytes fault =
+    ((¬ IsFreeOf it bytes) × (fault ≡ it)) ⊎ (IsFreeOf it bytes × IsFirstOf later bytes fault)
 
+-- the fault that the bytes are refused for
 abbrev pub IsFirst : List ℕ → FormatFault → Type 0
 IsFirst bytes fault = IsFirstOf order bytes fault

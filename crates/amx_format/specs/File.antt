@@ -1,6 +1,7 @@
--- The bytes of a file (Implementer's Guide, "File format"): a header, five tables, the name table, the code
--- and the data, whose cells are plain, four bytes each, or compact.
-use Rattle.std.specs.Prelude.{◌≡◌, ◌+◌, ◌-◌, ◌/◌, ◌++◌, ℕ, ℤ, List, Bool, true, false, Result, Ok, Err, length}
+-- The bytes of a file (Implementer's Guide, "File format"): a header, five tables, the name table,
+-- the code and the data, whose cells are plain, four bytes each, or compact.
+use Rattle.std.specs.Prelude.{◌≡◌, ◌+◌, ◌-◌, ◌/◌, ◌++◌, ℕ, ℤ, List, Bool, true, false, Result, Ok}
+use Rattle.std.specs.Prelude.{Err, length}
 use Rattle.amx_compact.specs.Spelled.{SpelledAll}
 use Rattle.amx_ops.specs.declared.amx.Amx.{Amx}
 use Rattle.amx_format.specs.declared.fault.FormatFault.{FormatFault}
@@ -31,7 +32,8 @@ pub record IsFile (bytes : List ℕ) (amx : Amx) : Type 0 where
   pub entry : amx.entry ≡ (header_of bytes).cip
   pub publics : amx.publics ≡ table_at bytes (header_of bytes).publics (header_of bytes).natives
   pub natives : amx.natives ≡ table_at bytes (header_of bytes).natives (header_of bytes).libraries
-  pub libraries : amx.libraries ≡ table_at bytes (header_of bytes).libraries (header_of bytes).variables
+  pub libraries : amx.libraries ≡ table_at bytes (header_of bytes).libraries
+      (header_of bytes).variables
   pub variables : amx.variables ≡ table_at bytes (header_of bytes).variables (header_of bytes).tags
   pub tags : amx.tags ≡ table_at bytes (header_of bytes).tags (header_of bytes).names
 

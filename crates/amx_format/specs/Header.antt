@@ -1,10 +1,17 @@
--- The header of a file (Implementer's Guide, "File format"): what its fields read as, and what they keep.
-use Rattle.std.specs.Prelude.{◌≡◌, ◌+◌, ◌-◌, ◌*◌, ◌/◌, ◌%◌, ◌^◌, ◌<◌, ◌≤◌, ◌==◌, ℕ, List, Bool, true, false, slice_index}
+-- The header of a file (Implementer's Guide, "File format"): what its fields read as, and what they
+-- keep.
+use Rattle.std.specs.Prelude.{◌≡◌, ◌+◌, ◌-◌, ◌*◌, ◌/◌, ◌%◌, ◌^◌, ◌<◌, ◌≤◌, ◌==◌, ℕ, List, Bool}
+use Rattle.std.specs.Prelude.{true, false, slice_index}
 use Rattle.amx_format.specs.declared.header.Header.{Header}
-use Rattle.amx_format.specs.declared.header.TheConstants.{HEADER, FILE_VERSION as format, LAST_VERSION, RECORD as record_bytes, GOES_ON, COMPACT, MEMORY_LIMIT}
-use Rattle.amx_format.specs.declared.place.TheConstants.{SIZE, MAGIC, FILE_VERSION, VERSION, FLAGS, RECORD, COD, DAT, HEA, STP, CIP, PUBLICS, NATIVES, LIBRARIES, VARIABLES, TAGS, NAMES}
+use Rattle.amx_format.specs.declared.header.TheConstants.{HEADER, FILE_VERSION as format}
+use Rattle.amx_format.specs.declared.header.TheConstants.{LAST_VERSION, RECORD as record_bytes}
+use Rattle.amx_format.specs.declared.header.TheConstants.{GOES_ON, COMPACT, MEMORY_LIMIT}
+use Rattle.amx_format.specs.declared.place.TheConstants.{SIZE, MAGIC, FILE_VERSION, VERSION, FLAGS}
+use Rattle.amx_format.specs.declared.place.TheConstants.{RECORD, COD, DAT, HEA, STP, CIP, PUBLICS}
+use Rattle.amx_format.specs.declared.place.TheConstants.{NATIVES, LIBRARIES, VARIABLES, TAGS, NAMES}
 use Rattle.amx_format.specs.Numbers.{half_at, word_at, cell_at}
 
+-- each field at its offset from the file's first byte
 unfoldable pub header_of : List ℕ → Header
 header_of bytes = record {
   size = word_at bytes SIZE;
@@ -43,13 +50,14 @@ pub record IsPart (unit first past : ℕ) : Type 0 where
   pub rises : first ≤ past
   pub whole : (past - first) % unit ≡ 0
 
+-- the file's version is the format's, and it asks for a version of the machine that is known
 pub record HasVersions (h : Header) : Type 0 where
   pub format : h.file_version ≡ format
   pub first : 1 ≤ h.version
   pub last : h.version ≤ LAST_VERSION
 
--- a size, not below 0 as a number with a sign, of the bytes or of their front, and of plain cells that of
--- the file up to the heap
+-- a size, not below 0 as a number with a sign, of the bytes or of their front, and of plain cells
+-- that of the file up to the heap
 pub record HasSize (h : Header) (bytes : ℕ) : Type 0 where
   pub least : HEADER ≤ h.size
   pub signed : h.size < 2 ^ 31
@@ -76,12 +84,15 @@ pub record HasParts (h : Header) : Type 0 where
   pub top : h.stp < 2 ^ 31
   pub row : is_compact h.flags ≡ true → h.cod ≤ h.size
 
+-- each part that the header tells of begins where the one before ends
 pub record HasOrder (h : Header) : Type 0 where
   pub tables : HasTables h
   pub parts : HasParts h
 
+-- how many cells are the code, once they are plain
 abbrev pub code_cells : Header → ℕ
 code_cells h = (h.dat - h.cod) / 4
 
+-- and how many are the data
 abbrev pub store_cells : Header → ℕ
 store_cells h = (h.hea - h.dat) / 4

@@ -2,6 +2,7 @@
 use Rattle.std.specs.Prelude.{◌+◌, ◌^◌, ◌<◌, ◌≤◌, length}
 use Rattle.amx_ops.specs.declared.amx.Amx.{Amx}
 
+-- code and memory take at most 128 MiB, and a cell can number each public and each native
 pub record IsWithinLimits (amx : Amx) : Type 0 where
   pub memory : length amx.code + length amx.store + amx.room ≤ 33554432
   pub publics : length amx.publics < 2 ^ 31

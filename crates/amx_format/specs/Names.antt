@@ -1,6 +1,7 @@
--- Records and their names (Implementer's Guide, "File format"): four bytes of an address, and four of the
--- place of a name, which ends before a zero byte.
-use Rattle.std.specs.Prelude.{◌≡◌, ◌+◌, ◌-◌, ◌*◌, ◌/◌, ◌<◌, ◌≤◌, ℕ, zero, suc, List, [], ◌∷◌, length, drop, slice_index}
+-- Records and their names (Implementer's Guide, "File format"): four bytes of an address, and four
+-- of the place of a name, which ends before a zero byte.
+use Rattle.std.specs.Prelude.{◌≡◌, ◌+◌, ◌-◌, ◌*◌, ◌/◌, ◌<◌, ◌≤◌, ℕ, zero, suc, List, [], ◌∷◌}
+use Rattle.std.specs.Prelude.{length, drop, slice_index}
 use Rattle.amx_ops.specs.declared.amx.Record.{Record}
 use Rattle.amx_format.specs.declared.header.Header.{Header}
 use Rattle.amx_format.specs.declared.header.TheConstants.{RECORD}
@@ -12,6 +13,7 @@ name_from [] = []
 name_from (zero ∷ bytes) = []
 name_from (suc byte ∷ bytes) = suc byte ∷ name_from bytes
 
+-- a record, with the name to which it leads
 abbrev pub record_at : List ℕ → ℕ → Record
 record_at bytes place = record {
   address = cell_at bytes place;

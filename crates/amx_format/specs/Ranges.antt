@@ -10,6 +10,7 @@ use Rattle.amx_format.specs.Layout.{all_records}
 abbrev pub AddressesFit : List Record → Type 0
 AddressesFit records = All (λ it. FitsSigned w32 it.address) records
 
+-- the flags have two bytes, and each cell and address has 32 bits with a sign
 pub record HasRanges (amx : Amx) : Type 0 where
   pub flags : amx.flags < 2 ^ 16
   pub entry : FitsSigned w32 amx.entry

@@ -27,6 +27,9 @@ pub const GOES_ON: u16 = 0x02;
 /// The flag of files with compact cells.
 pub const COMPACT: u16 = 0x04;
 
+/// The most bytes of a file that the commands read, and that is made of a source.
+pub const FILE_LIMIT: u64 = 67_108_864;
+
 /// The bytes of code, data, heap and stack at most.
 pub const MEMORY_LIMIT: u32 = 134_217_728;
 

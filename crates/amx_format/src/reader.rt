@@ -11,7 +11,7 @@ ghost use Rattle.amx_format.specs.Limits.{IsWithinLimits};
 
 use super::check::check;
 use super::fault::FormatFault;
-use super::header::Header;
+use super::header::{FILE_LIMIT, Header};
 use super::number::{read_cell, read_word};
 use amx_compact::read_cells;
 use amx_ops::{Amx, Record};
@@ -20,7 +20,7 @@ use std::alloc::Global;
 
 /// The bytes that the names of one table may take together: as many as the greatest file has. Where
 /// records share long names, they could take the product of both.
-const NAMES_LIMIT: usize = 67_108_864;
+const NAMES_LIMIT: usize = FILE_LIMIT as usize;
 
 /// So many plain cells from a place on.
 fn read_plain(alloc: Global, bytes: &[u8], place: usize, count: usize) -> Result<Cells, Memory>

@@ -1,5 +1,7 @@
 -- The state that live cells written over zeros leave is the one whose image was read.
-use Rattle.std.proofs.Common.{◌≡◌, ◌+◌, ◌-◌, ◌*◌, ◌/◌, ◌≤◌, ◌++◌, inl, inr, ℕ, ℤ, pos, List, true, All, None, Some, length, take, drop, replicate, refl, sym, ap, ◌∙◌, subst, arith}
+use Rattle.std.proofs.Common.{◌≡◌, ◌+◌, ◌-◌, ◌*◌, ◌/◌, ◌≤◌, ◌++◌, inl, inr, ℕ, ℤ, pos, List, true}
+use Rattle.std.proofs.Common.{All, None, Some, length, take, drop, replicate, refl, sym, ap, ◌∙◌}
+use Rattle.std.proofs.Common.{subst, arith}
 use Rattle.std.proofs.lemmas.Int.{to_z-of_z}
 use Rattle.std.specs.Int.{w32}
 use Rattle.std.proofs.lemmas.List.{length-append, length-drop, length-replicate}
@@ -26,13 +28,15 @@ use Rattle.amx_image.specs.Examined.{stack_place}
 use Rattle.amx_image.specs.Rows.{IsLiveRow, with_row}
 use Rattle.amx_image.specs.Restored.{IsImageFor, HasNoImage}
 use Rattle.amx_image.proofs.FaultLaws.{HasCells, IsSound, sound, image_has_no_fault}
-use Rattle.amx_image.proofs.RowLaws.{length-cells_at, cells_fit, cells_at-split, zeros_of, all_cells, both_written, size, below, above, parts}
+use Rattle.amx_image.proofs.RowLaws.{length-cells_at, cells_fit, cells_at-split, zeros_of}
+use Rattle.amx_image.proofs.RowLaws.{all_cells, both_written, size, below, above, parts}
 
 -- a register's bits as a cell, and back
 register_back : (n : ℕ) → cell_of (bits_of (cell_of n)) ≡ cell_of n
 register_back n = to_z-of_z w32 (cell_of n) (cell_of_cell n)
 
-module _ (amx : Amx) (old : State) (version : Version) (digest bytes : List ℕ) (i : IsSound amx (length old.cells) version digest bytes) where
+module _ (amx : Amx) (old : State) (version : Version) (digest bytes : List ℕ)
+    (i : IsSound amx (length old.cells) version digest bytes) where
   abbrev n : ℕ
   n = length old.cells
 
@@ -81,7 +85,12 @@ module _ (amx : Amx) (old : State) (version : Version) (digest bytes : List ℕ)
   }
 
   pub heap_is_live : IsLiveRow (cleared r old) 0 h
-  heap_is_live = record { aligned = refl; below = omega (arith, low, high, length-replicate n (pos 0)); within = inl (omega arith) }
+  heap_is_live =
+      record {
+        aligned = refl;
+        below = omega (arith, low, high, length-replicate n (pos 0));
+        within = inl (omega arith);
+      }
 
   -- with the heap's cells written
   abbrev pub first_state : State
@@ -106,7 +115,8 @@ module _ (amx : Amx) (old : State) (version : Version) (digest bytes : List ℕ)
     within = inr (omega arith);
   }
 
-  long_by : (v : Version) → HasCells v n hea stk bytes → (CELLS + 4 * h ≤ length bytes) × (stack_place v hea stk + 4 * (n - k) ≤ length bytes)
+  long_by : (v : Version) → HasCells v n hea stk bytes
+      → (CELLS + 4 * h ≤ length bytes) × (stack_place v hea stk + 4 * (n - k) ≤ length bytes)
   long_by Whole e = (omega (arith, e.0, low, high), omega (arith, e.0, i.stack.0, i.stack.2))
   long_by Live e = (
     omega (arith, e, i.heap.0, i.stack.1, i.stack.2),
@@ -144,7 +154,9 @@ module _ (amx : Amx) (old : State) (version : Version) (digest bytes : List ℕ)
   all_fit =
       subst (λ zs. All IsCell zs) (sym cells_are)
       (All-append IsCell heap (replicate (k - h) (pos 0) ++ stack) (cells_fit bytes CELLS h)
-      (All-append IsCell (replicate (k - h) (pos 0)) stack (All-replicate IsCell (k - h) (pos 0) (small_cell 0 (omega arith))) (cells_fit bytes place (n - k))))
+      (All-append IsCell (replicate (k - h) (pos 0)) stack
+      (All-replicate IsCell (k - h) (pos 0) (small_cell 0 (omega arith)))
+      (cells_fit bytes place (n - k))))
 
   clean : swept last_state ≡ last_state
   clean =
@@ -175,17 +187,20 @@ module _ (amx : Amx) (old : State) (version : Version) (digest bytes : List ℕ)
       let at : CELLS + hea ≡ CELLS + 4 * h = omega (arith, i.heap.0) in
       ap (λ q. heap ++ cells_at bytes q (n - k)) at ∙ sym (cells_at-split bytes CELLS h (n - k))
 
-  dead_cells : are_zero (cells_at bytes (CELLS + hea) ((stk - hea) / 4)) ≡ true → cells_at bytes (CELLS + 4 * h) (k - h) ≡ replicate (k - h) (pos 0)
+  dead_cells : are_zero (cells_at bytes (CELLS + hea) ((stk - hea) / 4)) ≡ true
+      → cells_at bytes (CELLS + 4 * h) (k - h) ≡ replicate (k - h) (pos 0)
   dead_cells e =
       let at : CELLS + hea ≡ CELLS + 4 * h = omega (arith, i.heap.0) in
       let count : (stk - hea) / 4 ≡ k - h = omega (arith, i.heap.0, i.stack.0, i.stack.1) in
       let zero : are_zero (cells_at bytes (CELLS + 4 * h) (k - h)) ≡ true =
-      sym (ap (λ q. are_zero (cells_at bytes q ((stk - hea) / 4))) at ∙ ap (λ m. are_zero (cells_at bytes (CELLS + 4 * h) m)) count) ∙ e in
+      sym (ap (λ q. are_zero (cells_at bytes q ((stk - hea) / 4))) at
+      ∙ ap (λ m. are_zero (cells_at bytes (CELLS + 4 * h) m)) count) ∙ e in
       zeros_of (cells_at bytes (CELLS + 4 * h) (k - h)) zero
       ∙ ap (λ m. replicate m (pos 0)) (length-cells_at bytes (CELLS + 4 * h) (k - h))
 
   whole_cells : are_zero (cells_at bytes (CELLS + hea) ((stk - hea) / 4)) ≡ true
-      → heap ++ (replicate (k - h) (pos 0) ++ cells_at bytes (CELLS + stk) (n - k)) ≡ cells_at bytes CELLS n
+      → heap ++ (replicate (k - h) (pos 0) ++ cells_at bytes (CELLS + stk) (n - k))
+      ≡ cells_at bytes CELLS n
   whole_cells e =
       let at : CELLS + stk ≡ CELLS + 4 * k = omega (arith, i.stack.0) in
       ap (λ q. heap ++ (replicate (k - h) (pos 0) ++ cells_at bytes q (n - k))) at
@@ -198,12 +213,14 @@ module _ (amx : Amx) (old : State) (version : Version) (digest bytes : List ℕ)
   stored_by Whole same e = (
     n,
     cells_are
-        ∙ ap (λ u. heap ++ (replicate (k - h) (pos 0) ++ cells_at bytes (stack_place u hea stk) (n - k))) same ∙ whole_cells e.1,
+        ∙ ap (λ u. heap ++ (replicate (k - h) (pos 0)
+        ++ cells_at bytes (stack_place u hea stk) (n - k))) same ∙ whole_cells e.1,
     e.0,
   )
   stored_by Live same e = (
     h + (n - k),
-    ap (λ (zs : List ℤ). zs ++ drop k last_state.cells) below_hea ∙ ap (λ (zs : List ℤ). heap ++ zs) from_stk
+    ap (λ (zs : List ℤ). zs ++ drop k last_state.cells) below_hea
+        ∙ ap (λ (zs : List ℤ). heap ++ zs) from_stk
         ∙ ap (λ u. heap ++ cells_at bytes (stack_place u hea stk) (n - k)) same ∙ live_cells,
     omega (arith, e, i.heap.0, i.stack.0, i.stack.1, i.stack.2),
   )
@@ -211,7 +228,8 @@ module _ (amx : Amx) (old : State) (version : Version) (digest bytes : List ℕ)
   pub image : IsImage version last_state (word_at bytes POSITION) digest bytes
   image =
       let it = stored_by version refl i.cells in
-      let count : length (stored version last_state) ≡ it.0 = ap (λ (zs : List ℤ). length zs) it.1 ∙ length-cells_at bytes CELLS it.0 in
+      let count : length (stored version last_state) ≡ it.0 =
+      ap (λ (zs : List ℤ). length zs) it.1 ∙ length-cells_at bytes CELLS it.0 in
       record {
         length_is = omega (arith, it.2, count);
         magic = i.magic;
@@ -227,15 +245,40 @@ module _ (amx : Amx) (old : State) (version : Version) (digest bytes : List ℕ)
       registers_stay : r ≡ registers_of last_state
       registers_stay =
           ap (λ x. record r { frm = x }) (sym (register_back _))
-          ∙ ap (λ x. record { pri = r.pri; alt = r.alt; frm = cell_of (bits_of r.frm); cip = x; stk = r.stk; hea = r.hea }) (sym (register_back _))
-          ∙ ap (λ x. record { pri = r.pri; alt = r.alt; frm = cell_of (bits_of r.frm); cip = cell_of (bits_of r.cip); stk = x; hea = r.hea }) (sym (register_back _))
-          ∙ ap (λ x. record { pri = r.pri; alt = r.alt; frm = cell_of (bits_of r.frm); cip = cell_of (bits_of r.cip); stk = cell_of (bits_of r.stk); hea = x }) (sym (register_back _))
+          ∙ ap (λ x. record {
+            pri = r.pri;
+            alt = r.alt;
+            frm = cell_of (bits_of r.frm);
+            cip = x;
+            stk = r.stk;
+            hea = r.hea;
+          }) (sym (register_back _))
+          ∙ ap (λ x. record {
+            pri = r.pri;
+            alt = r.alt;
+            frm = cell_of (bits_of r.frm);
+            cip = cell_of (bits_of r.cip);
+            stk = x;
+            hea = r.hea;
+          }) (sym (register_back _))
+          ∙ ap (λ x. record {
+            pri = r.pri;
+            alt = r.alt;
+            frm = cell_of (bits_of r.frm);
+            cip = cell_of (bits_of r.cip);
+            stk =
+                cell_of (bits_of r.stk);
+            hea = x;
+          }) (sym (register_back _))
 
 -- ---- machines
 
-pub is_image_for : (m : Machine) (version : Version) (digest bytes : List ℕ) (i : IsSound m.amx (length m.state.cells) version digest bytes)
+pub is_image_for : (m : Machine) (version : Version) (digest bytes : List ℕ)
+    (i : IsSound m.amx (length m.state.cells) version digest bytes)
     → 4 * length m.state.cells ≤ memory_limit
-    → length m.state.cells ≡ cell_count m.amx → IsImageFor m.amx digest bytes (last_state m.amx m.state version digest bytes i) (word_at bytes POSITION)
+    → length m.state.cells ≡ cell_count m.amx
+    → IsImageFor m.amx digest bytes (last_state m.amx m.state version digest bytes i)
+    (word_at bytes POSITION)
 is_image_for m version digest bytes i small many = record {
   version = version;
   image = image m.amx m.state version digest bytes i;
@@ -244,27 +287,36 @@ is_image_for m version digest bytes i small many = record {
 }
 
 -- bytes with a fault are no image
-pub faulty : (amx : Amx) (digest bytes : List ℕ) (fault : ImageFault) → first_fault amx (cell_count amx) digest bytes ≡ Some fault
+pub faulty : (amx : Amx) (digest bytes : List ℕ) (fault : ImageFault)
+    → first_fault amx (cell_count amx) digest bytes ≡ Some fault
     → HasNoImage amx digest bytes
 faulty amx digest bytes fault e s position it =
     let none : first_fault amx (cell_count amx) digest bytes ≡ None =
-    ap (λ c. first_fault amx c digest bytes) (sym it.count) ∙ image_has_no_fault amx it.version s position digest bytes it.image it.restorable in
+    ap (λ c. first_fault amx c digest bytes) (sym it.count)
+    ∙ image_has_no_fault amx it.version s position digest bytes it.image it.restorable in
     let no : ⊥ = cc in no
 
 -- ---- what the tests told, of the machine
 
-module _ (m : Machine) (file : Amx) (count : ℕ) (digest bytes : List ℕ) (of : m.amx ≡ file) (many : count ≡ length m.state.cells) where
-  pub told : first_fault m.amx (length m.state.cells) digest bytes ≡ first_fault file count digest bytes
-  told = ap (λ a. first_fault a (length m.state.cells) digest bytes) of ∙ ap (λ c. first_fault file c digest bytes) (sym many)
+module _ (m : Machine) (file : Amx) (count : ℕ) (digest bytes : List ℕ) (of : m.amx ≡ file)
+    (many : count ≡ length m.state.cells) where
+  pub told : first_fault m.amx (length m.state.cells) digest bytes
+      ≡ first_fault file count digest bytes
+  told =
+      ap (λ a. first_fault a (length m.state.cells) digest bytes) of
+      ∙ ap (λ c. first_fault file c digest bytes) (sym many)
 
-  pub sound_for : (version : Version) → first_fault file count digest bytes ≡ None → version_in bytes ≡ Some version
+  pub sound_for : (version : Version) → first_fault file count digest bytes ≡ None
+      → version_in bytes ≡ Some version
       → IsSound m.amx (length m.state.cells) version digest bytes
   sound_for version e v = sound m.amx (length m.state.cells) version digest bytes (told ∙ e) v
 
 abbrev machine_of : Amx → State → Mode → Machine
 machine_of a s d = record { amx = a; state = s; mode = d }
 
-pub same_machine : (x m : Machine) (d : Mode) → x.amx ≡ m.amx → x.mode ≡ d → x ≡ record m { state = x.state; mode = d }
+pub same_machine : (x m : Machine) (d : Mode) → x.amx ≡ m.amx → x.mode ≡ d
+    → x ≡ record m { state = x.state; mode = d }
 same_machine x m d a e =
-    let amx : x ≡ record { amx = m.amx; state = x.state; mode = x.mode } = ap (λ (b : Amx). machine_of b x.state x.mode) a in
+    let amx : x ≡ record { amx = m.amx; state = x.state; mode = x.mode } =
+    ap (λ (b : Amx). machine_of b x.state x.mode) a in
     amx ∙ ap (machine_of m.amx x.state) e

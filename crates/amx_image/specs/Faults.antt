@@ -1,5 +1,7 @@
 -- The first fault of bytes that are no image of a state that a file's machine can be set to.
-use Rattle.std.specs.Prelude.{◌+◌, ◌-◌, ◌*◌, ◌/◌, ◌%◌, ◌^◌, ◌==◌, ◌&&◌, ℕ, ℤ, pos, List, [], ◌∷◌, Bool, true, not, Option, None, Some, length, take, drop, bytes_eq, nat_le, nat_lt, if◌then◌else◌}
+use Rattle.std.specs.Prelude.{◌+◌, ◌-◌, ◌*◌, ◌/◌, ◌%◌, ◌^◌, ◌==◌, ◌&&◌, ℕ, ℤ, pos, List, [], ◌∷◌}
+use Rattle.std.specs.Prelude.{Bool, true, not, Option, None, Some, length, take, drop, bytes_eq}
+use Rattle.std.specs.Prelude.{nat_le, nat_lt, if◌then◌else◌}
 use Rattle.pawn_cells.specs.Cells.{bits_of, equal}
 use Rattle.amx_ops.specs.declared.amx.Amx.{Amx}
 use Rattle.amx_ops.specs.Instructions.{is_start}
@@ -28,6 +30,7 @@ number_of fault.LiveLength = 127
 
 -- ---- tests
 
+-- an image begins with these four bytes
 abbrev pub has_magic : List ℕ → Bool
 has_magic bytes = bytes_eq (take 4 bytes) MAGIC
 
@@ -35,6 +38,7 @@ has_magic bytes = bytes_eq (take 4 bytes) MAGIC
 abbrev pub version_in : List ℕ → Option Version
 version_in bytes = if half_at bytes ZERO == 0 then version_of (half_at bytes VERSION) else None
 
+-- it is of this file
 abbrev pub has_digest : List ℕ → List ℕ → Bool
 has_digest digest bytes = bytes_eq (take 32 (drop DIGEST bytes)) digest
 
@@ -51,6 +55,7 @@ is_heap first hea = (hea % 4 == 0) && nat_lt hea (2 ^ 31) && nat_le first hea
 abbrev pub is_stack : ℕ → ℕ → ℕ → Bool
 is_stack count hea stk = (stk % 4 == 0) && nat_le hea stk && nat_le stk (4 * count)
 
+-- each of some cells is 0
 abbrev pub are_zero : List ℤ → Bool
 are_zero [] = true
 are_zero (cell ∷ cells) = equal cell (pos 0) && are_zero cells
@@ -60,6 +65,7 @@ abbrev pub has_cells : Version → ℕ → ℕ → ℕ → List ℕ → Bool
 has_cells Whole count hea stk bytes = are_zero (cells_at bytes (CELLS + hea) ((stk - hea) / 4))
 has_cells Live count hea stk bytes = length bytes == CELLS + (hea + (4 * count - stk))
 
+-- the fault of cells that aren't as the version wants them
 abbrev pub cells_fault : Version → ImageFault
 cells_fault Whole = fault.DeadCell
 cells_fault Live = fault.LiveLength
@@ -70,9 +76,11 @@ cells_fault Live = fault.LiveLength
 unfoldable pub state_fault : Amx → ℕ → Version → Registers → List ℕ → Option ImageFault
 state_fault amx count version r bytes =
     if not (is_heap (first_hea amx) (bits_of r.hea)) then Some (fault.Register register.HEA)
-    else if not (is_stack count (bits_of r.hea) (bits_of r.stk)) then Some (fault.Register register.STK)
+    else if not (is_stack count (bits_of r.hea) (bits_of r.stk))
+    then Some (fault.Register register.STK)
     else if not (is_start amx.code (bits_of r.cip)) then Some (fault.Register register.CIP)
-    else if not (has_cells version count (bits_of r.hea) (bits_of r.stk) bytes) then Some (cells_fault version)
+    else if not (has_cells version count (bits_of r.hea) (bits_of r.stk) bytes)
+    then Some (cells_fault version)
     else None
 
 -- behind the version

@@ -6,7 +6,8 @@ use Rattle.amx_effects.specs.Hosting.{registers_of}
 use Rattle.amx_format.specs.Numbers.{half_at, word_at, cell_at, cells_at}
 use Rattle.amx_image.specs.declared.version.Version.{Version}
 use Rattle.amx_image.specs.declared.version.Version.TheVariants.{Whole, Live}
-use Rattle.amx_image.specs.declared.place.TheConstants.{MAGIC, VERSION, ZERO, DIGEST, POSITION, PRI, ALT, FRM, CIP, STK, HEA, COUNT, CELLS}
+use Rattle.amx_image.specs.declared.place.TheConstants.{MAGIC, VERSION, ZERO, DIGEST, POSITION, PRI}
+use Rattle.amx_image.specs.declared.place.TheConstants.{ALT, FRM, CIP, STK, HEA, COUNT, CELLS}
 use Rattle.amx_image.specs.Version.{number_of}
 
 -- the cells that an image holds: all, or those below HEA and then those from STK on
@@ -26,7 +27,8 @@ registers_at bytes = record {
 }
 
 -- the length, the first bytes, the digest, and what the number at each place reads as
-pub record IsImage (version : Version) (s : State) (position : ℕ) (digest bytes : List ℕ) : Type 0 where
+pub record IsImage (version : Version) (s : State) (position : ℕ)
+    (digest bytes : List ℕ) : Type 0 where
   pub length_is : length bytes ≡ CELLS + 4 * length (stored version s)
   pub magic : take 4 bytes ≡ MAGIC
   pub version_is : half_at bytes VERSION ≡ number_of version

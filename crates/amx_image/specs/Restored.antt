@@ -22,9 +22,12 @@ pub record IsImageFor (amx : Amx) (digest bytes : List ℕ) (s : State) (positio
 abbrev pub HasNoImage : Amx → List ℕ → List ℕ → Type 0
 HasNoImage amx digest bytes = (s : State) (position : ℕ) → ¬ IsImageFor amx digest bytes s position
 
--- the machine is then at a sleep in the image's state; it is as it was after a fault, which is the first one
+-- the machine is then at a sleep in the image's state; it is as it was after a fault, which is the
+-- first one
 abbrev pub Restores : Machine → List ℕ → List ℕ → Result ℕ ImageFault → Machine → Type 0
 Restores old digest bytes (Ok position) new =
-    IsImageFor old.amx digest bytes new.state position × (new ≡ record old { state = new.state; mode = mode.Asleep })
+    IsImageFor old.amx digest bytes new.state position
+    × (new ≡ record old { state = new.state; mode = mode.Asleep })
 Restores old digest bytes (Err fault) new =
-    HasNoImage old.amx digest bytes × (first_fault old.amx (cell_count old.amx) digest bytes ≡ Some fault) × (new ≡ old)
+    HasNoImage old.amx digest bytes
+    × (first_fault old.amx (cell_count old.amx) digest bytes ≡ Some fault) × (new ≡ old)

@@ -1,5 +1,6 @@
 -- Rows of live cells that are written over.
-use Rattle.std.specs.Prelude.{◌≡◌, ◌⊎◌, ◌+◌, ◌*◌, ◌/◌, ◌%◌, ◌≤◌, ◌++◌, ℕ, ℤ, List, length, take, drop}
+use Rattle.std.specs.Prelude.{◌≡◌, ◌⊎◌, ◌+◌, ◌*◌, ◌/◌, ◌%◌, ◌≤◌, ◌++◌, ℕ, ℤ, List, length, take}
+use Rattle.std.specs.Prelude.{drop}
 use Rattle.amx_ops.specs.State.{State, stp}
 
 -- so many cells from an address on are all on the heap's side, or all on the stack's
@@ -10,4 +11,5 @@ pub record IsLiveRow (s : State) (at count : ℕ) : Type 0 where
 
 -- a state with a row of cells from an address on
 abbrev pub with_row : State → ℕ → List ℤ → State
-with_row s at row = record s { cells = take (at / 4) s.cells ++ (row ++ drop (at / 4 + length row) s.cells) }
+with_row s at row =
+    record s { cells = take (at / 4) s.cells ++ (row ++ drop (at / 4 + length row) s.cells) }

@@ -15,8 +15,10 @@ front digest = MAGIC ++ half LIVE ++ half 0 ++ digest
 
 -- what stands in front of the cells
 abbrev pub before_cells : Registers → ℕ → ℕ → List ℕ → List ℕ
-before_cells r position count digest = front digest ++ word position ++ cells (row_of r) ++ word count
+before_cells r position count digest =
+    front digest ++ word position ++ cells (row_of r) ++ word count
 
 -- the image, with the cells of the heap and of the stack
 abbrev pub spelled : Registers → ℕ → ℕ → List ℕ → List ℤ → List ℤ → List ℕ
-spelled r position count digest heap stack = before_cells r position count digest ++ cells heap ++ cells stack
+spelled r position count digest heap stack =
+    before_cells r position count digest ++ cells heap ++ cells stack

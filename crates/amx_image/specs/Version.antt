@@ -4,10 +4,12 @@ use Rattle.amx_image.specs.declared.version.Version.{Version}
 use Rattle.amx_image.specs.declared.version.Version.TheVariants.{Whole, Live}
 use Rattle.amx_image.specs.declared.version.TheConstants.{WHOLE, LIVE}
 
+-- as an image holds it
 abbrev pub number_of : Version → ℕ
 number_of Whole = WHOLE
 number_of Live = LIVE
 
 -- the version with a number
 abbrev pub version_of : ℕ → Option Version
-version_of number = if number == WHOLE then Some Whole else if number == LIVE then Some Live else None
+version_of number =
+    if number == WHOLE then Some Whole else if number == LIVE then Some Live else None

@@ -1,5 +1,7 @@
 -- A run that ends asleep leaves zeros between heap and stack.
-use Rattle.std.proofs.Common.{◌≡◌, ◌+◌, ◌-◌, ◌/◌, ◌≤◌, ◌++◌, ℕ, zero, suc, ℤ, pos, Bool, true, false, List, length, take, drop, replicate, refl, sym, ap, ap₂, subst, ◌∙◌, arith, length-append, length-drop}
+use Rattle.std.proofs.Common.{◌≡◌, ◌+◌, ◌-◌, ◌/◌, ◌≤◌, ◌++◌, ℕ, zero, suc, ℤ, pos, Bool, true}
+use Rattle.std.proofs.Common.{false, List, length, take, drop, replicate, refl, sym, ap, ap₂, subst}
+use Rattle.std.proofs.Common.{◌∙◌, arith, length-append, length-drop}
 use Rattle.std.proofs.lemmas.List.{length-take, length-replicate, take_at, drop_at, append_assoc}
 use Rattle.amx_ops.specs.declared.amx.Amx.{Amx}
 use Rattle.amx_ops.specs.Table.{is_number}
@@ -31,7 +33,8 @@ pub one : (n so_far : ℕ) (m : Core) → runs (suc n) so_far m ≡ after n so_f
 unfolding runs
 one n so_far m = refl
 
-pub none : (so_far : ℕ) (m : Core) → runs zero so_far m ≡ record { steps = so_far; turn = turn.Goes; machine = m }
+pub none : (so_far : ℕ) (m : Core)
+    → runs zero so_far m ≡ record { steps = so_far; turn = turn.Goes; machine = m }
 unfolding runs
 none so_far m = refl
 
@@ -46,7 +49,8 @@ SweptIn (turn.Asks native) s = Unit {0}
 abbrev HasSwept : Ran → Type 0
 HasSwept r = SweptIn r.turn r.machine.state
 
-by_turn : (n so_far : ℕ) (m : Core) (t : Turned) → Sweeps t → ((s : State) → HasSwept (runs n (so_far + 1) (with_state m s)))
+by_turn : (n so_far : ℕ) (m : Core) (t : Turned) → Sweeps t
+    → ((s : State) → HasSwept (runs n (so_far + 1) (with_state m s)))
     → HasSwept (after n so_far m t)
 by_turn n so_far m (Goes s) h rest = rest s
 by_turn n so_far m (Errs code) h rest = tt
@@ -57,7 +61,8 @@ has_swept : (n so_far : ℕ) (m : Core) → HasSwept (runs n so_far m)
 has_swept zero so_far m = subst HasSwept (sym (none so_far m)) tt
 has_swept (suc n) so_far m =
     subst HasSwept (sym (one n so_far m))
-    (by_turn n so_far m (step m.amx m.state) (step_sweeps m.amx m.state) (λ s. has_swept n (so_far + 1) (with_state m s)))
+    (by_turn n so_far m (step m.amx m.state) (step_sweeps m.amx m.state)
+    (λ s. has_swept n (so_far + 1) (with_state m s)))
 
 -- ---- to sweep twice is to sweep once
 
@@ -70,18 +75,23 @@ module _ (h k : ℕ) (xs : List ℤ) (low : h ≤ k) (high : h ≤ length xs) wh
   front = omega (arith, high, length-take h xs)
 
   both : length (take h xs ++ zeros) ≡ k
-  both = omega (arith, low, front, length-append (take h xs) zeros, length-replicate (k - h) (pos 0))
+  both =
+      omega (arith, low, front, length-append (take h xs) zeros, length-replicate (k - h) (pos 0))
 
-  swept_once : (let ys = take h xs ++ (zeros ++ drop k xs) in take h ys ++ (zeros ++ drop k ys) ≡ ys)
+  swept_once : (let ys = take h xs ++ (zeros ++ drop k xs) in take h ys
+      ++ (zeros ++ drop k ys) ≡ ys)
   swept_once =
       let ys = take h xs ++ (zeros ++ drop k xs) in
       let below : take h ys ≡ take h xs = take_at (take h xs) (zeros ++ drop k xs) h front in
       let above : drop k ys ≡ drop k xs =
-      ap (drop k) (sym (append_assoc (take h xs) zeros (drop k xs))) ∙ drop_at (take h xs ++ zeros) (drop k xs) k both in
+      ap (drop k) (sym (append_assoc (take h xs) zeros (drop k xs)))
+      ∙ drop_at (take h xs ++ zeros) (drop k xs) k both in
       ap₂ (λ a b. a ++ (zeros ++ b)) below above
 
 -- the order of what was left tells that it does
-within : (h k n : ℕ) (xs : List ℤ) → n ≡ length (take h xs ++ (replicate (k - h) (pos 0) ++ drop k xs)) → h ≤ k → k ≤ n → h ≤ length xs
+within : (h k n : ℕ) (xs : List ℤ)
+    → n ≡ length (take h xs ++ (replicate (k - h) (pos 0) ++ drop k xs)) → h ≤ k → k ≤ n
+    → h ≤ length xs
 within h k n xs e low high =
     omega (
       arith,
@@ -92,7 +102,8 @@ within h k n xs e low high =
       length-drop k xs,
     )
 
-halted_clean : (amx : Amx) (b : Bool) (code : ℤ) (u s : State) → s ≡ record (halted b u) { cip = s.cip } → AreInOrder amx s → IsClean (asleep_or b code) s
+halted_clean : (amx : Amx) (b : Bool) (code : ℤ) (u s : State)
+    → s ≡ record (halted b u) { cip = s.cip } → AreInOrder amx s → IsClean (asleep_or b code) s
 halted_clean amx true code u s e o =
     let hea : s.hea ≡ u.hea = ap (λ t. t.hea) e in
     let stk : s.stk ≡ u.stk = ap (λ t. t.stk) e in
@@ -101,19 +112,23 @@ halted_clean amx true code u s e o =
     let top : u.stk / 4 ≤ length s.cells = omega (arith, stk, o.order.2) in
     subst (λ t. swept t ≡ t) (sym e)
     (ap (λ cells. record (swept u) { cip = s.cip; cells = cells })
-    (swept_once (u.hea / 4) (u.stk / 4) u.cells low (within (u.hea / 4) (u.stk / 4) (length s.cells) u.cells size low top)))
+    (swept_once (u.hea / 4) (u.stk / 4) u.cells low
+    (within (u.hea / 4) (u.stk / 4) (length s.cells) u.cells size low top)))
 halted_clean amx false code u s e o = tt
 
-clean_by : (amx : Amx) (t : Turn) (s : State) → SweptIn t s → AreInOrder amx s → IsClean (mode_behind t) s
+clean_by : (amx : Amx) (t : Turn) (s : State) → SweptIn t s → AreInOrder amx s
+    → IsClean (mode_behind t) s
 clean_by amx turn.Goes s h o = tt
 clean_by amx (turn.Errs code) s h o = tt
 clean_by amx (turn.Halts code) s h o = halted_clean amx (is_number 12 code) code h.0 s h.1 o
 clean_by amx (turn.Asks native) s h o = tt
 
 -- behind a run
-pub clean_behind : (n : ℕ) (m new : Core) (steps : ℕ) (t : Turn) → record { steps = steps; turn = t; machine = new } ≡ runs n 0 m
+pub clean_behind : (n : ℕ) (m new : Core) (steps : ℕ) (t : Turn)
+    → record { steps = steps; turn = t; machine = new } ≡ runs n 0 m
     → AreInOrder new.amx new.state → IsClean (mode_behind t) new.state
-clean_behind n m new steps t e o = clean_by new.amx t new.state (subst HasSwept (sym e) (has_swept n 0 m)) o
+clean_behind n m new steps t e o =
+    clean_by new.amx t new.state (subst HasSwept (sym e) (has_swept n 0 m)) o
 
 -- then it is seen as it is
 pub rests : (m : Mode) (s : State) → IsClean m s → resting m s ≡ s

@@ -1,8 +1,13 @@
 -- Cells that are put into a live part, from its first on.
-use Rattle.std.proofs.Common.{◌≡◌, ◌+◌, ◌-◌, ◌/◌, ◌%◌, ◌==◌, ◌≤◌, ◌++◌, ℕ, zero, suc, ℤ, pos, List, [], ◌∷◌, Bool, true, false, cond, length, take, drop, replicate, nat_le, nat_lt, refl, sym, ap, ap₂, ◌∙◌, arith, length-append, length-drop, leb-true, ltb-true}
+use Rattle.std.proofs.Common.{◌≡◌, ◌+◌, ◌-◌, ◌/◌, ◌%◌, ◌==◌, ◌≤◌, ◌++◌, ℕ, zero, suc, ℤ, pos, List}
+use Rattle.std.proofs.Common.{[], ◌∷◌, Bool, true, false, cond, length, take, drop, replicate}
+use Rattle.std.proofs.Common.{nat_le, nat_lt, refl, sym, ap, ap₂, ◌∙◌, arith, length-append}
+use Rattle.std.proofs.Common.{length-drop, leb-true, ltb-true}
 use Rattle.std.specs.Prelude.{if◌then◌else◌}
 use Rattle.std.specs.List.{refill}
-use Rattle.std.proofs.lemmas.List.{length-take, length-replicate, take_at, drop_at, drop-drop, take-take, take-append-le, drop-append-le, take-append-drop, append_assoc}
+use Rattle.std.proofs.lemmas.List.{length-take, length-replicate, take_at, drop_at, drop-drop}
+use Rattle.std.proofs.lemmas.List.{take-take, take-append-le, drop-append-le, take-append-drop}
+use Rattle.std.proofs.lemmas.List.{append_assoc}
 use Rattle.std.proofs.Math.Seq.{take-append-add, drop-append-add}
 use Rattle.amx_block.specs.Lending.{written_over}
 use Rattle.amx_ops.specs.declared.amx.Amx.{Amx}
@@ -29,9 +34,11 @@ no_cells (x ∷ new) h = absurd (omega (arith, h))
 over_none : (i : ℕ) (new xs : List ℤ) → length new ≤ 0 → over i new xs ≡ xs
 over_none i new xs h =
     let at : i + length new ≡ i = omega (arith, h) in
-    ap (λ n. take i xs ++ (new ++ drop n xs)) at ∙ ap (λ l. take i xs ++ (l ++ drop i xs)) (no_cells new h) ∙ take-append-drop i xs
+    ap (λ n. take i xs ++ (new ++ drop n xs)) at
+    ∙ ap (λ l. take i xs ++ (l ++ drop i xs)) (no_cells new h) ∙ take-append-drop i xs
 
-length_over : (i : ℕ) (new xs : List ℤ) → length new ≤ length xs - i → length (over i new xs) ≡ length xs
+length_over : (i : ℕ) (new xs : List ℤ) → length new ≤ length xs - i
+    → length (over i new xs) ≡ length xs
 length_over i new xs h =
     omega (
       arith,
@@ -43,7 +50,8 @@ length_over i new xs h =
     )
 
 -- among the first cells
-over_first : (i : ℕ) (new a b : List ℤ) → i + length new ≤ length a → over i new (a ++ b) ≡ over i new a ++ b
+over_first : (i : ℕ) (new a b : List ℤ) → i + length new ≤ length a
+    → over i new (a ++ b) ≡ over i new a ++ b
 over_first i new a b h =
     let low : i ≤ length a = omega (arith, h) in
     ap₂ (λ x y. x ++ (new ++ y)) (take-append-le i a b low) (drop-append-le (i + length new) a b h)
@@ -51,7 +59,8 @@ over_first i new a b h =
     ∙ sym (append_assoc (take i a) (new ++ drop (i + length new) a) b)
 
 -- behind them
-over_rest : (i j : ℕ) (new a b : List ℤ) → i ≡ length a + j → over i new (a ++ b) ≡ a ++ over j new b
+over_rest : (i j : ℕ) (new a b : List ℤ) → i ≡ length a + j
+    → over i new (a ++ b) ≡ a ++ over j new b
 over_rest i j new a b e =
     let end : i + length new ≡ length a + (j + length new) = omega (arith, e) in
     ap (λ n. take n (a ++ b) ++ (new ++ drop (i + length new) (a ++ b))) e
@@ -66,7 +75,8 @@ front_back zero xs = refl
 front_back (suc h) [] = refl
 front_back (suc h) (x ∷ xs) = ap (λ l. x ∷ l) (front_back h xs)
 
-part_back : (i h : ℕ) (xs : List ℤ) → drop i (take h xs) ++ drop (length (drop i (take h xs))) (drop i xs) ≡ drop i xs
+part_back : (i h : ℕ) (xs : List ℤ)
+    → drop i (take h xs) ++ drop (length (drop i (take h xs))) (drop i xs) ≡ drop i xs
 part_back zero h xs = front_back h xs
 part_back (suc i) zero xs = refl
 part_back (suc i) (suc h) [] = refl
@@ -77,7 +87,8 @@ all_back [] = refl
 all_back (x ∷ xs) = ap (λ l. x ∷ l) (all_back xs)
 
 back_by : (s : State) (i : ℕ) (aligned below from : Bool)
-    → (let part = cond aligned (cond below (drop i (take (s.hea / 4) s.cells)) (cond from (drop i s.cells) [])) [] in
+    →
+    (let part = cond aligned (cond below (drop i (take (s.hea / 4) s.cells)) (cond from (drop i s.cells) [])) [] in
     part ++ drop (length part) (drop i s.cells) ≡ drop i s.cells)
 back_by s i true true from = part_back i (s.hea / 4) s.cells
 back_by s i true false true = all_back (drop i s.cells)
@@ -85,19 +96,29 @@ back_by s i true false false = refl
 back_by s i false below from = refl
 
 -- a live part, and all cells behind it
-live_back : (s : State) (at : ℕ) → live_from s at ++ drop (length (live_from s at)) (drop (at / 4) s.cells) ≡ drop (at / 4) s.cells
+live_back : (s : State) (at : ℕ)
+    → live_from s at ++ drop (length (live_from s at)) (drop (at / 4) s.cells)
+    ≡ drop (at / 4) s.cells
 live_back s at = back_by s (at / 4) (at % 4 == 0) (nat_lt at s.hea) (nat_le s.stk at)
 
-module _ (new part ys : List ℤ) (short : length new ≤ length part) (back : part ++ drop (length part) ys ≡ ys) where
+module _ (new part ys : List ℤ) (short : length new ≤ length part)
+    (back : part ++ drop (length part) ys ≡ ys) where
   abbrev put : List ℤ
   put = new ++ drop (length new) part
 
   put_back : put ++ drop (length put) ys ≡ new ++ drop (length new) ys
   put_back =
-      let size : length put ≡ length part = omega (arith, short, length-append new (drop (length new) part), length-drop (length new) part) in
+      let size : length put ≡ length part =
+      omega (
+        arith,
+        short,
+        length-append new (drop (length new) part),
+        length-drop (length new) part,
+      ) in
       ap (λ n. put ++ drop n ys) size
       ∙ append_assoc new (drop (length new) part) (drop (length part) ys)
-      ∙ ap (λ l. new ++ l) (sym (drop-append-le (length new) part (drop (length part) ys) short) ∙ ap (drop (length new)) back)
+      ∙ ap (λ l. new ++ l) (sym (drop-append-le (length new) part (drop (length part) ys) short)
+      ∙ ap (drop (length new)) back)
 
 refill_same : (xs ys : List ℤ) → length ys ≡ length xs → refill (length xs) xs ys ≡ ys
 refill_same xs ys e = take_at ys (drop (length ys) xs) (length xs) e
@@ -109,25 +130,37 @@ put_over : (cells : List ℤ) (at : ℕ) (new part : List ℤ) → length new �
 put_over cells at new part short back =
     let i = at / 4 in
     let room : length new ≤ length cells - i =
-    omega (arith, short, length-append part (drop (length part) (drop i cells)), ap length back, length-drop i cells) in
-    ap (λ l. refill (length cells) cells (take i cells ++ l)) (put_back new part (drop i cells) short back)
-    ∙ ap (λ l. refill (length cells) cells (take i cells ++ (new ++ l))) (drop-drop (length new) i cells)
+    omega (
+      arith,
+      short,
+      length-append part (drop (length part) (drop i cells)),
+      ap length back,
+      length-drop i cells,
+    ) in
+    ap (λ l. refill (length cells) cells (take i cells ++ l))
+    (put_back new part (drop i cells) short back)
+    ∙ ap (λ l. refill (length cells) cells (take i cells ++ (new ++ l)))
+    (drop-drop (length new) i cells)
     ∙ refill_same cells (over i new cells) (length_over i new cells room)
 
 module _ (s : State) (at : ℕ) (new : List ℤ) (short : length new ≤ length (live_from s at)) where
   lent_by : (b : Bool) → is_live s at ≡ b
-      → written_over s.cells (if is_live s at then at else 0) (new ++ drop (length new) (live_from s at)) ≡ over (at / 4) new s.cells
+      → written_over s.cells (if is_live s at then at else 0)
+      (new ++ drop (length new) (live_from s at)) ≡ over (at / 4) new s.cells
   lent_by true e =
-      ap (λ b. written_over s.cells (if b then at else 0) (new ++ drop (length new) (live_from s at))) e
+      ap (λ b. written_over s.cells (if b then at else 0)
+      (new ++ drop (length new) (live_from s at))) e
       ∙ put_over s.cells at new (live_from s at) short (live_back s at)
   lent_by false e =
       let part : live_from s at ≡ [] = sym (no_part s at e) in
       let none : length new ≤ 0 = omega (arith, short, ap length part) in
-      ap (λ b. written_over s.cells (if b then at else 0) (new ++ drop (length new) (live_from s at))) e
+      ap (λ b. written_over s.cells (if b then at else 0)
+      (new ++ drop (length new) (live_from s at))) e
       ∙ put_over s.cells 0 new (live_from s at) short (ap (λ l. l ++ drop (length l) s.cells) part)
       ∙ over_none 0 new s.cells none ∙ sym (over_none (at / 4) new s.cells none)
 
-  pub put_live : with_live s at (new ++ drop (length new) (live_from s at)) ≡ record s { cells = with_write (record { to = at; values = new }) s.cells }
+  pub put_live : with_live s at (new ++ drop (length new) (live_from s at))
+      ≡ record s { cells = with_write (record { to = at; values = new }) s.cells }
   put_live = ap (λ (cells : List ℤ). record s { cells = cells }) (lent_by (is_live s at) refl)
 
 -- ---- what is dead stays 0
@@ -136,40 +169,60 @@ module _ (h k : ℕ) (xs : List ℤ) (low : h ≤ k) (high : k ≤ length xs) wh
   abbrev swept_cells : List ℤ → List ℤ
   swept_cells ys = take h ys ++ (replicate (k - h) (pos 0) ++ drop k ys)
 
-  below_stays : (i : ℕ) (new : List ℤ) → i + length new ≤ h → swept_cells (over i new xs) ≡ over i new (swept_cells xs)
+  below_stays : (i : ℕ) (new : List ℤ) → i + length new ≤ h
+      → swept_cells (over i new xs) ≡ over i new (swept_cells xs)
   below_stays i new e =
       let size : length (take h xs) ≡ h = omega (arith, low, high, length-take h xs) in
       let fits : i + length new ≤ length (take h xs) = omega (arith, e, size) in
       let room : length new ≤ length (take h xs) - i = omega (arith, fits) in
       let first = over i new (take h xs) in
       let there : length first ≡ h = omega (arith, size, length_over i new (take h xs) room) in
-      let apart : over i new xs ≡ first ++ drop h xs = ap (over i new) (sym (take-append-drop h xs)) ∙ over_first i new (take h xs) (drop h xs) fits in
+      let apart : over i new xs ≡ first ++ drop h xs =
+      ap (over i new) (sym (take-append-drop h xs))
+      ∙ over_first i new (take h xs) (drop h xs) fits in
       let at : k ≡ h + (k - h) = omega (arith, low) in
       let behind : drop k (first ++ drop h xs) ≡ drop k xs =
       ap (λ n. drop n (first ++ drop h xs)) at ∙ sym (drop-drop (k - h) h (first ++ drop h xs))
-      ∙ ap (drop (k - h)) (drop_at first (drop h xs) h there) ∙ drop-drop (k - h) h xs ∙ ap (λ n. drop n xs) (sym at) in
+      ∙ ap (drop (k - h)) (drop_at first (drop h xs) h there) ∙ drop-drop (k - h) h xs
+      ∙ ap (λ n. drop n xs) (sym at) in
       ap swept_cells apart
-      ∙ ap₂ (λ a b. a ++ (replicate (k - h) (pos 0) ++ b)) (take_at first (drop h xs) h there) behind
+      ∙ ap₂ (λ a b. a ++ (replicate (k - h) (pos 0) ++ b))
+      (take_at first (drop h xs) h there) behind
       ∙ sym (over_first i new (take h xs) (replicate (k - h) (pos 0) ++ drop k xs) fits)
 
-  above_stays : (i : ℕ) (new : List ℤ) → k ≤ i → swept_cells (over i new xs) ≡ over i new (swept_cells xs)
+  above_stays : (i : ℕ) (new : List ℤ) → k ≤ i
+      → swept_cells (over i new xs) ≡ over i new (swept_cells xs)
   above_stays i new e =
       let size : length (take k xs) ≡ k = omega (arith, high, length-take k xs) in
       let at : i ≡ length (take k xs) + (i - k) = omega (arith, e, size) in
       let rest = over (i - k) new (drop k xs) in
       let zeros = replicate (k - h) (pos 0) in
-      let apart : over i new xs ≡ take k xs ++ rest = ap (over i new) (sym (take-append-drop k xs)) ∙ over_rest i (i - k) new (take k xs) (drop k xs) at in
+      let apart : over i new xs ≡ take k xs ++ rest =
+      ap (over i new) (sym (take-append-drop k xs))
+      ∙ over_rest i (i - k) new (take k xs) (drop k xs) at in
       let within : h ≤ length (take k xs) = omega (arith, low, size) in
       let dead : i ≡ length (take h xs ++ zeros) + (i - k) =
-      omega (arith, e, low, high, length-append (take h xs) zeros, length-take h xs, length-replicate (k - h) (pos 0)) in
+      omega (
+        arith,
+        e,
+        low,
+        high,
+        length-append (take h xs) zeros,
+        length-take h xs,
+        length-replicate (k - h) (pos 0),
+      ) in
       ap swept_cells apart
-      ∙ ap₂ (λ a b. a ++ (zeros ++ b)) (take-append-le h (take k xs) rest within ∙ take-take h k xs low) (drop_at (take k xs) rest k size)
+      ∙ ap₂ (λ a b. a ++ (zeros ++ b))
+      (take-append-le h (take k xs) rest within ∙ take-take h k xs low)
+      (drop_at (take k xs) rest k size)
       ∙ sym (append_assoc (take h xs) zeros rest)
       ∙ sym (over_rest i (i - k) new (take h xs ++ zeros) (drop k xs) dead)
       ∙ ap (over i new) (append_assoc (take h xs) zeros (drop k xs))
 
-  none_stays : (i : ℕ) (new : List ℤ) → length new ≤ 0 → swept_cells (over i new xs) ≡ over i new (swept_cells xs)
-  none_stays i new e = ap swept_cells (over_none i new xs e) ∙ sym (over_none i new (swept_cells xs) e)
+  none_stays : (i : ℕ) (new : List ℤ) → length new ≤ 0
+      → swept_cells (over i new xs) ≡ over i new (swept_cells xs)
+  none_stays i new e =
+      ap swept_cells (over_none i new xs e) ∙ sym (over_none i new (swept_cells xs) e)
 
 module _ (amx : Amx) (s : State) (o : AreInOrder amx s) (at : ℕ) (new : List ℤ) where
   low : s.hea / 4 ≤ s.stk / 4
@@ -183,25 +236,41 @@ module _ (amx : Amx) (s : State) (o : AreInOrder amx s) (at : ℕ) (new : List �
       ≡ over (at / 4) new (swept_cells (s.hea / 4) (s.stk / 4) s.cells low high s.cells)
 
   stays_by : (aligned below from : Bool) → nat_lt at s.hea ≡ below → nat_le s.stk at ≡ from
-      → length new ≤ length (cond aligned (cond below (drop (at / 4) (take (s.hea / 4) s.cells)) (cond from (drop (at / 4) s.cells) [])) []) → stays
+      → length new ≤ length (cond aligned
+      (cond below (drop (at / 4) (take (s.hea / 4) s.cells))
+      (cond from (drop (at / 4) s.cells) [])) []) → stays
   stays_by true true from b f short =
       let under = ltb-true at s.hea b in
       below_stays (s.hea / 4) (s.stk / 4) s.cells low high (at / 4) new
-      (omega (arith, under, short, o.whole.0, length-drop (at / 4) (take (s.hea / 4) s.cells), length-take (s.hea / 4) s.cells))
+      (omega (
+        arith,
+        under,
+        short,
+        o.whole.0,
+        length-drop (at / 4) (take (s.hea / 4) s.cells),
+        length-take (s.hea / 4) s.cells,
+      ))
   stays_by true false true b f short =
-      let past = leb-true s.stk at f in above_stays (s.hea / 4) (s.stk / 4) s.cells low high (at / 4) new (omega (arith, past))
-  stays_by true false false b f short = none_stays (s.hea / 4) (s.stk / 4) s.cells low high (at / 4) new short
-  stays_by false below from b f short = none_stays (s.hea / 4) (s.stk / 4) s.cells low high (at / 4) new short
+      let past = leb-true s.stk at f in
+      above_stays (s.hea / 4) (s.stk / 4) s.cells low high (at / 4) new (omega (arith, past))
+  stays_by true false false b f short =
+      none_stays (s.hea / 4) (s.stk / 4) s.cells low high (at / 4) new short
+  stays_by false below from b f short =
+      none_stays (s.hea / 4) (s.stk / 4) s.cells low high (at / 4) new short
 
   -- in each mode
   pub put_in : (m : Mode) → length new ≤ length (live_from s at)
       → resting m (with_live s at (new ++ drop (length new) (live_from s at)))
-      ≡ record (resting m s) { cells = with_write (record { to = at; values = new }) (resting m s).cells }
+      ≡ record (resting m s) {
+        cells = with_write (record { to = at; values = new })
+            (resting m s).cells;
+      }
   put_in mode.Loaded h = put_live s at new h
   put_in mode.Running h = put_live s at new h
   put_in mode.Asleep h =
       ap swept (put_live s at new h)
-      ∙ ap (λ (cells : List ℤ). record s { cells = cells }) (stays_by (at % 4 == 0) (nat_lt at s.hea) (nat_le s.stk at) refl refl h)
+      ∙ ap (λ (cells : List ℤ). record s { cells = cells })
+      (stays_by (at % 4 == 0) (nat_lt at s.hea) (nat_le s.stk at) refl refl h)
   put_in mode.Waiting h = put_live s at new h
   put_in (mode.Halted code) h = put_live s at new h
   put_in (mode.Failed code) h = put_live s at new h

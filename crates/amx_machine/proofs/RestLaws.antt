@@ -10,7 +10,8 @@ use Rattle.amx_effects.specs.Hosting.{AreInOrder, registers_of, cleared}
 use Rattle.amx_machine.specs.declared.mode.Mode.{Mode}
 use Rattle.amx_machine.specs.declared.mode.Mode.TheVariants as mode
 use Rattle.amx_machine.specs.Machine.{resting, IsClean}
-use Rattle.amx_machine.proofs.SleepLaws.{swept_again, swept_length, live_stays, arguments_stay, zeros_stay}
+use Rattle.amx_machine.proofs.SleepLaws.{swept_again, swept_length, live_stays, arguments_stay}
+use Rattle.amx_machine.proofs.SleepLaws.{zeros_stay}
 
 pub registers_in : (m : Mode) (s : State) → registers_of s ≡ registers_of (resting m s)
 registers_in mode.Loaded s = refl
@@ -54,7 +55,12 @@ module _ (amx : Amx) (s : State) (o : AreInOrder amx s) where
   clean_in (mode.Failed code) = tt
 
   asleep_in_order : AreInOrder amx (swept s)
-  asleep_in_order = record { whole = o.whole; order = (o.order.0, o.order.1, omega (arith, o.order.2, swept_length amx s o)) }
+  asleep_in_order =
+      record {
+        whole = o.whole;
+        order =
+            (o.order.0, o.order.1, omega (arith, o.order.2, swept_length amx s o));
+      }
 
   pub order_in : (m : Mode) → AreInOrder amx (resting m s)
   order_in mode.Loaded = o
@@ -68,7 +74,8 @@ module _ (amx : Amx) (s : State) (o : AreInOrder amx s) where
   cleared_in m r = ap (λ n. record (cleared r s) { cells = replicate n (pos 0) }) (length_in m)
 
 -- cleared cells have nothing to sweep
-pub cleared_rests : (amx : Amx) (s : State) (r : Registers) → AreInOrder amx (cleared r s) → cleared r s ≡ swept (cleared r s)
+pub cleared_rests : (amx : Amx) (s : State) (r : Registers) → AreInOrder amx (cleared r s)
+    → cleared r s ≡ swept (cleared r s)
 cleared_rests amx s r o =
     ap (λ (cells : List ℤ). record (cleared r s) { cells = cells })
     (sym (zeros_stay (length s.cells) (bits_of r.hea / 4) (bits_of r.stk / 4)

@@ -9,6 +9,7 @@ use Rattle.amx_effects.specs.Hosting.{AreInOrder}
 use Rattle.amx_machine.specs.declared.mode.Mode.{Mode}
 use Rattle.amx_machine.specs.declared.mode.Mode.TheVariants as mode
 
+-- the mode says which calls may come next
 pub record Machine : Type 0 where
   pub amx : Amx
   pub state : State

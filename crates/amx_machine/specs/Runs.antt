@@ -1,5 +1,6 @@
 -- Steps of a machine, and what they come to.
-use Rattle.std.specs.Prelude.{◌≡◌, ℕ, ℤ, pos, Bool, true, false, ◌==◌, Option, None, Some, if◌then◌else◌}
+use Rattle.std.specs.Prelude.{◌≡◌, ℕ, ℤ, pos, Bool, true, false, ◌==◌, Option, None, Some}
+use Rattle.std.specs.Prelude.{if◌then◌else◌}
 use Rattle.amx_ops.specs.Table.{is_number}
 use Rattle.amx_ops.specs.State.{State}
 use Rattle.amx_effects.specs.Machine.{Machine as Core}
@@ -44,7 +45,12 @@ behind t core = record { amx = core.amx; state = core.state; mode = mode_behind 
 
 -- steps of which the last one did this
 abbrev pub ran_by : steps.Ran → Ran
-ran_by r = record { steps = r.steps; event = event_of r.turn r.machine.state; machine = behind r.turn r.machine }
+ran_by r =
+    record {
+      steps = r.steps;
+      event = event_of r.turn r.machine.state;
+      machine = behind r.turn r.machine;
+    }
 
 -- no step
 abbrev pub stays : Event → Machine → Ran
@@ -59,6 +65,7 @@ last_in mode.Waiting s = None
 last_in (mode.Halted code) s = Some (event.Halt code s.pri s.alt)
 last_in (mode.Failed code) s = Some (event.Error code)
 
+-- of this machine, if it ended
 abbrev pub last_event : Machine → Option Event
 last_event m = last_in m.mode m.state
 
@@ -73,10 +80,13 @@ core_of m = record { amx = m.amx; state = m.state }
 
 -- up to so many steps, to the first that doesn't go on; where it ended, its last event again
 abbrev pub ran : ℕ → Machine → Ran
-ran n m = again_or (last_event m) (if n == 0 then stays event.Going m else ran_by (runs n 0 (core_of m))) m
+ran n m =
+    again_or (last_event m) (if n == 0 then stays event.Going m else ran_by (runs n 0 (core_of m)))
+    m
 
 -- ---- which calls may follow an event
 
+-- by the mode in which the event left the machine
 abbrev pub Follows : Event → Mode → Type 0
 Follows event.Going m = IsSteady m
 Follows (event.Native native) m = m ≡ mode.Waiting

@@ -1,9 +1,11 @@
 -- What instructions make of cells are cells.
-use Rattle.std.proofs.Common.{◌≡◌, ◌%◌, ◌^◌, ◌<◌, ℕ, zero, suc, Bool, true, false, ℤ, pos, negsuc, arith}
+use Rattle.std.proofs.Common.{◌≡◌, ◌%◌, ◌^◌, ◌<◌, ℕ, zero, suc, Bool, true, false, ℤ, pos, negsuc}
+use Rattle.std.proofs.Common.{arith}
 use Rattle.std.proofs.Math.Nat.{div-le_self}
 use Rattle.std.proofs.lemmas.Int.{ints, SFits-int_wrap}
 use Rattle.std.proofs.lemmas.Nat.{div-add-mod'}
-use Rattle.pawn_cells.specs.Cells.{IsCell, wrap, bits_of, cell_of, wrapped_sum, floor_rem, shr, is_zero, truth}
+use Rattle.pawn_cells.specs.Cells.{IsCell, wrap, bits_of, cell_of, wrapped_sum, floor_rem, shr}
+use Rattle.pawn_cells.specs.Cells.{is_zero, truth}
 
 pub wrap_cell : (z : ℤ) → IsCell (wrap z)
 wrap_cell z = SFits-int_wrap _ z

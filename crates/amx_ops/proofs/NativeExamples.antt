@@ -33,7 +33,8 @@ file_of code = record {
 
 -- HALT 0; CONST.pri 5, HALT 12, ZERO.pri, HALT 0
 abbrev sleeper : Amx
-sleeper = file_of (pos 120 ∷ pos 0 ∷ pos 11 ∷ pos 5 ∷ pos 120 ∷ pos 12 ∷ pos 89 ∷ pos 120 ∷ pos 0 ∷ [])
+sleeper =
+    file_of (pos 120 ∷ pos 0 ∷ pos 11 ∷ pos 5 ∷ pos 120 ∷ pos 12 ∷ pos 89 ∷ pos 120 ∷ pos 0 ∷ [])
 
 abbrev slept : List ℕ → Traced Config End
 slept bounds = trace_from sleeper 40 plain (pos 8) 10 bounds
@@ -70,28 +71,35 @@ script f answers = record {
 
 -- HALT 0; PUSH.C v, PUSH.C 4, SYSREQ.C 0, LOAD.pri 0, HALT 0
 abbrev caller : ℤ → Amx
-caller v = file_of (pos 120 ∷ pos 0 ∷ pos 39 ∷ v ∷ pos 39 ∷ pos 4 ∷ pos 123 ∷ pos 0 ∷ pos 1 ∷ pos 0 ∷ pos 120 ∷ pos 0 ∷ [])
+caller v =
+    file_of (pos 120 ∷ pos 0 ∷ pos 39 ∷ v ∷ pos 39 ∷ pos 4 ∷ pos 123 ∷ pos 0 ∷ pos 1 ∷ pos 0
+    ∷ pos 120 ∷ pos 0 ∷ [])
 
 abbrev called : Form → List Answer → ℤ → Traced Config End
 called f answers v = trace_from (caller v) 40 (script f answers) (pos 8) 10 []
 
-cell_is_seen : (called form.Cell [] (pos 3)).config.events ≡ event.Native (codes "p") (seen.Cell (pos 3) ∷ []) (pos 0) ∷ []
+cell_is_seen : (called form.Cell [] (pos 3)).config.events
+    ≡ event.Native (codes "p") (seen.Cell (pos 3) ∷ []) (pos 0) ∷ []
 unfolding segment row_at
 cell_is_seen = refl
 
-reference_is_seen : (called form.Ref [] (pos 0)).config.events ≡ event.Native (codes "p") (seen.Ref (pos 7) ∷ []) (pos 0) ∷ []
+reference_is_seen : (called form.Ref [] (pos 0)).config.events
+    ≡ event.Native (codes "p") (seen.Ref (pos 7) ∷ []) (pos 0) ∷ []
 unfolding segment row_at
 reference_is_seen = refl
 
-cells_are_seen : (called (form.Cells 2) [] (pos 8)).config.events ≡ event.Native (codes "p") (seen.Cells (pos 72 ∷ pos 0 ∷ []) ∷ []) (pos 0) ∷ []
+cells_are_seen : (called (form.Cells 2) [] (pos 8)).config.events
+    ≡ event.Native (codes "p") (seen.Cells (pos 72 ∷ pos 0 ∷ []) ∷ []) (pos 0) ∷ []
 unfolding segment row_at
 cells_are_seen = refl
 
-packed_text_is_seen : (called form.Text [] (pos 4)).config.events ≡ event.Native (codes "p") (seen.Text (pos 72 ∷ pos 105 ∷ []) ∷ []) (pos 0) ∷ []
+packed_text_is_seen : (called form.Text [] (pos 4)).config.events
+    ≡ event.Native (codes "p") (seen.Text (pos 72 ∷ pos 105 ∷ []) ∷ []) (pos 0) ∷ []
 unfolding segment row_at
 packed_text_is_seen = refl
 
-text_is_seen : (called form.Text [] (pos 8)).config.events ≡ event.Native (codes "p") (seen.Text (pos 72 ∷ []) ∷ []) (pos 0) ∷ []
+text_is_seen : (called form.Text [] (pos 8)).config.events
+    ≡ event.Native (codes "p") (seen.Text (pos 72 ∷ []) ∷ []) (pos 0) ∷ []
 unfolding segment row_at
 text_is_seen = refl
 
@@ -107,7 +115,8 @@ write_is_done : (called form.Ref (writing ∷ []) (pos 0)).stop ≡ Over_by (end
 unfolding segment row_at
 write_is_done = refl
 
-write_to_a_cell_is_refused : (called form.Cell (writing ∷ []) (pos 0)).stop ≡ Over_by (end.Error (pos 10))
+write_to_a_cell_is_refused : (called form.Cell (writing ∷ []) (pos 0)).stop
+    ≡ Over_by (end.Error (pos 10))
 unfolding segment row_at
 write_to_a_cell_is_refused = refl
 
@@ -115,7 +124,8 @@ refused_write_took_its_answer : (called form.Cell (writing ∷ []) (pos 0)).conf
 unfolding segment row_at
 refused_write_took_its_answer = refl
 
-scripts_error : (called form.Cell (answer.Error (pos 20) ∷ []) (pos 0)).stop ≡ Over_by (end.Error (pos 20))
+scripts_error : (called form.Cell (answer.Error (pos 20) ∷ []) (pos 0)).stop
+    ≡ Over_by (end.Error (pos 20))
 unfolding segment row_at
 scripts_error = refl
 
@@ -124,11 +134,14 @@ unfolding segment row_at
 error_took_its_answer = refl
 
 -- HALT 0; PUSH.C 0, SYSREQ.C 0
-wrong_number : (trace_from (file_of (pos 120 ∷ pos 0 ∷ pos 39 ∷ pos 0 ∷ pos 123 ∷ pos 0 ∷ [])) 40 (script form.Cell (writing ∷ [])) (pos 8) 10 []).stop
+wrong_number : (trace_from (file_of (pos 120 ∷ pos 0 ∷ pos 39 ∷ pos 0 ∷ pos 123 ∷ pos 0 ∷ [])) 40
+    (script form.Cell (writing ∷ [])) (pos 8) 10 []).stop
     ≡ Over_by (end.Error (pos 10))
 unfolding segment row_at
 wrong_number = refl
 
-wrong_number_took_no_answer : (trace_from (file_of (pos 120 ∷ pos 0 ∷ pos 39 ∷ pos 0 ∷ pos 123 ∷ pos 0 ∷ [])) 40 (script form.Cell (writing ∷ [])) (pos 8) 10 []).config.position ≡ 0
+wrong_number_took_no_answer : (trace_from
+    (file_of (pos 120 ∷ pos 0 ∷ pos 39 ∷ pos 0 ∷ pos 123 ∷ pos 0 ∷ [])) 40
+    (script form.Cell (writing ∷ [])) (pos 8) 10 []).config.position ≡ 0
 unfolding segment row_at
 wrong_number_took_no_answer = refl

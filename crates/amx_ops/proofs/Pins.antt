@@ -1,5 +1,6 @@
 -- The numbers of the table, and a name of each kind.
-use Rattle.std.proofs.Common.{◌≡◌, ℕ, zero, suc, List, [], ◌∷◌, ◌++◌, Some, codes, map, option_map, refl}
+use Rattle.std.proofs.Common.{◌≡◌, ℕ, zero, suc, List, [], ◌∷◌, ◌++◌, Some, codes, map, option_map}
+use Rattle.std.proofs.Common.{refl}
 use denote.Enum.Declared.{tag_of}
 use Rattle.amx_ops.specs.contracts.op.Op.{the_type}
 use Rattle.amx_ops.specs.Table.{Row, row_at, row_of, table}

@@ -1,6 +1,8 @@
 -- Where the row of a number stands, and what is found there.
 use denote.Ref.{Bor}
-use Rattle.std.proofs.Common.{◌≡◌, ◌≢◌, get_or, ◌+◌, ◌-◌, ◌<◌, ◌≤◌, ℕ, zero, suc, ℤ, pos, List, [], ◌∷◌, Bool, true, false, cond, Option, None, Some, map, find, length, slice_get, nat_le, refl, sym, ap, ◌∙◌, arith}
+use Rattle.std.proofs.Common.{◌≡◌, ◌≢◌, get_or, ◌+◌, ◌-◌, ◌<◌, ◌≤◌, ℕ, zero, suc, ℤ, pos, List, []}
+use Rattle.std.proofs.Common.{◌∷◌, Bool, true, false, cond, Option, None, Some, map, find, length}
+use Rattle.std.proofs.Common.{slice_get, nat_le, refl, sym, ap, ◌∙◌, arith}
 use Rattle.std.specs.List.{range_with_len}
 use Rattle.std.proofs.lemmas.Bool.Decides.{Decides-int_eq, nat_tests}
 use Rattle.std.proofs.lemmas.List.{length-map}
@@ -17,7 +19,8 @@ place n = cond (nat_le n 37) (n - 1) (cond (nat_le n 123) (n - 2) (cond (nat_le 
 places : map (λ (row : Row). place row.number) table ≡ range_with_len 0 130
 places = refl
 
-counted : (f : Row → ℕ) (rows : List Row) (a n k : ℕ) (row : Row) → map f rows ≡ range_with_len a n → slice_get rows k ≡ Some row → f row ≡ a + k
+counted : (f : Row → ℕ) (rows : List Row) (a n k : ℕ) (row : Row) → map f rows ≡ range_with_len a n
+    → slice_get rows k ≡ Some row → f row ≡ a + k
 counted f [] a n k row e h = absurd (let no : ⊥ = cc in no)
 counted f (x ∷ rows) a zero k row e h = absurd (let no : ⊥ = cc in no)
 counted f (x ∷ rows) a (suc n) zero row e h =
@@ -64,13 +67,15 @@ kept cell (Some row) = cond (has_number cell row) (Some row) None
 
 -- a place before these rows has none
 none_by : (cell : ℤ) (rows : List Row) (a r : ℕ) → r < a
-    → ((k : ℕ) (row : Row) → slice_get rows k ≡ Some row → has_number cell row ≡ true → r ≡ a + k) → find (has_number cell) rows ≡ None
+    → ((k : ℕ) (row : Row) → slice_get rows k ≡ Some row → has_number cell row ≡ true → r ≡ a + k)
+    → find (has_number cell) rows ≡ None
 none_by cell [] a r h f = refl
 none_by cell (x ∷ rows) a r h f =
     none_test (has_number cell x) refl
     (none_by cell rows (a + 1) r (omega arith) (λ k row e t. f (suc k) row e t ∙ omega arith))
   where
-    none_test : (b : Bool) → has_number cell x ≡ b → find (has_number cell) rows ≡ None → cond b (Some x) (find (has_number cell) rows) ≡ None
+    none_test : (b : Bool) → has_number cell x ≡ b → find (has_number cell) rows ≡ None
+        → cond b (Some x) (find (has_number cell) rows) ≡ None
     none_test true e g = absurd (omega (arith, h, f 0 x refl e))
     none_test false e g = g
 
@@ -79,40 +84,57 @@ found_by : (cell : ℤ) (rows : List Row) (a r j : ℕ) → r ≡ a + j
     → find (has_number cell) rows ≡ kept cell (slice_get rows j)
 found_by cell [] a r j h f = refl
 found_by cell (x ∷ rows) a r zero h f =
-    found_first (has_number cell x) (none_by cell rows (a + 1) r (omega arith) (λ k row e t. f (suc k) row e t ∙ omega arith))
+    found_first (has_number cell x)
+    (none_by cell rows (a + 1) r (omega arith) (λ k row e t. f (suc k) row e t ∙ omega arith))
   where
-    found_first : (b : Bool) → find (has_number cell) rows ≡ None → cond b (Some x) (find (has_number cell) rows) ≡ cond b (Some x) None
+    found_first : (b : Bool) → find (has_number cell) rows ≡ None
+        → cond b (Some x) (find (has_number cell) rows) ≡ cond b (Some x) None
     found_first true g = refl
     found_first false g = g
 found_by cell (x ∷ rows) a r (suc j) h f =
     found_later (has_number cell x) refl
     (found_by cell rows (a + 1) r j (omega arith) (λ k row e t. f (suc k) row e t ∙ omega arith))
   where
-    found_later : (b : Bool) → has_number cell x ≡ b → find (has_number cell) rows ≡ kept cell (slice_get rows j)
+    found_later : (b : Bool) → has_number cell x ≡ b
+        → find (has_number cell) rows ≡ kept cell (slice_get rows j)
         → cond b (Some x) (find (has_number cell) rows) ≡ kept cell (slice_get rows j)
     found_later true e g = absurd (omega (arith, h, f 0 x refl e))
     found_later false e g = g
 
-pub row_found : (cell : ℤ) (r : ℕ) → ((k : ℕ) (row : Row) → slice_get table k ≡ Some row → row.number ≡ bits_of cell → r ≡ k)
+pub row_found : (cell : ℤ) (r : ℕ)
+    → ((k : ℕ) (row : Row) → slice_get table k ≡ Some row → row.number ≡ bits_of cell → r ≡ k)
     → row_at cell ≡ kept cell (slice_get table r)
 unfolding row_at
-row_found cell r f = found_by cell table 0 r r (omega arith) (λ k row e t. f k row e (ap bits_of ((Decides-int_eq (pos row.number) cell).0 t)) ∙ omega arith)
+row_found cell r f =
+    found_by cell table 0 r r (omega arith)
+    (λ k row e t. f k row e (ap bits_of ((Decides-int_eq (pos row.number) cell).0 t))
+    ∙ omega arith)
 
 -- the row at a place of the rows that the code holds
-pub held_at : (rows : List (ℕ × Op × Bor (List ℕ) × Operand)) (d : ℕ × Op × Bor (List ℕ) × Operand) (r : ℕ) → rows_of rows ≡ table → r < length table
+pub held_at : (rows : List (ℕ × Op × Bor (List ℕ) × Operand)) (d : ℕ × Op × Bor (List ℕ) × Operand)
+    (r : ℕ) → rows_of rows ≡ table → r < length table
     → slice_get table r ≡ Some (row_by (get_or rows r d))
-held_at rows d r e h = ap (λ t. slice_get t r) (sym e) ∙ held rows d r (omega (arith, ap length e, length-map rows row_by))
+held_at rows d r e h =
+    ap (λ t. slice_get t r) (sym e)
+    ∙ held rows d r (omega (arith, ap length e, length-map rows row_by))
   where
-    held : (rows : List (ℕ × Op × Bor (List ℕ) × Operand)) (d : ℕ × Op × Bor (List ℕ) × Operand) (r : ℕ) → r < length rows
+    held : (rows : List (ℕ × Op × Bor (List ℕ) × Operand)) (d : ℕ × Op × Bor (List ℕ) × Operand)
+        (r : ℕ) → r < length rows
         → slice_get (rows_of rows) r ≡ Some (row_by (get_or rows r d))
     held [] d r h = absurd (omega (arith, h))
     held (x ∷ rows) d zero h = refl
     held (x ∷ rows) d (suc r) h = held rows d r (omega (arith, h))
 
-module _ (rows : List (ℕ × Op × Bor (List ℕ) × Operand)) (d : ℕ × Op × Bor (List ℕ) × Operand) (cell : ℤ) (r : ℕ) (e : rows_of rows ≡ table) (h : r < length table)
-    (f : (k : ℕ) (row : Row) → slice_get table k ≡ Some row → row.number ≡ bits_of cell → r ≡ k) where
+module _ (rows : List (ℕ × Op × Bor (List ℕ) × Operand)) (d : ℕ × Op × Bor (List ℕ) × Operand)
+    (cell : ℤ) (r : ℕ) (e : rows_of rows ≡ table) (h : r < length table)
+    (f : (k : ℕ) (row : Row) → slice_get table k ≡ Some row → row.number ≡ bits_of cell
+    → r ≡ k) where
   pub row_kept : (pos (get_or rows r d).0 ≡ cell) → Some (row_by (get_or rows r d)) ≡ row_at cell
-  row_kept same = sym (row_found cell r f ∙ ap (kept cell) (held_at rows d r e h) ∙ rw ((Decides-int_eq (pos (get_or rows r d).0) cell).1 same))
+  row_kept same =
+      sym (row_found cell r f ∙ ap (kept cell) (held_at rows d r e h)
+      ∙ rw ((Decides-int_eq (pos (get_or rows r d).0) cell).1 same))
 
   pub row_left : (pos (get_or rows r d).0 ≢ cell) → None ≡ row_at cell
-  row_left other = sym (row_found cell r f ∙ ap (kept cell) (held_at rows d r e h) ∙ rw (int_eq-other (pos (get_or rows r d).0) cell other))
+  row_left other =
+      sym (row_found cell r f ∙ ap (kept cell) (held_at rows d r e h)
+      ∙ rw (int_eq-other (pos (get_or rows r d).0) cell other))

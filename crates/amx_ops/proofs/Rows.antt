@@ -1,17 +1,22 @@
 -- Each operation's row, by its number.
-use Rattle.std.proofs.Common.{◌≡◌, ◌≢◌, ◌+◌, ◌*◌, ◌≤◌, true, false, ℕ, ℤ, pos, List, ◌∷◌, ◌++◌, Some, length, refl, ap, sym, subst, ◌∙◌, arith}
+use Rattle.std.proofs.Common.{◌≡◌, ◌≢◌, ◌+◌, ◌*◌, ◌≤◌, true, false, ℕ, ℤ, pos, List, ◌∷◌, ◌++◌}
+use Rattle.std.proofs.Common.{Some, length, refl, ap, sym, subst, ◌∙◌, arith}
 use Rattle.amx_ops.specs.declared.op.Op.{Op}
 use Rattle.amx_ops.specs.declared.op.Op.TheVariants as op
 use Rattle.amx_ops.specs.declared.table.Operand.{Operand}
 use Rattle.amx_ops.specs.declared.table.Operand.TheVariants as operand
-use Rattle.amx_ops.specs.Table.{row_at, row_of, op_of, operand_at, operand_by, number_of, operand_of}
+use Rattle.amx_ops.specs.Table.{row_at, row_of, op_of, operand_at, operand_by, number_of}
+use Rattle.amx_ops.specs.Table.{operand_of}
 use Rattle.amx_ops.specs.Valid.{is_cases_kind}
-use Rattle.amx_ops.specs.Instructions.{Instruction, placed_from, front, cells_by, cells, encoded, IsProper, IsEncodable, IsEncodableBy, encoded_by, instr_by, instr}
+use Rattle.amx_ops.specs.Instructions.{Instruction, placed_from, front, cells_by, cells, encoded}
+use Rattle.amx_ops.specs.Instructions.{IsProper, IsEncodable, IsEncodableBy, encoded_by, instr_by}
+use Rattle.amx_ops.specs.Instructions.{instr}
 
 -- the row of an operation
 pub record HasRow (o : Op) : Type 0 where
   pub name : List ℕ
-  pub row : row_of (number_of o) ≡ Some (record { number = number_of o; op = o; name = name; operand = operand_of o })
+  pub row : row_of (number_of o)
+      ≡ Some (record { number = number_of o; op = o; name = name; operand = operand_of o })
 
 pub has_row : (o : Op) → HasRow o
 unfolding row_at
@@ -160,12 +165,14 @@ pub encodable : (o : Op) (v : ℤ) → IsProper (operand_of o) v → IsEncodable
 encodable o v h = subst (λ r. IsEncodableBy r v) (sym (row_is o)) h
 
 -- it is read back, whatever stands behind it
-front_by : (n : ℕ) (v : ℤ) (kind : Operand) (rest : List ℤ) → kind ≢ operand.Cases → operand_at (pos n) ≡ Some (n, kind)
+front_by : (n : ℕ) (v : ℤ) (kind : Operand) (rest : List ℤ) → kind ≢ operand.Cases
+    → operand_at (pos n) ≡ Some (n, kind)
     → front (cells_by n v kind ++ rest) ≡ Some (instr_by n v kind)
 front_by n v operand.Cases rest h e = elim (h refl) [ ]
 front_by n v kind rest h e = rw e refl
 
-pub front_is : (i : Instruction) (rest : List ℤ) → operand_of i.op ≢ operand.Cases → front (cells i ++ rest) ≡ Some (instr i)
+pub front_is : (i : Instruction) (rest : List ℤ) → operand_of i.op ≢ operand.Cases
+    → front (cells i ++ rest) ≡ Some (instr i)
 front_is i rest h = front_by (number_of i.op) i.operand (operand_of i.op) rest h (row_is i.op)
 
 size_by : (n : ℕ) (v : ℤ) (kind : Operand) → length (cells_by n v kind) ≡ (instr_by n v kind).cells
@@ -200,15 +207,20 @@ no_cases e = cc
 pub plain_kind : (kind : Operand) → is_cases_kind kind ≡ false → kind ≢ operand.Cases
 plain_kind kind h e = no_cases (ap is_cases_kind (sym e) ∙ h)
 
-pub placed_by_kind : (p n : ℕ) (v : ℤ) (kind : Operand) (rest : List ℤ) → kind ≢ operand.Cases → operand_at (pos n) ≡ Some (n, kind)
+pub placed_by_kind : (p n : ℕ) (v : ℤ) (kind : Operand) (rest : List ℤ) → kind ≢ operand.Cases
+    → operand_at (pos n) ≡ Some (n, kind)
     → placed_from p 0 (cells_by n v kind ++ rest)
-    ≡ record { at = p; instr = instr_by n v kind } ∷ placed_from (p + 4 * (instr_by n v kind).cells) 0 rest
+    ≡ record { at = p; instr = instr_by n v kind }
+    ∷ placed_from (p + 4 * (instr_by n v kind).cells) 0 rest
 placed_by_kind p n v operand.Nothing rest h e = rw e refl
 placed_by_kind p n v operand.Cases rest h e = elim (h refl) [ ]
 placed_by_kind p n v kind rest h e = let q : p + 4 + 4 ≡ p + 8 = omega arith in rw (e, q) refl
 
 -- an instruction stands in front of the others
-pub placed_first : (p : ℕ) (i : Instruction) (rest : List ℤ) → is_cases_kind (operand_of i.op) ≡ false
-    → placed_from p 0 (cells i ++ rest) ≡ record { at = p; instr = instr i } ∷ placed_from (p + 4 * (instr i).cells) 0 rest
+pub placed_first : (p : ℕ) (i : Instruction) (rest : List ℤ)
+    → is_cases_kind (operand_of i.op) ≡ false
+    → placed_from p 0 (cells i ++ rest)
+    ≡ record { at = p; instr = instr i } ∷ placed_from (p + 4 * (instr i).cells) 0 rest
 placed_first p i rest h =
-    placed_by_kind p (number_of i.op) i.operand (operand_of i.op) rest (plain_kind (operand_of i.op) h) (row_is i.op)
+    placed_by_kind p (number_of i.op) i.operand (operand_of i.op) rest
+    (plain_kind (operand_of i.op) h) (row_is i.op)

@@ -47,7 +47,8 @@ load_is_aligned = refl
 load_stays_below_the_top : does op.LoadPri (pos 16) s ≡ Errs (pos 5)
 load_stays_below_the_top = refl
 
-byte_is_put : does op.StrbI (pos 1) s ≡ Goes (record s { cip = 8; cells = pos 0x01024104 ∷ pos 5 ∷ pos 6 ∷ pos 7 ∷ [] })
+byte_is_put : does op.StrbI (pos 1) s
+    ≡ Goes (record s { cip = 8; cells = pos 0x01024104 ∷ pos 5 ∷ pos 6 ∷ pos 7 ∷ [] })
 byte_is_put = refl
 
 two_bytes_are_aligned : does op.LodbI (pos 2) s ≡ Errs (pos 5)
@@ -91,7 +92,8 @@ jump_to_no_start : does op.JumpPri (pos 0) (record s { pri = pos 4 }) ≡ Errs (
 unfolding row_at
 jump_to_no_start = refl
 
-jump_without_sign : does op.Jless (pos 0) (record s { pri = negsuc 0 }) ≡ Goes (record s { pri = negsuc 0; cip = 8 })
+jump_without_sign : does op.Jless (pos 0) (record s { pri = negsuc 0 })
+    ≡ Goes (record s { pri = negsuc 0; cip = 8 })
 jump_without_sign = refl
 
 -- ---- arithmetic
@@ -117,21 +119,42 @@ bounds_are_met = refl
 -- ---- blocks of bytes
 
 move_of_three : does op.Movs (pos 3) (record s { pri = pos 0; alt = pos 12 })
-    ≡ Goes (record s { pri = pos 0; alt = pos 12; cip = 8; cells = pos 0x01020304 ∷ pos 5 ∷ pos 6 ∷ pos 0x00020304 ∷ [] })
+    ≡ Goes (record s {
+      pri = pos 0;
+      alt = pos 12;
+      cip = 8;
+      cells = pos 0x01020304 ∷ pos 5 ∷ pos 6 ∷ pos 0x00020304 ∷ [];
+    })
 move_of_three = refl
 
 -- the ranges lie over one another, and all is read first
 move_by_one : does op.Movs (pos 4) (record s { pri = pos 0; alt = pos 1 })
-    ≡ Goes (record s { pri = pos 0; alt = pos 1; cip = 8; cells = pos 0x02030404 ∷ pos 1 ∷ pos 6 ∷ pos 7 ∷ [] })
+    ≡ Goes (record s {
+      pri = pos 0;
+      alt = pos 1;
+      cip = 8;
+      cells = pos 0x02030404 ∷ pos 1 ∷ pos 6 ∷ pos 7 ∷ [];
+    })
 move_by_one = refl
 
 -- cells without a byte that was moved stay what they are
-move_of_nothing : does op.Movs (pos 0) (record s { pri = pos 0; alt = pos 2; cells = pos 0x100000000 ∷ pos 5 ∷ pos 6 ∷ pos 7 ∷ [] })
-    ≡ Goes (record s { pri = pos 0; alt = pos 2; cip = 8; cells = pos 0x100000000 ∷ pos 5 ∷ pos 6 ∷ pos 7 ∷ [] })
+move_of_nothing : does op.Movs (pos 0)
+    (record s { pri = pos 0; alt = pos 2; cells = pos 0x100000000 ∷ pos 5 ∷ pos 6 ∷ pos 7 ∷ [] })
+    ≡ Goes (record s {
+      pri = pos 0;
+      alt = pos 2;
+      cip = 8;
+      cells = pos 0x100000000 ∷ pos 5 ∷ pos 6 ∷ pos 7 ∷ [];
+    })
 move_of_nothing = refl
 
 move_where_heap_and_stack_meet : does op.Movs (pos 4) (record s { pri = pos 6; alt = pos 0 })
-    ≡ Goes (record s { pri = pos 6; alt = pos 0; cip = 8; cells = pos 0x00060000 ∷ pos 5 ∷ pos 6 ∷ pos 7 ∷ [] })
+    ≡ Goes (record s {
+      pri = pos 6;
+      alt = pos 0;
+      cip = 8;
+      cells = pos 0x00060000 ∷ pos 5 ∷ pos 6 ∷ pos 7 ∷ [];
+    })
 move_where_heap_and_stack_meet = refl
 
 move_past_the_top : does op.Movs (pos 3) (record s { pri = pos 0; alt = pos 14 }) ≡ Errs (pos 5)
@@ -144,7 +167,8 @@ first_byte_is_less : does op.Cmps (pos 4) (record s { pri = pos 4; alt = pos 0 }
     ≡ Goes (record s { pri = negsuc 0; alt = pos 0; cip = 8 })
 first_byte_is_less = refl
 
-nothing_is_filled : does op.Fill (pos 0) (record s { alt = pos 3 }) ≡ Goes (record s { alt = pos 3; cip = 8 })
+nothing_is_filled : does op.Fill (pos 0) (record s { alt = pos 3 })
+    ≡ Goes (record s { alt = pos 3; cip = 8 })
 nothing_is_filled = refl
 
 -- ---- the host and case tables
@@ -155,7 +179,8 @@ unknown_native = refl
 halt_of_a_sleep : does op.Halt (pos 12) s ≡ Halts (pos 12) (record s { cip = 8 })
 halt_of_a_sleep = refl
 
-case_is_found : does op.Switch (pos 8) (record s { pri = pos 7 }) ≡ Goes (record s { pri = pos 7; cip = 8 })
+case_is_found : does op.Switch (pos 8) (record s { pri = pos 7 })
+    ≡ Goes (record s { pri = pos 7; cip = 8 })
 case_is_found = refl
 
 table_is_no_step : does op.Casetbl (pos 2) s ≡ Errs (pos 6)

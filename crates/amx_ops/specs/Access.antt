@@ -1,6 +1,8 @@
--- Accesses to live memory: below HEA, or from STK below the stack's top, at a multiple of the access's size;
--- else error 5 (Implementer's Guide, "Instruction reference").
-use Rattle.std.specs.Prelude.{◌+◌, ◌-◌, ◌*◌, ◌/◌, ◌%◌, ◌^◌, ◌++◌, ℕ, ℤ, pos, negsuc, List, [], ◌∷◌, Bool, ◌==◌, ◌&&◌, ◌||◌, length, map, take, drop, replicate, nat_le, nat_lt, if◌then◌else◌, slice_set}
+-- Accesses to live memory: below HEA, or from STK below the stack's top, at a multiple of the
+-- access's size; else error 5 (Implementer's Guide, "Instruction reference").
+use Rattle.std.specs.Prelude.{◌+◌, ◌-◌, ◌*◌, ◌/◌, ◌%◌, ◌^◌, ◌++◌, ℕ, ℤ, pos, negsuc, List, [], ◌∷◌}
+use Rattle.std.specs.Prelude.{Bool, ◌==◌, ◌&&◌, ◌||◌, length, map, take, drop, replicate, nat_le}
+use Rattle.std.specs.Prelude.{nat_lt, if◌then◌else◌, slice_set}
 use Rattle.std.specs.List.{range_with_len, slice_index_or}
 use Rattle.pawn_cells.specs.Cells.{bits_of, cell_of, wrapped_sum, add, char_at}
 use Rattle.amx_ops.specs.State.{State, Turned, Errs, stp, cell_at}
@@ -39,7 +41,8 @@ part cell k n = bits_of cell / 256 ^ k % 256 ^ n
 
 -- the cell with others in their place
 abbrev pub with_part : ℤ → (k n : ℕ) → ℕ → ℤ
-with_part cell k n bits = cell_of (bits_of cell - part cell k n * 256 ^ k + bits % 256 ^ n * 256 ^ k)
+with_part cell k n bits =
+    cell_of (bits_of cell - part cell k n * 256 ^ k + bits % 256 ^ n * 256 ^ k)
 
 -- n bytes at an address that is a multiple of n, which is 1, 2 or 4
 abbrev pub is_live_part : State → (a n : ℕ) → Bool
@@ -47,7 +50,8 @@ is_live_part s a n = (a % n == 0) && is_live s (4 * (a / 4))
 
 -- n bytes at an address, without sign
 abbrev pub load_part : State → (a n : ℕ) → (ℤ → Turned) → Turned
-load_part s a n go = if is_live_part s a n then go (cell_of (part (cell_at s a) (a % 4) n)) else Errs (pos 5)
+load_part s a n go =
+    if is_live_part s a n then go (cell_of (part (cell_at s a) (a % 4) n)) else Errs (pos 5)
 
 -- the n low bytes of a cell put at an address
 abbrev pub store_part : State → (a n : ℕ) → ℤ → (State → Turned) → Turned
@@ -78,11 +82,14 @@ is_among a n k = nat_le a k && nat_lt k (a + n)
 
 -- the byte at k, once n bytes from one address on stand at another, as if all were read first
 abbrev pub byte_moved : List ℤ → (from to n k : ℕ) → ℕ
-byte_moved cells from to n k = if is_among to n k then byte_at cells (from + (k - to)) else byte_at cells k
+byte_moved cells from to n k =
+    if is_among to n k then byte_at cells (from + (k - to)) else byte_at cells k
 
 -- one of the bytes of cell i is one of n from an address on
 abbrev pub is_touched : (a n i : ℕ) → Bool
-is_touched a n i = is_among a n (4 * i) || is_among a n (4 * i + 1) || is_among a n (4 * i + 2) || is_among a n (4 * i + 3)
+is_touched a n i =
+    is_among a n (4 * i) || is_among a n (4 * i + 1) || is_among a n (4 * i + 2)
+    || is_among a n (4 * i + 3)
 
 -- what four bytes from an address on are as one number
 abbrev pub four_bytes : (ℕ → ℕ) → ℕ → ℕ
@@ -91,7 +98,8 @@ four_bytes byte a = byte a + 256 * byte (a + 1) + 65536 * byte (a + 2) + 1677721
 -- cell i then: made of its bytes where one of them was put, else as it was
 abbrev pub cell_moved : List ℤ → (from to n i : ℕ) → ℤ
 cell_moved cells from to n i =
-    if is_touched to n i then cell_of (four_bytes (byte_moved cells from to n) (4 * i)) else slice_index_or cells i (pos 0)
+    if is_touched to n i then cell_of (four_bytes (byte_moved cells from to n) (4 * i))
+    else slice_index_or cells i (pos 0)
 
 -- the cells then
 abbrev pub moved : List ℤ → (from to n : ℕ) → List ℤ
@@ -100,22 +108,28 @@ moved cells from to n = map (cell_moved cells from to n) (range_with_len 0 (leng
 -- n bytes from an address to another, as if all were read first
 abbrev pub copy : State → (from to n : ℕ) → (State → Turned) → Turned
 copy s from to n go =
-    if are_live s from n && are_live s to n then go (record s { cells = moved s.cells from to n }) else Errs (pos 5)
+    if are_live s from n && are_live s to n then go (record s { cells = moved s.cells from to n })
+    else Errs (pos 5)
 
 -- 0 for equal bytes; at the first that differ -1 where that of the first list is less, else 1
 abbrev pub order_of : List ℕ → List ℕ → ℤ
 order_of [] ys = pos 0
 order_of (x ∷ xs) [] = pos 0
-order_of (x ∷ xs) (y ∷ ys) = if nat_lt x y then negsuc 0 else (if nat_lt y x then pos 1 else order_of xs ys)
+order_of (x ∷ xs) (y ∷ ys) =
+    if nat_lt x y then negsuc 0 else (if nat_lt y x then pos 1 else order_of xs ys)
 
 -- how n bytes at an address stand to those at another
 abbrev pub compare : State → (at to n : ℕ) → (ℤ → Turned) → Turned
 compare s at to n go =
-    if are_live s at n && are_live s to n then go (order_of (bytes_at s.cells at n) (bytes_at s.cells to n)) else Errs (pos 5)
+    if are_live s at n && are_live s to n
+    then go (order_of (bytes_at s.cells at n) (bytes_at s.cells to n)) else Errs (pos 5)
 
 -- n bytes, in cells from a multiple of 4 on; none where n is 0, whatever the address
 abbrev pub fill : State → (a n : ℕ) → ℤ → (State → Turned) → Turned
 fill s a n v go =
     if (n == 0) || ((a % 4 == 0) && are_live s a n)
-    then go (record s { cells = take (a / 4) s.cells ++ (replicate (n / 4) v ++ drop (a / 4 + n / 4) s.cells) })
+    then go (record s {
+      cells = take (a / 4) s.cells
+          ++ (replicate (n / 4) v ++ drop (a / 4 + n / 4) s.cells);
+    })
     else Errs (pos 5)

@@ -4,7 +4,8 @@ use Rattle.host_script.specs.declared.script.Script.{Script}
 use Rattle.host_script.specs.declared.event.Event.{Event}
 use Rattle.host_script.specs.declared.event.Event.TheVariants.{Native, Slept}
 use Rattle.amx_ops.specs.declared.amx.Amx.{Amx}
-use Rattle.amx_ops.specs.Runs.{Moved, Over, iterate, Stop, Steps, Asleep, Over_by, segment, Traced, joined, sleeps}
+use Rattle.amx_ops.specs.Runs.{Moved, Over, iterate, Stop, Steps, Asleep, Over_by, segment, Traced}
+use Rattle.amx_ops.specs.Runs.{joined, sleeps}
 use Rattle.amx_ops.specs.Moves.{Config, move}
 
 -- after so many moves the iteration is where the trace stopped, or is over as the trace is
@@ -19,15 +20,16 @@ Enough Steps bound total = bound ≤ total
 Enough Asleep bound total = Unit {0}
 Enough (Over_by e) bound total = Unit {0}
 
--- each sleep but the last one begins a further bound: as many sleeps as bounds where the trace ends asleep,
--- fewer else
+-- each sleep but the last one begins a further bound: as many sleeps as bounds where the trace ends
+-- asleep, fewer else
 abbrev pub SleepsSo : {E : Type 0} → Stop E → ℕ → ℕ → Type 0
 SleepsSo Steps count bounds = suc count ≤ bounds
 SleepsSo Asleep count bounds = count ≡ bounds
 SleepsSo (Over_by e) count bounds = suc count ≤ bounds
 
 -- a trace over some bounds, one or more
-pub record IsCut {C E : Type 0} (move : C → Moved C E) (c : C) (bounds : List ℕ) (t : Traced C E) : Type 0 where
+pub record IsCut {C E : Type 0} (move : C → Moved C E) (c : C) (bounds : List ℕ)
+    (t : Traced C E) : Type 0 where
   pub leads : Leads move t.steps c t.stop t.config
   pub enough : Enough t.stop t.bound t.steps
   pub sleeps_so : SleepsSo t.stop (sleeps move t.steps c) (length bounds)
@@ -52,8 +54,10 @@ pub record TraceIsOneIteration : Type 0 where
   -- each sleep is shown, by one event
   pub shown : (amx : Amx) (script : Script) (bound : ℕ) (bounds : List ℕ) (c : Config)
       → slept_in (joined (move amx script) bound bounds c).config.events
-      ≡ slept_in c.events + sleeps (move amx script) (joined (move amx script) bound bounds c).steps c
+      ≡ slept_in c.events + sleeps (move amx script)
+      (joined (move amx script) bound bounds c).steps c
   -- what was shown before changes nothing
   pub resumed : (amx : Amx) (script : Script) (bound : ℕ) (events : List Event) (c : Config)
       → segment (move amx script) bound 0 (showing events c)
-      ≡ (let s = segment (move amx script) bound 0 c in record { stop = s.stop; config = showing events s.config; steps = s.steps })
+      ≡ (let s = segment (move amx script) bound 0 c in record
+      { stop = s.stop; config = showing events s.config; steps = s.steps })

@@ -1,6 +1,7 @@
 -- What the instructions do to registers, to the stack and to the address of the next instruction
 -- (Implementer's Guide, "Instruction reference").
-use Rattle.std.specs.Prelude.{◌+◌, ◌*◌, ◌/◌, ◌%◌, ℕ, zero, suc, ℤ, pos, negsuc, List, [], ◌∷◌, Bool, true, false, ◌==◌, length, drop, nat_le, nat_lt, if◌then◌else◌}
+use Rattle.std.specs.Prelude.{◌+◌, ◌*◌, ◌/◌, ◌%◌, ℕ, zero, suc, ℤ, pos, negsuc, List, [], ◌∷◌, Bool}
+use Rattle.std.specs.Prelude.{true, false, ◌==◌, length, drop, nat_le, nat_lt, if◌then◌else◌}
 use Rattle.std.specs.List.{slice_index_or}
 use Rattle.pawn_cells.specs.Cells.{bits_of, cell_of, equal, is_zero}
 use Rattle.amx_ops.specs.declared.amx.Amx.{Amx}
@@ -44,13 +45,15 @@ case_of amx at v = case_in (drop (at / 4 + 1) amx.code) v
 -- 0 for number 0, the code's length, HEA, STP, STK, FRM and the next address
 abbrev pub register : Amx → ℕ → ℕ → State → ℤ
 register amx next number s =
-    slice_index_or (pos 0 ∷ cell_of (4 * length amx.code) ∷ cell_of s.hea ∷ cell_of (stp s) ∷ cell_of s.stk ∷ cell_of s.frm
+    slice_index_or (pos 0 ∷ cell_of (4 * length amx.code) ∷ cell_of s.hea ∷ cell_of (stp s)
+    ∷ cell_of s.stk ∷ cell_of s.frm
     ∷ cell_of next ∷ []) number (pos 0)
 
 -- quotient and remainder: error 11 for a divisor of 0
 abbrev pub divide : (ℤ → ℤ → ℤ) → (ℤ → ℤ → ℤ) → ℤ → ℤ → ℕ → State → Turned
 divide quotient rest a d next s =
-    if is_zero d then Errs (pos 11) else at_next next (record s { pri = quotient a d; alt = rest a d })
+    if is_zero d then Errs (pos 11)
+    else at_next next (record s { pri = quotient a d; alt = rest a d })
 
 -- ---- stack and heap
 
@@ -63,7 +66,8 @@ stack_to (negsuc n) next s = Errs (pos 3)
 -- HEA at a whole number: error 8 below the first HEA, error 3 without the margin
 abbrev pub heap_to : Amx → ℤ → ℕ → State → Turned
 heap_to amx (pos hea) next s =
-    if nat_le (first_hea amx) hea then with_margin (record s { hea = hea }) (at_next next) else Errs (pos 8)
+    if nat_le (first_hea amx) hea then with_margin (record s { hea = hea }) (at_next next)
+    else Errs (pos 8)
 heap_to amx (negsuc n) next s = Errs (pos 8)
 
 -- error 5 for no multiple of 4
@@ -83,7 +87,8 @@ abbrev pub returned : Amx → (frm cip count : ℕ) → State → Turned
 returned amx frm cip count s =
     if count % 4 == 0
     then (if nat_le (s.stk + count) (stp s)
-    then (if is_start amx.code cip then Goes (record s { frm = frm; cip = cip; stk = s.stk + count }) else Errs (pos 6))
+    then (if is_start amx.code cip
+    then Goes (record s { frm = frm; cip = cip; stk = s.stk + count }) else Errs (pos 6))
     else Errs (pos 7))
     else Errs (pos 5)
 

@@ -1,6 +1,8 @@
--- Whole instructions, one behind another (Implementer's Guide, "Instruction reference"). Addresses are in
--- bytes, four to a cell of code.
-use Rattle.std.specs.Prelude.{◌≡◌, ◌+◌, ◌-◌, ◌*◌, ℕ, zero, suc, ℤ, pos, negsuc, List, [], ◌∷◌, Bool, ◌==◌, Option, None, Some, is_some, find, length, option_map, sum_by, nat_le, if◌then◌else◌, drop}
+-- Whole instructions, one behind another (Implementer's Guide, "Instruction reference"). Addresses
+-- are in bytes, four to a cell of code.
+use Rattle.std.specs.Prelude.{◌≡◌, ◌+◌, ◌-◌, ◌*◌, ℕ, zero, suc, ℤ, pos, negsuc, List, [], ◌∷◌, Bool}
+use Rattle.std.specs.Prelude.{◌==◌, Option, None, Some, is_some, find, length, option_map, sum_by}
+use Rattle.std.specs.Prelude.{nat_le, if◌then◌else◌, drop}
 use Rattle.amx_ops.specs.declared.op.Op.{Op}
 use Rattle.amx_ops.specs.declared.instr.Instr.{Instr}
 use Rattle.amx_ops.specs.declared.table.Operand.{Operand}
@@ -57,8 +59,8 @@ decoded code at = front (drop at code)
 
 -- ---- written
 
--- its number, and its operand behind it. Of a case table these are the number and the count alone: its other
--- cells stand in no single operand
+-- its number, and its operand behind it. Of a case table these are the number and the count alone:
+-- its other cells stand in no single operand
 abbrev pub cells_by : ℕ → ℤ → Operand → List ℤ
 cells_by number v operand.Nothing = pos number ∷ []
 cells_by number v kind = pos number ∷ v ∷ []
@@ -112,12 +114,13 @@ abbrev pub placed_by : ℕ → Option Instr → (Instr → List Placed) → List
 placed_by at None others = []
 placed_by at (Some i) others = record { at = at; instr = i } ∷ others i
 
--- the instructions one behind another, as far as each is whole. Addresses count on cell by cell; so many
--- cells belong to the instruction before and are passed over
+-- the instructions one behind another, as far as each is whole. Addresses count on cell by cell; so
+-- many cells belong to the instruction before and are passed over
 abbrev pub placed_from : ℕ → ℕ → List ℤ → List Placed
 placed_from at passed [] = []
 placed_from at (suc passed) (cell ∷ cells) = placed_from (at + 4) passed cells
-placed_from at zero (cell ∷ cells) = placed_by at (front (cell ∷ cells)) (λ i. placed_from (at + 4) (i.cells - 1) cells)
+placed_from at zero (cell ∷ cells) =
+    placed_by at (front (cell ∷ cells)) (λ i. placed_from (at + 4) (i.cells - 1) cells)
 
 -- those of some code
 abbrev pub placed : List ℤ → List Placed

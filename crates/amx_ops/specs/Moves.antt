@@ -1,5 +1,7 @@
 -- A step together with its natives: what a script sees, answers and writes on the machine.
-use Rattle.std.specs.Prelude.{◌+◌, ◌/◌, ◌%◌, ◌++◌, ℕ, ℤ, pos, List, [], ◌∷◌, Bool, true, false, ◌==◌, ◌&&◌, Option, None, Some, length, take, drop, nat_le, nat_lt, if◌then◌else◌, unwrap_or, slice_get, option_map}
+use Rattle.std.specs.Prelude.{◌+◌, ◌/◌, ◌%◌, ◌++◌, ℕ, ℤ, pos, List, [], ◌∷◌, Bool, true, false}
+use Rattle.std.specs.Prelude.{◌==◌, ◌&&◌, Option, None, Some, length, take, drop, nat_le, nat_lt}
+use Rattle.std.specs.Prelude.{if◌then◌else◌, unwrap_or, slice_get, option_map}
 use Rattle.pawn_cells.specs.Cells.{bits_of}
 use Rattle.host_script.specs.declared.script.Script.{Script}
 use Rattle.host_script.specs.declared.script.Form.{Form}
@@ -10,7 +12,8 @@ use Rattle.host_script.specs.declared.event.Seen.{Seen}
 use Rattle.host_script.specs.declared.event.Seen.TheVariants as seen
 use Rattle.host_script.specs.declared.event.End.{End}
 use Rattle.host_script.specs.declared.event.End.TheVariants as end
-use Rattle.host_script.specs.NativeCall.{Trap, Lost, Fault, Sight, Sees, Blind, Sought, Put, Called, Ends_there, Answers, native_error, native_call}
+use Rattle.host_script.specs.NativeCall.{Trap, Lost, Fault, Sight, Sees, Blind, Sought, Put, Called}
+use Rattle.host_script.specs.NativeCall.{Ends_there, Answers, native_error, native_call}
 use Rattle.host_script.specs.Script.{characters}
 use Rattle.amx_ops.specs.declared.amx.Amx.{Amx}
 use Rattle.amx_ops.specs.declared.amx.Record.{Record}
@@ -28,7 +31,8 @@ pub record Config : Type 0 where
 
 -- ---- what a native sees
 
--- the cells from an address up to the end of its live part: none where it isn't live, or no multiple of 4
+-- the cells from an address up to the end of its live part: none where it isn't live, or no
+-- multiple of 4
 abbrev pub live_from : State → ℕ → List ℤ
 live_from s address =
     if address % 4 == 0
@@ -56,9 +60,12 @@ first_cell (cell ∷ cells) = cell
 -- an argument by its form: a value, or an address
 abbrev pub look : State → ℤ → Form → Sight (Sought ℕ)
 look s v form.Cell = Sees (record { seen = seen.Cell v; hold = None })
-look s v form.Ref = let cells = live_from s (bits_of v) in held_at (bits_of v) 1 cells (seen.Ref (first_cell cells))
+look s v form.Ref =
+    let cells = live_from s (bits_of v) in held_at (bits_of v) 1 cells (seen.Ref (first_cell cells))
 look s v form.Text = read_text (characters (live_from s (bits_of v)))
-look s v (form.Cells count) = let cells = live_from s (bits_of v) in held_at (bits_of v) count cells (seen.Cells (take count cells))
+look s v (form.Cells count) =
+    let cells = live_from s (bits_of v) in
+    held_at (bits_of v) count cells (seen.Cells (take count cells))
 
 -- the arguments above their count of bytes, where all of it is live
 abbrev pub arguments : State → Option (List ℤ)
@@ -72,7 +79,8 @@ arguments s =
 
 -- the cells with one write
 abbrev pub with_write : Put ℕ → List ℤ → List ℤ
-with_write put cells = take (put.to / 4) cells ++ (put.values ++ drop (put.to / 4 + length put.values) cells)
+with_write put cells =
+    take (put.to / 4) cells ++ (put.values ++ drop (put.to / 4 + length put.values) cells)
 
 -- with all writes, the first of them first
 abbrev pub with_writes : List (Put ℕ) → List ℤ → List ℤ
@@ -90,14 +98,19 @@ error_of (Fault code) = code
 
 -- the machine waits behind the call with this state
 abbrev pub answered : Called ℕ → State → Config → Moved Config End
-answered (Ends_there trap position) s c = run.Ends (end.Error (error_of trap)) (record c { state = s; position = position })
+answered (Ends_there trap position) s c =
+    run.Ends (end.Error (error_of trap)) (record c { state = s; position = position })
 answered (Answers event result position puts) s c =
-    run.Goes (shown event (record c { state = record s { pri = result; cells = with_writes puts s.cells }; position = position }))
+    run.Goes (shown event (record c {
+      state = record s { pri = result; cells = with_writes puts s.cells };
+      position = position;
+    }))
 
 -- a native is called by its name, with its arguments where they can be read
 abbrev pub asked : Script → List ℕ → Option (List ℤ) → State → Config → Moved Config End
 asked script name None s c = run.Ends (end.Error (error_of native_error)) (record c { state = s })
-asked script name (Some cells) s c = answered (native_call script (look s) name cells c.position) s c
+asked script name (Some cells) s c =
+    answered (native_call script (look s) name cells c.position) s c
 
 -- the name of a native by its number
 abbrev pub name_of : List Record → ℕ → List ℕ
@@ -107,7 +120,8 @@ name_of natives n = unwrap_or (option_map (λ it. it.name) (slice_get natives n)
 abbrev pub halted_by : ℤ → Bool → Bool → Bool → State → Config → Moved Config End
 halted_by v true b d s c = run.Ends (end.Done s.pri) (record c { state = s })
 halted_by v false true d s c = run.Ends (end.Exit s.pri s.alt) (record c { state = s })
-halted_by v false false true s c = run.Sleeps (shown (event.Slept s.pri s.alt) (record c { state = s }))
+halted_by v false false true s c =
+    run.Sleeps (shown (event.Slept s.pri s.alt) (record c { state = s }))
 halted_by v false false false s c = run.Ends (end.Error v) (record c { state = s })
 
 -- what a HALT comes to

@@ -16,7 +16,8 @@ pub data Finish (C E : Type 0) : Type 0 where
 -- it goes on after a sleep as after any other move
 unfoldable pub iterate : {C E : Type 0} → (C → Moved C E) → ℕ → C → Finish C E
 iterate move zero c = Cut c
-iterate move (suc n) c = elim (move c) [ Goes d ↦ iterate move n d | Sleeps d ↦ iterate move n d | Ends e d ↦ Over e d ]
+iterate move (suc n) c =
+    elim (move c) [ Goes d ↦ iterate move n d | Sleeps d ↦ iterate move n d | Ends e d ↦ Over e d ]
 
 -- why a segment stopped
 pub data Stop (E : Type 0) : Type 0 where
@@ -48,18 +49,26 @@ pub record Traced (C E : Type 0) : Type 0 where
 
 -- a segment with its bound
 abbrev pub traced : {C E : Type 0} → ℕ → Segmented C E → Traced C E
-traced bound segmented = record { stop = segmented.stop; config = segmented.config; bound = bound; steps = segmented.steps }
+traced bound segmented =
+    record {
+      stop = segmented.stop;
+      config = segmented.config;
+      bound = bound;
+      steps = segmented.steps;
+    }
 
 -- with so many moves before
 abbrev pub behind : {C E : Type 0} → ℕ → Traced C E → Traced C E
-behind steps t = record { stop = t.stop; config = t.config; bound = t.bound; steps = steps + t.steps }
+behind steps t =
+    record { stop = t.stop; config = t.config; bound = t.bound; steps = steps + t.steps }
 
 -- a first bound, and further ones for the segments after sleeps
 abbrev pub joined : {C E : Type 0} → (C → Moved C E) → ℕ → List ℕ → C → Traced C E
 joined move bound [] c = traced bound (segment move bound 0 c)
 joined move bound (next ∷ bounds) c = elim (segment move bound 0 c).stop [
   | Steps ↦ traced bound (segment move bound 0 c)
-  | Asleep ↦ behind (segment move bound 0 c).steps (joined move next bounds (segment move bound 0 c).config)
+  | Asleep ↦ behind (segment move bound 0 c).steps
+      (joined move next bounds (segment move bound 0 c).config)
   | Over_by e ↦ traced bound (segment move bound 0 c)
 ]
 
@@ -68,4 +77,5 @@ joined move bound (next ∷ bounds) c = elim (segment move bound 0 c).stop [
 -- how many of the next moves are sleeps, up to an end
 unfoldable pub sleeps : {C E : Type 0} → (C → Moved C E) → ℕ → C → ℕ
 sleeps move zero c = 0
-sleeps move (suc n) c = elim (move c) [ Goes d ↦ sleeps move n d | Sleeps d ↦ suc (sleeps move n d) | Ends e d ↦ 0 ]
+sleeps move (suc n) c =
+    elim (move c) [ Goes d ↦ sleeps move n d | Sleeps d ↦ suc (sleeps move n d) | Ends e d ↦ 0 ]

@@ -1,6 +1,8 @@
--- The state of the abstract machine: its registers, and one list of cells from the first cell of the
--- data up to the stack's top. Registers that hold addresses are in bytes from the data's first cell.
-use Rattle.std.specs.Prelude.{◌+◌, ◌-◌, ◌*◌, ◌/◌, ◌++◌, ℕ, ℤ, pos, List, length, take, drop, replicate, nat_le, nat_lt, if◌then◌else◌, slice_set}
+-- The state of the abstract machine: its registers, and one list of cells from the first cell of
+-- the data up to the stack's top. Registers that hold addresses are in bytes from the data's first
+-- cell.
+use Rattle.std.specs.Prelude.{◌+◌, ◌-◌, ◌*◌, ◌/◌, ◌++◌, ℕ, ℤ, pos, List, length, take, drop}
+use Rattle.std.specs.Prelude.{replicate, nat_le, nat_lt, if◌then◌else◌, slice_set}
 use Rattle.std.specs.List.{slice_index_or}
 use Rattle.amx_ops.specs.declared.amx.Amx.{Amx}
 
@@ -44,7 +46,9 @@ push s v go =
 
 -- error 7: the stack underflows
 abbrev pub pop : State → (ℤ → State → Turned) → Turned
-pop s go = if nat_lt s.stk (stp s) then go (cell_at s s.stk) (record s { stk = s.stk + 4 }) else Errs (pos 7)
+pop s go =
+    if nat_lt s.stk (stp s) then go (cell_at s s.stk) (record s { stk = s.stk + 4 })
+    else Errs (pos 7)
 
 -- the 16 cells that a frame leaves free, or error 3
 abbrev pub with_margin : State → (State → Turned) → Turned
@@ -52,4 +56,8 @@ with_margin s go = if nat_le (s.hea + 64) s.stk then go s else Errs (pos 3)
 
 -- the cells between heap and stack are 0
 abbrev pub swept : State → State
-swept s = record s { cells = take (s.hea / 4) s.cells ++ (replicate (s.stk / 4 - s.hea / 4) (pos 0) ++ drop (s.stk / 4) s.cells) }
+swept s =
+    record s {
+      cells = take (s.hea / 4) s.cells
+          ++ (replicate (s.stk / 4 - s.hea / 4) (pos 0) ++ drop (s.stk / 4) s.cells);
+    }

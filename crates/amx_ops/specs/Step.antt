@@ -1,7 +1,12 @@
--- One step: what each instruction does, a clause each, in the order of the table (Implementer's Guide,
--- "Instruction reference"). Tests stand in the order of the effect, and an error changes nothing.
-use Rattle.std.specs.Prelude.{◌+◌, ◌*◌, ℕ, ℤ, pos, negsuc, ◌+ℤ◌, not as no, Option, None, Some, nat_lt, if◌then◌else◌}
-use Rattle.pawn_cells.specs.Cells.{bits_of, cell_of, wrapped_sum, add, sub, mul, neg, floor_div, floor_rem, unsigned_div, unsigned_rem, and, or, xor, invert, shl, shr, ushr, less, less_eq, equal, unsigned_less, unsigned_less_eq, is_zero, truth, not}
+-- One step: what each instruction does, a clause each, in the order of the table (Implementer's
+-- Guide, "Instruction reference"). Tests stand in the order of the effect, and an error changes
+-- nothing.
+use Rattle.std.specs.Prelude.{◌+◌, ◌*◌, ℕ, ℤ, pos, negsuc, ◌+ℤ◌, not as no, Option, None, Some}
+use Rattle.std.specs.Prelude.{nat_lt, if◌then◌else◌}
+use Rattle.pawn_cells.specs.Cells.{bits_of, cell_of, wrapped_sum, add, sub, mul, neg, floor_div}
+use Rattle.pawn_cells.specs.Cells.{floor_rem, unsigned_div, unsigned_rem, and, or, xor, invert, shl}
+use Rattle.pawn_cells.specs.Cells.{shr, ushr, less, less_eq, equal, unsigned_less, unsigned_less_eq}
+use Rattle.pawn_cells.specs.Cells.{is_zero, truth, not}
 use Rattle.amx_ops.specs.declared.amx.Amx.{Amx}
 use Rattle.amx_ops.specs.declared.instr.Instr.{Instr}
 use Rattle.amx_ops.specs.declared.op.Op.{Op}
@@ -9,8 +14,10 @@ use Rattle.amx_ops.specs.declared.op.Op.TheVariants as op
 use Rattle.amx_ops.specs.Table.{is_number, op_of}
 use Rattle.amx_ops.specs.Instructions.{fetched}
 use Rattle.amx_ops.specs.State.{State, Turned, Errs, Halts, Asks, push, pop, with_margin}
-use Rattle.amx_ops.specs.Access.{load, store, raise, in_frame, load_part, store_part, copy, compare, fill}
-use Rattle.amx_ops.specs.Effects.{at_next, jump, jump_if, case_of, register, divide, stack_to, heap_to, set_register, returned, halted, ask}
+use Rattle.amx_ops.specs.Access.{load, store, raise, in_frame, load_part, store_part, copy, compare}
+use Rattle.amx_ops.specs.Access.{fill}
+use Rattle.amx_ops.specs.Effects.{at_next, jump, jump_if, case_of, register, divide, stack_to}
+use Rattle.amx_ops.specs.Effects.{heap_to, set_register, returned, halted, ask}
 
 -- an operation of a file with its operand v, and the address q of the next instruction
 abbrev pub act : Amx → Op → ℤ → ℕ → State → Turned
@@ -19,12 +26,17 @@ act amx op.LoadPri v q s = load s (bits_of v) (λ x. at_next q (record s { pri =
 act amx op.LoadAlt v q s = load s (bits_of v) (λ x. at_next q (record s { alt = x }))
 act amx op.LoadSPri v q s = load s (in_frame s v) (λ x. at_next q (record s { pri = x }))
 act amx op.LoadSAlt v q s = load s (in_frame s v) (λ x. at_next q (record s { alt = x }))
-act amx op.LrefPri v q s = load s (bits_of v) (λ a. load s (bits_of a) (λ x. at_next q (record s { pri = x })))
-act amx op.LrefAlt v q s = load s (bits_of v) (λ a. load s (bits_of a) (λ x. at_next q (record s { alt = x })))
-act amx op.LrefSPri v q s = load s (in_frame s v) (λ a. load s (bits_of a) (λ x. at_next q (record s { pri = x })))
-act amx op.LrefSAlt v q s = load s (in_frame s v) (λ a. load s (bits_of a) (λ x. at_next q (record s { alt = x })))
+act amx op.LrefPri v q s =
+    load s (bits_of v) (λ a. load s (bits_of a) (λ x. at_next q (record s { pri = x })))
+act amx op.LrefAlt v q s =
+    load s (bits_of v) (λ a. load s (bits_of a) (λ x. at_next q (record s { alt = x })))
+act amx op.LrefSPri v q s =
+    load s (in_frame s v) (λ a. load s (bits_of a) (λ x. at_next q (record s { pri = x })))
+act amx op.LrefSAlt v q s =
+    load s (in_frame s v) (λ a. load s (bits_of a) (λ x. at_next q (record s { alt = x })))
 act amx op.LoadI v q s = load s (bits_of s.pri) (λ x. at_next q (record s { pri = x }))
-act amx op.LodbI v q s = load_part s (bits_of s.pri) (bits_of v) (λ x. at_next q (record s { pri = x }))
+act amx op.LodbI v q s =
+    load_part s (bits_of s.pri) (bits_of v) (λ x. at_next q (record s { pri = x }))
 act amx op.ConstPri v q s = at_next q (record s { pri = v })
 act amx op.ConstAlt v q s = at_next q (record s { alt = v })
 act amx op.AddrPri v q s = at_next q (record s { pri = cell_of (in_frame s v) })
@@ -40,8 +52,10 @@ act amx op.SrefSAlt v q s = load s (in_frame s v) (λ a. store s (bits_of a) s.a
 act amx op.StorI v q s = store s (bits_of s.alt) s.pri (at_next q)
 act amx op.StrbI v q s = store_part s (bits_of s.alt) (bits_of v) s.pri (at_next q)
 -- ---- addresses and registers
-act amx op.Lidx v q s = load s (bits_of (add s.alt (mul (pos 4) s.pri))) (λ x. at_next q (record s { pri = x }))
-act amx op.LidxB v q s = load s (bits_of (add s.alt (shl s.pri v))) (λ x. at_next q (record s { pri = x }))
+act amx op.Lidx v q s =
+    load s (bits_of (add s.alt (mul (pos 4) s.pri))) (λ x. at_next q (record s { pri = x }))
+act amx op.LidxB v q s =
+    load s (bits_of (add s.alt (shl s.pri v))) (λ x. at_next q (record s { pri = x }))
 act amx op.Idxaddr v q s = at_next q (record s { pri = add s.alt (mul (pos 4) s.pri) })
 act amx op.IdxaddrB v q s = at_next q (record s { pri = add s.alt (shl s.pri v) })
 act amx op.AlignPri v q s = at_next q (record s { pri = xor s.pri (sub (pos 4) v) })
@@ -61,9 +75,12 @@ act amx op.PopPri v q s = pop s (λ x t. at_next q (record t { pri = x }))
 act amx op.PopAlt v q s = pop s (λ x t. at_next q (record t { alt = x }))
 act amx op.Stack v q s = stack_to (pos s.stk +ℤ v) q (record s { alt = cell_of s.stk })
 act amx op.Heap v q s = heap_to amx (pos s.hea +ℤ v) q (record s { alt = cell_of s.hea })
-act amx op.Proc v q s = push s (cell_of s.frm) (λ t. with_margin t (λ u. at_next q (record u { frm = u.stk })))
-act amx op.Ret v q s = pop s (λ f t. pop t (λ a u. jump amx (bits_of a) (record u { frm = bits_of f })))
-act amx op.Retn v q s = pop s (λ f t. pop t (λ a u. pop u (λ n w. returned amx (bits_of f) (bits_of a) (bits_of n) w)))
+act amx op.Proc v q s =
+    push s (cell_of s.frm) (λ t. with_margin t (λ u. at_next q (record u { frm = u.stk })))
+act amx op.Ret v q s =
+    pop s (λ f t. pop t (λ a u. jump amx (bits_of a) (record u { frm = bits_of f })))
+act amx op.Retn v q s =
+    pop s (λ f t. pop t (λ a u. pop u (λ n w. returned amx (bits_of f) (bits_of a) (bits_of n) w)))
 -- ---- calls and jumps
 act amx op.Call v q s = push s (cell_of q) (λ t. at_next (bits_of v) t)
 act amx op.CallPri v q s = push s (cell_of q) (λ t. jump amx (bits_of s.pri) t)
@@ -137,7 +154,8 @@ act amx op.DecS v q s = raise s (in_frame s v) (negsuc 0) (at_next q)
 act amx op.DecI v q s = raise s (bits_of s.pri) (negsuc 0) (at_next q)
 -- ---- blocks of bytes
 act amx op.Movs v q s = copy s (bits_of s.pri) (bits_of s.alt) (bits_of v) (at_next q)
-act amx op.Cmps v q s = compare s (bits_of s.alt) (bits_of s.pri) (bits_of v) (λ x. at_next q (record s { pri = x }))
+act amx op.Cmps v q s =
+    compare s (bits_of s.alt) (bits_of s.pri) (bits_of v) (λ x. at_next q (record s { pri = x }))
 act amx op.Fill v q s = fill s (bits_of s.alt) (bits_of v) s.pri (at_next q)
 -- ---- the host, case tables and others
 act amx op.Halt v q s = Halts v (record (halted (is_number 12 v) s) { cip = q })
@@ -147,8 +165,10 @@ act amx op.SysreqC v q s = Asks (bits_of v) (record s { cip = q })
 act amx op.JumpPri v q s = jump amx (bits_of s.pri) s
 act amx op.Switch v q s = at_next (case_of amx (bits_of v) s.pri) s
 act amx op.Casetbl v q s = Errs (pos 6)
-act amx op.SwapPri v q s = load s s.stk (λ x. store s s.stk s.pri (λ t. at_next q (record t { pri = x })))
-act amx op.SwapAlt v q s = load s s.stk (λ x. store s s.stk s.alt (λ t. at_next q (record t { alt = x })))
+act amx op.SwapPri v q s =
+    load s s.stk (λ x. store s s.stk s.pri (λ t. at_next q (record t { pri = x })))
+act amx op.SwapAlt v q s =
+    load s s.stk (λ x. store s s.stk s.alt (λ t. at_next q (record t { alt = x })))
 act amx op.PushAdr v q s = push s (cell_of (in_frame s v)) (at_next q)
 act amx op.Nop v q s = at_next q s
 act amx op.Break v q s = at_next q s

@@ -1,7 +1,8 @@
 -- The instruction table as definitions read it (Implementer's Guide, "Instruction reference").
 use denote.Enum.Declared.{tag_of}
 use denote.Ref.{Bor}
-use Rattle.std.specs.Prelude.{ℕ, ℤ, pos, negsuc, List, Bool, false, ◌==◌, Option, None, Some, find, map, slice_get}
+use Rattle.std.specs.Prelude.{ℕ, ℤ, pos, negsuc, List, Bool, false, ◌==◌, Option, None, Some, find}
+use Rattle.std.specs.Prelude.{map, slice_get}
 use Rattle.pawn_cells.specs.Cells.{equal}
 use Rattle.amx_ops.specs.declared.op.Op.{Op}
 use Rattle.amx_ops.specs.contracts.op.Op.{the_type}

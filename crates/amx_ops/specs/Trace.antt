@@ -1,6 +1,8 @@
--- A file's machine, its starts, and its trace: started at main or a public, and run in segments with a bound
--- each.
-use Rattle.std.specs.Prelude.{◌+◌, ◌-◌, ◌*◌, ◌/◌, ◌++◌, ℕ, ℤ, pos, negsuc, List, [], ◌∷◌, Option, None, Some, length, replicate, option_map, option_and_then, slice_get, slice_set, nat_le, if◌then◌else◌}
+-- A file's machine, its starts, and its trace: started at main or a public, and run in segments
+-- with a bound each.
+use Rattle.std.specs.Prelude.{◌+◌, ◌-◌, ◌*◌, ◌/◌, ◌++◌, ℕ, ℤ, pos, negsuc, List, [], ◌∷◌, Option}
+use Rattle.std.specs.Prelude.{None, Some, length, replicate, option_map, option_and_then, slice_get}
+use Rattle.std.specs.Prelude.{slice_set, nat_le, if◌then◌else◌}
 use Rattle.pawn_cells.specs.Cells.{bits_of, cell_of, equal}
 use Rattle.host_script.specs.declared.script.Script.{Script}
 use Rattle.host_script.specs.declared.event.End.{End}
@@ -66,7 +68,8 @@ start_at amx address arguments s =
 
 -- a machine of a file started at an entry, whatever it did before
 abbrev pub start : Amx → Entry → List ℤ → State → Option State
-start amx entry arguments s = option_and_then (λ address. start_at amx address arguments s) (address_of amx entry)
+start amx entry arguments s =
+    option_and_then (λ address. start_at amx address arguments s) (address_of amx entry)
 
 -- ---- the trace
 

@@ -1,7 +1,9 @@
--- Valid code: what the verifier accepts, and what the machine is asked for. The first fault stands first in
--- the order below: instruction by instruction whether each is whole and has a proper operand, then
--- instruction by instruction where each leads, then the entries.
-use Rattle.std.specs.Prelude.{◌≡◌, ◌+◌, ◌-◌, ◌*◌, ◌/◌, ◌%◌, ℕ, zero, suc, ℤ, pos, negsuc, List, [], ◌∷◌, Bool, true, false, ◌==◌, ◌&&◌, ◌||◌, Option, None, Some, drop, nat_lt, if◌then◌else◌}
+-- Valid code: what the verifier accepts, and what the machine is asked for. The first fault stands
+-- first in the order below: instruction by instruction whether each is whole and has a proper
+-- operand, then instruction by instruction where each leads, then the entries.
+use Rattle.std.specs.Prelude.{◌≡◌, ◌+◌, ◌-◌, ◌*◌, ◌/◌, ◌%◌, ℕ, zero, suc, ℤ, pos, negsuc, List, []}
+use Rattle.std.specs.Prelude.{◌∷◌, Bool, true, false, ◌==◌, ◌&&◌, ◌||◌, Option, None, Some, drop}
+use Rattle.std.specs.Prelude.{nat_lt, if◌then◌else◌}
 use Rattle.std.specs.List.{list_any}
 use Rattle.pawn_cells.specs.Cells.{bits_of, wrapped_sum, equal}
 use Rattle.amx_ops.specs.declared.table.Operand.{Operand}
@@ -9,7 +11,8 @@ use Rattle.amx_ops.specs.declared.table.Operand.TheVariants as operand
 use Rattle.amx_ops.specs.Table.{Row, row_of, row_at}
 use Rattle.amx_ops.specs.Instructions.{Placed, placed_from, cells_in, is_start}
 
--- what is wrong, with the address of its instruction; an entry by its public's number, main's being -1
+-- what is wrong, with the address of its instruction; an entry by its public's number, main's being
+-- -1
 pub data Fault : Type 0 where
   -- 100: no instruction has this number
   Opcode : ℕ → Fault
@@ -17,7 +20,8 @@ pub data Fault : Type 0 where
   Cut : ℕ → Fault
   -- 102: an address where no instruction starts
   Target : ℕ → Fault
-  -- 103: a negative count, an address that is no case table's, or one in a table where no instruction starts
+  -- 103: a negative count, an address that is no case table's, or one in a table where no
+  -- instruction starts
   CaseTable : ℕ → Fault
   -- 104: no such native
   Native : ℕ → Fault
@@ -61,13 +65,15 @@ is_length (negsuc n) = false
 
 -- the operand v of an instruction at an address, in a file with so many natives
 abbrev pub operand_fault : ℕ → Operand → ℤ → ℕ → Option Fault
-operand_fault natives operand.ByteCount v at = unless (equal v (pos 1) || equal v (pos 2) || equal v (pos 4)) (ByteCount at)
+operand_fault natives operand.ByteCount v at =
+    unless (equal v (pos 1) || equal v (pos 2) || equal v (pos 4)) (ByteCount at)
 operand_fault natives operand.Register v at = unless (is_below v 7) (Register at)
 operand_fault natives operand.SetRegister v at =
     unless (equal v (pos 2) || equal v (pos 4) || equal v (pos 5) || equal v (pos 6)) (Register at)
 operand_fault natives operand.Multiple v at = unless (is_multiple v) (ByteCount at)
 operand_fault natives operand.Length v at = unless (is_length v) (ByteCount at)
-operand_fault natives operand.CellsLength v at = unless (is_length v && is_multiple v) (ByteCount at)
+operand_fault natives operand.CellsLength v at =
+    unless (is_length v && is_multiple v) (ByteCount at)
 operand_fault natives operand.NativeNumber v at = unless (is_below v natives) (Native at)
 operand_fault natives kind v at = None
 
@@ -80,8 +86,8 @@ row_fault natives (Some row) v at = operand_fault natives row.operand v at
 abbrev pub proper : ℕ → Placed → Option Fault
 proper natives it = row_fault natives (row_of it.instr.op) it.instr.operand it.at
 
--- why no whole instruction stands at the front of some cells: a negative count is told where the fixed part
--- of its table is there
+-- why no whole instruction stands at the front of some cells: a negative count is told where the
+-- fixed part of its table is there
 abbrev pub table_fault : List ℤ → ℕ → Fault
 table_fault [] at = Cut at
 table_fault (count ∷ []) at = Cut at
@@ -122,7 +128,8 @@ is_cases (Some row) = is_cases_kind row.operand
 
 -- a case table of some instructions stands at the address
 abbrev pub is_table : List Placed → ℤ → Bool
-is_table its (pos at) = list_any (λ (it : Placed). (it.at == at) && is_cases (row_of it.instr.op)) its
+is_table its (pos at) =
+    list_any (λ (it : Placed). (it.at == at) && is_cases (row_of it.instr.op)) its
 is_table its (negsuc n) = false
 
 -- so many addresses, each but the last with a value behind it
@@ -143,9 +150,11 @@ module _ (starts : ℕ → Bool) (begin : ℕ) (cells : List ℤ) where
   link_fault operand.Target it = unless (leads starts it.instr.operand) (Target it.at)
   link_fault operand.Relative it =
       unless (starts (wrapped_sum (next_of it) (bits_of it.instr.operand))) (Target it.at)
-  link_fault operand.CaseTable it = unless (is_table (placed_from begin 0 cells) it.instr.operand) (CaseTable it.at)
+  link_fault operand.CaseTable it =
+      unless (is_table (placed_from begin 0 cells) it.instr.operand) (CaseTable it.at)
   link_fault operand.Cases it =
-      unless (all_lead starts (bits_of it.instr.operand + 1) (drop ((it.at - begin) / 4 + 2) cells)) (CaseTable it.at)
+      unless (all_lead starts (bits_of it.instr.operand + 1) (drop ((it.at - begin) / 4 + 2) cells))
+      (CaseTable it.at)
   link_fault kind it = None
 
   -- by the row of its number
@@ -182,7 +191,8 @@ main_fault code entry = if equal entry (negsuc 0) then None else entry_fault cod
 -- the publics from a number on
 abbrev pub publics_fault : List ℤ → ℕ → List ℤ → Option Fault
 publics_fault code n [] = None
-publics_fault code n (address ∷ addresses) = or_else (entry_fault code (pos n) address) (publics_fault code (n + 1) addresses)
+publics_fault code n (address ∷ addresses) =
+    or_else (entry_fault code (pos n) address) (publics_fault code (n + 1) addresses)
 
 -- code with so many natives, main's address or -1, and the addresses of the publics
 abbrev pub first_fault : List ℤ → ℕ → ℤ → List ℤ → Option Fault

@@ -1,6 +1,7 @@
--- Files that can be written (Implementer's Guide, "File format"): the header's 56 bytes, the tables, the
--- name table, zero bytes to a multiple of 4, then the code and the data.
-use Rattle.std.specs.Prelude.{◌≡◌, ◌≢◌, ◌+◌, ◌*◌, ◌/◌, ◌%◌, ◌^◌, ◌<◌, ◌≤◌, ℕ, List, All, length, sum_by, map, IsSorted}
+-- Files that can be written (Implementer's Guide, "File format"): the header's 56 bytes, the
+-- tables, the name table, zero bytes to a multiple of 4, then the code and the data.
+use Rattle.std.specs.Prelude.{◌≡◌, ◌≢◌, ◌+◌, ◌*◌, ◌/◌, ◌%◌, ◌^◌, ◌<◌, ◌≤◌, ℕ, List, All, length}
+use Rattle.std.specs.Prelude.{sum_by, map, IsSorted}
 use Rattle.std.specs.Ordering.{nat_cmp}
 use Rattle.std.specs.Cmp.Lexicographic.{slice_cmp}
 use Rattle.amx_ops.specs.declared.amx.Amx.{Amx}
@@ -16,7 +17,8 @@ names_size records = sum_by (λ (it : Record). length it.name + 1) records
 
 -- the sizes of the five tables together
 abbrev pub over_tables : (List Record → ℕ) → Amx → ℕ
-over_tables size amx = size amx.publics + size amx.natives + size amx.libraries + size amx.variables + size amx.tags
+over_tables size amx =
+    size amx.publics + size amx.natives + size amx.libraries + size amx.variables + size amx.tags
 
 -- where the name table begins
 abbrev pub name_place : Amx → ℕ

@@ -10,7 +10,8 @@ use Rattle.amx_ops.specs.Table.{number_of, operand_of}
 use Rattle.amx_ops.specs.Instructions.{IsProper, cells, Placed, placed}
 use Rattle.amx_ops.specs.Valid.{IsValid}
 
--- an instruction as it is written: behind the count of a case table stand its default address and its pairs
+-- an instruction as it is written: behind the count of a case table stand its default address and
+-- its pairs
 pub record Written : Type 0 where
   pub op : Op
   pub operand : ℤ
@@ -41,7 +42,8 @@ read_as it = record { op = number_of it.op; operand = it.operand; cells = length
 -- where they stand, the first at an address
 abbrev pub places : ℕ → List Written → List Placed
 places at [] = []
-places at (it ∷ its) = record { at = at; instr = read_as it } ∷ places (at + 4 * length (cells_of it)) its
+places at (it ∷ its) =
+    record { at = at; instr = read_as it } ∷ places (at + 4 * length (cells_of it)) its
 
 -- the cells of some instructions joined are the code, and they are what is read of it
 pub record IsCodeOf (its : List Written) (code : List ℤ) : Type 0 where
@@ -51,6 +53,7 @@ pub record IsCodeOf (its : List Written) (code : List ℤ) : Type 0 where
 
 -- valid code is a list of instructions, and each list of instructions is read back from its code
 pub record CodeIsInstructions : Type 0 where
-  pub valid : (code : List ℤ) (natives : ℕ) (entry : ℤ) (publics : List ℤ) → IsValid code natives entry publics
+  pub valid : (code : List ℤ) (natives : ℕ) (entry : ℤ) (publics : List ℤ)
+      → IsValid code natives entry publics
       → (its : List Written) × IsCodeOf its code
   pub read : (its : List Written) → All IsWritten its → IsCodeOf its (flat_map cells_of its)

@@ -15,6 +15,7 @@ pub ready_first : (m : Machine) (o rest : Option Row) → IsReady m (first o res
 ready_first m None rest h = tt
 ready_first m (Some row) rest h = h
 
-pub ready_rest : (m : Machine) (o rest : Option Row) → IsReady m (first o rest) → o ≡ None → IsReady m rest
+pub ready_rest : (m : Machine) (o rest : Option Row) → IsReady m (first o rest) → o ≡ None
+    → IsReady m rest
 ready_rest m None rest h e = h
 ready_rest m (Some row) rest h e = absurd (none-some row (sym e))

@@ -12,9 +12,11 @@ pub record Ran : Type 0 where
   pub turn : Turn
   pub machine : Machine
 
+-- the same file with other registers and memory
 abbrev pub with_state : Machine → State → Machine
 with_state m s = record m { state = s }
 
+-- up to the first step that doesn't go on; an error leaves the machine as it was
 unfoldable pub runs : (n so_far : ℕ) → Machine → Ran
 runs zero so_far m = record { steps = so_far; turn = turn.Goes; machine = m }
 runs (suc n) so_far m = elim (step m.amx m.state) [

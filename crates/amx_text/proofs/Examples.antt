@@ -22,7 +22,8 @@ empty_main = record {
 }
 
 of_an_empty_main : listing empty_main
-    ≡ codes "amx flags 0 version 8 code 5 data 0 room 4096 entry 8\n" ++ (codes "code\n00000000 HALT 0\n00000008 PROC\n"
+    ≡ codes "amx flags 0 version 8 code 5 data 0 room 4096 entry 8\n"
+    ++ (codes "code\n00000000 HALT 0\n00000008 PROC\n"
     ++ codes "0000000c ZERO.pri\n00000010 RETN\ndata\nend\n")
 unfolding row_at address_text digits empty_main
 of_an_empty_main = refl
@@ -34,7 +35,8 @@ unfolding row_at address_text digits
 case_table = refl
 
 -- the ninth cell begins a line
-nine_cells : data_from 0 0 (negsuc 0 ∷ pos 0 ∷ pos 2 ∷ pos 3 ∷ pos 4 ∷ pos 5 ∷ pos 6 ∷ pos 7 ∷ pos 8 ∷ [])
+nine_cells : data_from 0 0 (negsuc 0 ∷ pos 0 ∷ pos 2 ∷ pos 3 ∷ pos 4 ∷ pos 5 ∷ pos 6 ∷ pos 7
+    ∷ pos 8 ∷ [])
     ≡ codes "00000000 -1 0 2 3 4 5 6 7\n00000020 8\n"
 unfolding address_text digits
 nine_cells = refl

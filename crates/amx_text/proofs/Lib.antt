@@ -1,4 +1,4 @@
 pub mod Examples
 pub mod LineLaws
 pub mod ListingLaws
-pub mod SoFarLaws
+pub mod ListText

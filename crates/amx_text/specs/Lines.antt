@@ -1,7 +1,8 @@
--- The lines of a listing. Numbers are decimal, with a sign where negative; names stand between quotes as in a
--- trace; the address that begins a line has eight hexadecimal digits.
+-- The lines of a listing. Numbers are decimal, with a sign where negative; names stand between
+-- quotes as in a trace; the address that begins a line has eight hexadecimal digits.
 use denote.Enum.Declared.{tag_of}
-use Rattle.std.specs.Prelude.{◌+◌, ◌/◌, ◌%◌, ◌++◌, ℕ, zero, suc, ℤ, pos, List, [], ◌∷◌, Option, None, Some, codes, map, slice_get, nat_lt, if◌then◌else◌}
+use Rattle.std.specs.Prelude.{◌+◌, ◌/◌, ◌%◌, ◌++◌, ℕ, zero, suc, ℤ, pos, List, [], ◌∷◌, Option}
+use Rattle.std.specs.Prelude.{None, Some, codes, map, slice_get, nat_lt, if◌then◌else◌}
 use Rattle.std.specs.Fmt.{signed_decimal}
 use Rattle.host_script.specs.declared.event.Seen.TheVariants.{Cell, Text}
 use Rattle.host_script.specs.Text.{argument_text, arguments_text}
@@ -29,7 +30,8 @@ name_text name = argument_text (Text (map pos name))
 
 -- a record of a table
 abbrev pub record_line : List ℕ → Record → List ℕ
-record_line kind it = kind ++ (codes " " ++ (signed_decimal it.address ++ (name_text it.name ++ codes "\n")))
+record_line kind it =
+    kind ++ (codes " " ++ (signed_decimal it.address ++ (name_text it.name ++ codes "\n")))
 
 -- cells, each after one blank, up to the line's end
 abbrev pub cells_line : List ℤ → List ℕ
@@ -46,7 +48,8 @@ name_of op = name_by (slice_get table (tag_of the_type op))
 
 -- an instruction with the cells behind its number
 abbrev pub instruction_line : ℕ → ℕ → List ℤ → List ℕ
-instruction_line at number operands = address_text at ++ (codes " " ++ (name_by (row_of number) ++ cells_line operands))
+instruction_line at number operands =
+    address_text at ++ (codes " " ++ (name_by (row_of number) ++ cells_line operands))
 
 -- cells of the data
 abbrev pub data_line : ℕ → List ℤ → List ℕ

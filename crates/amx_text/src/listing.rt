@@ -1,6 +1,6 @@
 ghost use Rattle.std.specs.Prelude.{◌≡◌, ◌+◌, ◌*◌, ◌<◌, ◌≤◌, ◌^◌, ◌++◌, ℕ, length, codes};
 ghost use Rattle.pawn_outside.specs.Answers.{IsWrite};
-ghost use Rattle.pawn_outside.specs.Rose.{Rose};
+ghost use Rattle.pawn_outside.specs.Rose.{risen};
 ghost use Rattle.pawn_outside.specs.Said.{Said};
 ghost use Rattle.amx_text.specs.Listing.{header_line, record_lines, table_lines, code_lines};
 ghost use Rattle.amx_text.specs.Listing.{data_from, listing};
@@ -21,8 +21,8 @@ pub fn list<S: Sink>(amx: &Amx, out: &mut S) -> WriteAnswer
     ensures answer { IsWrite (S.taken out.old) (listing amx.now) result (S.taken out.new) }
 
     // As of all sinks.
-    ensures later { S.faults out.old ≤ S.faults out.new }
-    ensures cause { result ≡ WriteAnswer.Failed → Rose (S.faults out.old) (S.faults out.new) }
+    ensures steady { result ≡ WriteAnswer.Taken → S.faults out.new ≡ S.faults out.old }
+    ensures cause { result ≡ WriteAnswer.Failed → S.faults out.new ≡ risen (S.faults out.old) }
     ensures unfailing { (rest : ℕ) → S.has_room out.old (length (listing amx.now) + rest) →
         S.has_room out.new rest × (result ≡ WriteAnswer.Taken) }
 {

@@ -10,12 +10,14 @@ use Rattle.amx_verify.specs.Verdict.{Tells}
 abbrev pub whole_fault : ℕ → ℕ → List ℤ → Option Fault
 whole_fault natives at cells =
     let its = placed_from at 0 cells in
-    or_else (first_of (proper natives) its) (broken (drop (cells_in its) cells) (at + 4 * cells_in its))
+    or_else (first_of (proper natives) its)
+    (broken (drop (cells_in its) cells) (at + 4 * cells_in its))
 
 -- instructions from an address on that lead where none starts in the code
 abbrev pub link_fault_from : List ℤ → ℕ → List ℤ → Option Fault
 link_fault_from code at cells = first_of (linked (is_start code) 0 code) (placed_from at 0 cells)
 
+-- the fault of what the cells begin with, by itself
 abbrev pub at_front : ℕ → ℕ → List ℤ → Option Instr → Option Fault
 at_front natives at cells None = broken cells at
 at_front natives at cells (Some i) = proper natives (record { at = at; instr = i })
@@ -23,5 +25,6 @@ at_front natives at cells (Some i) = proper natives (record { at = at; instr = i
 -- the size of the instruction at the front, or its fault
 abbrev pub FrontIs : ℕ → ℕ → List ℤ → Result ℕ VerifyFault → Type 0
 FrontIs natives at cells (Ok size) =
-    (i : Instr) × (front cells ≡ Some i) × (size ≡ i.cells) × (proper natives (record { at = at; instr = i }) ≡ None)
+    (i : Instr) × (front cells ≡ Some i) × (size ≡ i.cells)
+    × (proper natives (record { at = at; instr = i }) ≡ None)
 FrontIs natives at cells (Err fault) = Tells fault (at_front natives at cells (front cells))

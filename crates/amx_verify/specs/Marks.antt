@@ -1,11 +1,13 @@
 -- A mark for each cell of code: whether an instruction starts there.
-use Rattle.std.specs.Prelude.{◌≡◌, ◌+◌, ◌-◌, ◌≤◌, ℕ, zero, suc, ℤ, List, [], ◌∷◌, Bool, true, false, Option, None, Some, length}
+use Rattle.std.specs.Prelude.{◌≡◌, ◌+◌, ◌-◌, ◌≤◌, ℕ, zero, suc, ℤ, List, [], ◌∷◌, Bool, true, false}
+use Rattle.std.specs.Prelude.{Option, None, Some, length}
 use Rattle.amx_ops.specs.declared.amx.Amx.{Amx}
 use Rattle.amx_ops.specs.declared.instr.Instr.{Instr}
 use Rattle.amx_ops.specs.Table.{row_of}
 use Rattle.amx_ops.specs.Valid.{is_cases}
 use Rattle.amx_ops.specs.Instructions.{front}
 
+-- of a cell at which an instruction was looked for
 abbrev pub mark_by : Option Instr → Bool
 mark_by None = false
 mark_by (Some i) = true

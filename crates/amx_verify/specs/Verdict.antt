@@ -1,13 +1,15 @@
 -- What the verifier answers: the first fault of a file, with the address of its instruction.
 use Rattle.std.specs.Prelude.{◌≡◌, ℕ, Option, None, Some, Result, Ok, Err, length, map}
 use Rattle.amx_ops.specs.declared.amx.Amx.{Amx}
-use Rattle.amx_ops.specs.Valid.{Fault, Opcode, Cut, Target, CaseTable, Native, Register, ByteCount, Entry, first_fault}
+use Rattle.amx_ops.specs.Valid.{Fault, Opcode, Cut, Target, CaseTable, Native, Register, ByteCount}
+use Rattle.amx_ops.specs.Valid.{Entry, first_fault}
 use Rattle.amx_verify.specs.declared.fault.VerifyFault.{VerifyFault}
 use Rattle.amx_verify.specs.declared.fault.VerifyFault.TheVariants as answer
 
 -- the first fault of a file's code and entries
 abbrev pub fault_in : Amx → Option Fault
-fault_in amx = first_fault amx.code (length amx.natives) amx.entry (map (λ it. it.address) amx.publics)
+fault_in amx =
+    first_fault amx.code (length amx.natives) amx.entry (map (λ it. it.address) amx.publics)
 
 -- an answer tells this first fault; want of memory tells of none
 abbrev pub Tells : VerifyFault → Option Fault → Type 0

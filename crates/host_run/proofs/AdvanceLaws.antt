@@ -1,5 +1,7 @@
 -- What one event comes to: an end, a sleep, a native that was answered, or nothing.
-use Rattle.std.proofs.Common.{◌≡◌, ◌≢◌, ◌≤◌, ◌⊎◌, inl, inr, ℕ, ℤ, pos, negsuc, false, List, [], ◌∷◌, ◌++◌, Option, None, Some, length, refl, sym, ap, ap₂, subst, ◌∙◌, append-nil, arith}
+use Rattle.std.proofs.Common.{◌≡◌, ◌≢◌, ◌≤◌, ◌⊎◌, inl, inr, ℕ, ℤ, pos, negsuc, false, List, [], ◌∷◌}
+use Rattle.std.proofs.Common.{◌++◌, Option, None, Some, length, refl, sym, ap, ap₂, subst, ◌∙◌}
+use Rattle.std.proofs.Common.{append-nil, arith}
 use Rattle.std.proofs.lemmas.Bool.{ne_eqb}
 use Rattle.host_script.specs.declared.script.Script.{Script}
 use Rattle.host_script.specs.declared.event.Event.{Event as Shown}
@@ -26,7 +28,8 @@ use Rattle.host_run.specs.Advance.{IsGiven, Advanced, IsOver, IsSleep, IsGuest, 
 use Rattle.host_run.specs.Reached.{placed}
 
 -- nothing more was shown
-none_more : (s : State) (position : ℕ) (before : List Shown) → placed s position before ≡ placed s position (before ++ [])
+none_more : (s : State) (position : ℕ) (before : List Shown)
+    → placed s position before ≡ placed s position (before ++ [])
 none_more s position before = ap (placed s position) (sym (append-nil before))
 
 one_line : (event : Shown) → lines_of (event ∷ []) ++ [] ≡ event_text event
@@ -45,7 +48,8 @@ some_end end.Stray m h = absurd h
 no_stray : (e : End) (m : Mode) → e ≡ end.Stray → IsEnded e m → ⊥
 no_stray e m is h = subst (λ x. IsEnded x m) is h
 
-given_over : (e : End) (m : Mode) (s : State) (given : SessionEnd) → IsEnded e m → IsOver e given → IsGiven (Over_by e) s (Some given)
+given_over : (e : End) (m : Mode) (s : State) (given : SessionEnd) → IsEnded e m → IsOver e given
+    → IsGiven (Over_by e) s (Some given)
 given_over e m s (answer.Done value) h is = ap Over_by is
 given_over e m s (answer.Exit value tag) h is = ap Over_by is
 given_over e m s (answer.Error code) h is = ap Over_by is
@@ -53,7 +57,8 @@ given_over e m s (answer.Asleep value tag) h is = absurd is
 given_over e m s answer.Steps h is = absurd (no_stray e m is h)
 given_over e m s answer.SinkFault h is = tt
 
-given_sleep : (s : State) (given : SessionEnd) → IsSleep s.pri s.alt given → IsGiven Asleep s (Some given)
+given_sleep : (s : State) (given : SessionEnd) → IsSleep s.pri s.alt given
+    → IsGiven Asleep s (Some given)
 given_sleep s (answer.Done value) is = absurd is
 given_sleep s (answer.Exit value tag) is = absurd is
 given_sleep s (answer.Error code) is = absurd is
@@ -61,13 +66,17 @@ given_sleep s (answer.Asleep value tag) is = (refl, is.0, is.1)
 given_sleep s answer.Steps is = absurd is
 given_sleep s answer.SinkFault is = tt
 
-given_on : (s : State) (given : Option SessionEnd) → (given ≡ None) ⊎ (given ≡ Some answer.SinkFault) → IsGiven Steps s given
+given_on : (s : State) (given : Option SessionEnd)
+    → (given ≡ None) ⊎ (given ≡ Some answer.SinkFault) → IsGiven Steps s given
 given_on s given (inl e) = subst (IsGiven Steps s) (sym e) refl
 given_on s given (inr e) = subst (IsGiven Steps s) (sym e) tt
 
 module _ {go : List Shown → Moved Config End} {new : Place} {say : List ℕ → Type 0} where
-  pub ends : (e : End) (given : SessionEnd) → ((before : List Shown) → go before ≡ run.Ends e (placed new.machine.state new.position before))
-      → IsEnded e new.machine.mode → IsOver e given → say (end_text e) → Advanced go new (Some given) say
+  pub ends : (e : End) (given : SessionEnd)
+      → ((before : List Shown) → go before
+      ≡ run.Ends e (placed new.machine.state new.position before))
+      → IsEnded e new.machine.mode → IsOver e given → say (end_text e)
+      → Advanced go new (Some given) say
   ends e given is mode over said = record {
     stop = Over_by e;
     shown = [];
@@ -78,21 +87,35 @@ module _ {go : List Shown → Moved Config End} {new : Place} {say : List ℕ �
     some = λ h. some_end e new.machine.mode mode;
   }
 
-  pub sleeps : (pri alt : ℤ) (given : SessionEnd) → pri ≡ new.machine.state.pri → alt ≡ new.machine.state.alt
-      → ((before : List Shown) → go before ≡ run.Sleeps (placed new.machine.state new.position (before ++ shown.Slept new.machine.state.pri new.machine.state.alt ∷ [])))
-      → new.machine.mode ≡ mode.Asleep → IsSleep pri alt given → say (event_text (shown.Slept pri alt)) → Advanced go new (Some given) say
+  pub sleeps : (pri alt : ℤ) (given : SessionEnd) → pri ≡ new.machine.state.pri
+      → alt ≡ new.machine.state.alt
+      → ((before : List Shown) → go before
+      ≡ run.Sleeps (placed new.machine.state new.position
+      (before ++ shown.Slept new.machine.state.pri new.machine.state.alt ∷ [])))
+      → new.machine.mode ≡ mode.Asleep → IsSleep pri alt given
+      → say (event_text (shown.Slept pri alt)) → Advanced go new (Some given) say
   sleeps pri alt given p a is mode sleep said = record {
     stop = Asleep;
     shown = shown.Slept new.machine.state.pri new.machine.state.alt ∷ [];
     moved = is;
     mode = mode;
-    gives = given_sleep new.machine.state given (subst (λ x. IsSleep x new.machine.state.alt given) p (subst (λ x. IsSleep pri x given) a sleep));
-    said = subst say (ap₂ (λ x y. event_text (shown.Slept x y)) p a ∙ sym (one_line (shown.Slept new.machine.state.pri new.machine.state.alt))) said;
-    some = λ h. subst (λ text. 1 ≤ length text) (sym (one_line (shown.Slept new.machine.state.pri new.machine.state.alt))) (some_event (shown.Slept new.machine.state.pri new.machine.state.alt));
+    gives =
+        given_sleep new.machine.state given
+        (subst (λ x. IsSleep x new.machine.state.alt given) p
+        (subst (λ x. IsSleep pri x given) a sleep));
+    said =
+        subst say (ap₂ (λ x y. event_text (shown.Slept x y)) p a
+        ∙ sym (one_line (shown.Slept new.machine.state.pri new.machine.state.alt))) said;
+    some =
+        λ h. subst (λ text. 1 ≤ length text)
+        (sym (one_line (shown.Slept new.machine.state.pri new.machine.state.alt)))
+        (some_event (shown.Slept new.machine.state.pri new.machine.state.alt));
   }
 
-  pub answers : (event : Shown) (given : Option SessionEnd) → (given ≡ None) ⊎ (given ≡ Some answer.SinkFault)
-      → ((before : List Shown) → go before ≡ run.Goes (placed new.machine.state new.position (before ++ event ∷ [])))
+  pub answers : (event : Shown) (given : Option SessionEnd)
+      → (given ≡ None) ⊎ (given ≡ Some answer.SinkFault)
+      → ((before : List Shown) → go before
+      ≡ run.Goes (placed new.machine.state new.position (before ++ event ∷ [])))
       → new.machine.mode ≡ mode.Running → say (event_text event) → Advanced go new given say
   answers event given which is mode said = record {
     stop = Steps;
@@ -104,7 +127,9 @@ module _ {go : List Shown → Moved Config End} {new : Place} {say : List ℕ �
     some = λ h. subst (λ text. 1 ≤ length text) (sym (one_line event)) (some_event event);
   }
 
-  pub nothing : ((before : List Shown) → go before ≡ run.Goes (placed new.machine.state new.position before)) → new.machine.mode ≡ mode.Running → say [] → Advanced go new None say
+  pub nothing : ((before : List Shown)
+      → go before ≡ run.Goes (placed new.machine.state new.position before))
+      → new.machine.mode ≡ mode.Running → say [] → Advanced go new None say
   nothing is mode said = record {
     stop = Steps;
     shown = [];
@@ -121,7 +146,8 @@ isnt_number : (n : ℕ) (z : ℤ) → z ≢ pos n → is_number n z ≡ false
 isnt_number n (pos m) e = ne_eqb n m (λ same. e (ap pos (sym same)))
 isnt_number n (negsuc m) e = refl
 
-pub halted-error : (z : ℤ) (s : State) (c : Config) → z ≢ pos 0 → z ≢ pos 1 → z ≢ pos 12 → halted z s c ≡ run.Ends (end.Error z) (record c { state = s })
+pub halted-error : (z : ℤ) (s : State) (c : Config) → z ≢ pos 0 → z ≢ pos 1 → z ≢ pos 12
+    → halted z s c ≡ run.Ends (end.Error z) (record c { state = s })
 halted-error z s c a b d = rw (isnt_number 0 z a, isnt_number 1 z b, isnt_number 12 z d) refl
 
 -- ---- natives
@@ -129,23 +155,31 @@ halted-error z s c a b d = rw (isnt_number 0 z a, isnt_number 1 z b, isnt_number
 module _ (script : Script) (name : List ℕ) (guest : Guest) (is : IsGuest script name guest) where
   by_read : (o : Option (List ℤ)) (s : State) (c : Config)
       → asked script name o s c
-      ≡ answered (called_for script (native_of script name).forms (native_of script name).rest (native_of script name).result name s c.position o) s c
+      ≡ answered (called_for script (native_of script name).forms (native_of script name).rest
+      (native_of script name).result name s c.position o) s c
   by_read None s c = refl
   by_read (Some values) s c = refl
 
   as_guest : (s : State) (position : ℕ) (o : Option (List ℤ))
-      → called_for script (native_of script name).forms (native_of script name).rest (native_of script name).result name s position o
+      → called_for script (native_of script name).forms (native_of script name).rest
+      (native_of script name).result name s position o
       ≡ called_for script guest.forms.now guest.rest guest.result name s position o
   as_guest s position o =
-      ap (λ forms. called_for script forms (native_of script name).rest (native_of script name).result name s position o) (sym is.forms)
-      ∙ ap (λ rest. called_for script guest.forms.now rest (native_of script name).result name s position o) (sym is.rest)
-      ∙ ap (λ result. called_for script guest.forms.now guest.rest result name s position o) (sym is.result)
+      ap (λ forms. called_for script forms (native_of script name).rest
+      (native_of script name).result name s position o) (sym is.forms)
+      ∙ ap (λ rest. called_for script guest.forms.now rest
+      (native_of script name).result name s position o) (sym is.rest)
+      ∙ ap (λ result. called_for script guest.forms.now guest.rest result name s position o)
+      (sym is.result)
 
   -- a call by what the script says of the name
   pub asked_is : (p : Place) (before : List Shown) (called : Called ℕ)
-      → called_of script guest.forms.now guest.rest guest.result name p.machine.state p.position ≡ called
-      → call_by script name p before ≡ answered called p.machine.state (placed p.machine.state p.position before)
+      → called_of script guest.forms.now guest.rest guest.result name p.machine.state p.position
+      ≡ called
+      → call_by script name p before
+      ≡ answered called p.machine.state (placed p.machine.state p.position before)
   asked_is p before called e =
       let s = p.machine.state in
       by_read (arguments s) s (placed s p.position before)
-      ∙ ap (λ it. answered it s (placed s p.position before)) (as_guest s p.position (arguments s) ∙ e)
+      ∙ ap (λ it. answered it s (placed s p.position before))
+      (as_guest s p.position (arguments s) ∙ e)

@@ -1,5 +1,7 @@
 -- A session from event to event: it goes on, or the event was the last one.
-use Rattle.std.proofs.Common.{◌≡◌, ◌+◌, ◌-◌, ◌<◌, ◌≤◌, ℕ, suc, ℤ, Bool, true, false, List, [], ◌++◌, Option, None, Some, Ok, Err, refl, sym, ap, subst, ◌∙◌, append-nil, append_assoc, arith}
+use Rattle.std.proofs.Common.{◌≡◌, ◌+◌, ◌-◌, ◌<◌, ◌≤◌, ℕ, suc, ℤ, Bool, true, false, List, [], ◌++◌}
+use Rattle.std.proofs.Common.{Option, None, Some, Ok, Err, refl, sym, ap, subst, ◌∙◌, append-nil}
+use Rattle.std.proofs.Common.{append_assoc, arith}
 use Rattle.std.proofs.lemmas.Grind.{flat_map-append}
 use Rattle.pawn_outside.specs.Said.{Said}
 use Rattle.pawn_outside.specs.Taken.{with_more, WroteFront}
@@ -39,7 +41,8 @@ behind go Steps k so_far c = segment go k so_far c
 behind go Asleep k so_far c = record { stop = Asleep; config = c; steps = so_far }
 behind go (Over_by e) k so_far c = record { stop = Over_by e; config = c; steps = so_far }
 
-one_move : (go : Config → Moved Config End) (stop : Stop End) (k so_far : ℕ) (c d : Config) → go c ≡ made_by stop d
+one_move : (go : Config → Moved Config End) (stop : Stop End) (k so_far : ℕ) (c d : Config)
+    → go c ≡ made_by stop d
     → segment go (suc k) so_far c ≡ behind go stop k (so_far + 1) d
 one_move go Steps k so_far c d e = segment-goes go k so_far c d e
 one_move go Asleep k so_far c d e = segment-sleeps go k so_far c d e
@@ -52,18 +55,25 @@ at_once go Asleep so_far c = refl
 at_once go (Over_by e) so_far c = refl
 
 -- what was shown comes first
-text_grows : (go : Config → Moved Config End) (grows : (c : Config) → Grows c.events (config_of (go c)).events) (stop : Stop End) (k so_far : ℕ) (c : Config)
-    → (more : List ℕ) × (text_of (behind go stop k so_far c) ≡ (lines_of c.events ++ stop_text stop) ++ more)
+text_grows : (go : Config → Moved Config End)
+    (grows : (c : Config) → Grows c.events (config_of (go c)).events) (stop : Stop End)
+    (k so_far : ℕ) (c : Config)
+    → (more : List ℕ) × (text_of (behind go stop k so_far c)
+    ≡ (lines_of c.events ++ stop_text stop) ++ more)
 text_grows go grows Steps k so_far c =
     let rest = segment_grows go grows k so_far c in (
       lines_of rest.0 ++ stop_text (segment go k so_far c).stop,
       ap (λ events. lines_of events ++ stop_text (segment go k so_far c).stop) rest.1
-          ∙ ap (λ text. text ++ stop_text (segment go k so_far c).stop) (flat_map-append event_text c.events rest.0)
-          ∙ append_assoc (lines_of c.events) (lines_of rest.0) (stop_text (segment go k so_far c).stop)
-          ∙ ap (λ text. text ++ (lines_of rest.0 ++ stop_text (segment go k so_far c).stop)) (sym (append-nil (lines_of c.events))),
+          ∙ ap (λ text. text ++ stop_text (segment go k so_far c).stop)
+          (flat_map-append event_text c.events rest.0)
+          ∙ append_assoc (lines_of c.events) (lines_of rest.0)
+          (stop_text (segment go k so_far c).stop)
+          ∙ ap (λ text. text ++ (lines_of rest.0 ++ stop_text (segment go k so_far c).stop))
+          (sym (append-nil (lines_of c.events))),
     )
 text_grows go grows Asleep k so_far c = ([], sym (append-nil (lines_of c.events ++ [])))
-text_grows go grows (Over_by e) k so_far c = ([], sym (append-nil (lines_of c.events ++ stop_text (Over_by e))))
+text_grows go grows (Over_by e) k so_far c =
+    ([], sym (append-nil (lines_of c.events ++ stop_text (Over_by e))))
 
 -- ---- the move behind an event
 
@@ -73,7 +83,8 @@ IsStep (event.Native number) = Unit {0}
 IsStep (event.Halt code pri alt) = Unit {0}
 IsStep (event.Error code) = Unit {0}
 
-pub steps_if : (e : Event) (given : Option SessionEnd) (g : SessionEnd) → (e ≡ event.Going → given ≡ None) → given ≡ Some g → IsStep e
+pub steps_if : (e : Event) (given : Option SessionEnd) (g : SessionEnd)
+    → (e ≡ event.Going → given ≡ None) → given ≡ Some g → IsStep e
 steps_if event.Going given g h is = absurd (cc (h refl, is))
 steps_if (event.Native number) given g h is = tt
 steps_if (event.Halt code pri alt) given g h is = tt
@@ -81,36 +92,47 @@ steps_if (event.Error code) given g h is = tt
 
 module _ (amx : Amx) (script : Script) where
   answered_any : (called : Called ℕ) (s mid : State) (position : ℕ) (events : List Shown)
-      → moves.answered called s (placed mid position events) ≡ moves.answered called s (placed s position events)
+      → moves.answered called s (placed mid position events)
+      ≡ moves.answered called s (placed s position events)
   answered_any (Ends_there trap at) s mid position events = refl
   answered_any (Answers it result at puts) s mid position events = refl
 
-  asked_any : (name : List ℕ) (o : Option (List ℤ)) (s mid : State) (position : ℕ) (events : List Shown)
-      → moves.asked script name o s (placed mid position events) ≡ moves.asked script name o s (placed s position events)
+  asked_any : (name : List ℕ) (o : Option (List ℤ)) (s mid : State) (position : ℕ)
+      (events : List Shown)
+      → moves.asked script name o s (placed mid position events)
+      ≡ moves.asked script name o s (placed s position events)
   asked_any name None s mid position events = refl
-  asked_any name (Some values) s mid position events = answered_any (native_call script (moves.look s) name values position) s mid position events
+  asked_any name (Some values) s mid position events =
+      answered_any (native_call script (moves.look s) name values position) s mid position events
 
   halted_any : (v : ℤ) (a b d : Bool) (s mid : State) (position : ℕ) (events : List Shown)
-      → moves.halted_by v a b d s (placed mid position events) ≡ moves.halted_by v a b d s (placed s position events)
+      → moves.halted_by v a b d s (placed mid position events)
+      ≡ moves.halted_by v a b d s (placed s position events)
   halted_any v true b d s mid position events = refl
   halted_any v false true d s mid position events = refl
   halted_any v false false true s mid position events = refl
   halted_any v false false false s mid position events = refl
 
   -- from the state before it or the one behind it
-  move_is : (e : Event) (bound : ℕ) (mid : State) (passed count : ℕ) (s : State) (position : ℕ) (events : List Shown) → IsStep e
+  move_is : (e : Event) (bound : ℕ) (mid : State) (passed count : ℕ) (s : State) (position : ℕ)
+      (events : List Shown) → IsStep e
       → IsLast e amx bound mid passed count s
-      → move amx script (placed mid position events) ≡ moved amx script (placed s position events) (turned_by e s)
+      → move amx script (placed mid position events)
+      ≡ moved amx script (placed s position events) (turned_by e s)
   move_is event.Going bound mid passed count s position events h last = absurd h
   move_is (event.Native number) bound mid passed count s position events h last =
-      ap (moved amx script (placed mid position events)) last.2 ∙ asked_any (moves.name_of amx.natives number) (arguments s) s mid position events
+      ap (moved amx script (placed mid position events)) last.2
+      ∙ asked_any (moves.name_of amx.natives number) (arguments s) s mid position events
   move_is (event.Halt code pri alt) bound mid passed count s position events h last =
       ap (moved amx script (placed mid position events)) last.2
-      ∙ halted_any code (is_number 0 code) (is_number 1 code) (is_number 12 code) s mid position events
+      ∙ halted_any code (is_number 0 code) (is_number 1 code)
+      (is_number 12 code) s mid position events
   move_is (event.Error code) bound mid passed count s position events h last =
-      ap (moved amx script (placed mid position events)) last.2 ∙ ap (λ x. moved amx script (placed x position events) (Errs code)) (sym last.3)
+      ap (moved amx script (placed mid position events)) last.2
+      ∙ ap (λ x. moved amx script (placed x position events) (Errs code)) (sym last.3)
 
-counted : (e : Event) (amx : Amx) (bound : ℕ) (mid : State) (passed count : ℕ) (s : State) → IsStep e → IsLast e amx bound mid passed count s → (count ≡ passed + 1) × (passed < bound)
+counted : (e : Event) (amx : Amx) (bound : ℕ) (mid : State) (passed count : ℕ) (s : State)
+    → IsStep e → IsLast e amx bound mid passed count s → (count ≡ passed + 1) × (passed < bound)
 counted event.Going amx bound mid passed count s h last = absurd h
 counted (event.Native number) amx bound mid passed count s h last = (last.0, last.1)
 counted (event.Halt code pri alt) amx bound mid passed count s h last = (last.0, last.1)
@@ -121,9 +143,11 @@ place_behind m now = record { machine = m; position = now.position }
 
 -- ---- the segment, up to the event and behind it
 
-module _ {S : Type 0} (taken : S → Option (List ℕ)) (faults : S → ℕ) (has_room : S → ℕ → Type 0) (begun mid out : S)
+module _ {S : Type 0} (taken : S → Option (List ℕ)) (faults : S → ℕ) (has_room : S → ℕ → Type 0)
+    (begun mid out : S)
     (script : Script) (old now new : Place) (bound done count : ℕ) (e : Event) (m : Machine)
-    (so : SoFar script old bound done now (λ text. Said taken faults has_room begun mid text (Ok tt)))
+    (so : SoFar script old bound done now
+    (λ text. Said taken faults has_room begun mid text (Ok tt)))
     (r : Reached (bound - done) now.machine count e m) (within_bound : done < bound) where
   abbrev go : Config → Moved Config End
   go = move old.machine.amx script
@@ -131,35 +155,49 @@ module _ {S : Type 0} (taken : S → Option (List ℕ)) (faults : S → ℕ) (ha
   abbrev before : ℕ
   before = done + r.passed
 
-  up_to : (k : ℕ) → segment_of script old (before + k) ≡ segment go k before (placed r.mid now.position so.shown)
+  up_to : (k : ℕ) → segment_of script old (before + k)
+      ≡ segment go k before (placed r.mid now.position so.shown)
   up_to k =
       let n : (done + r.passed) + k ≡ done + (r.passed + k) = omega arith in
       ap (segment_of script old) n ∙ so.leads (r.passed + k)
-      ∙ subst (λ amx. segment (move amx script) (r.passed + k) done (placed now.machine.state now.position so.shown) ≡ segment (move amx script) k before (placed r.mid now.position so.shown))
+      ∙ subst (λ amx. segment (move amx script) (r.passed + k) done
+      (placed now.machine.state now.position so.shown)
+      ≡ segment (move amx script) k before (placed r.mid now.position so.shown))
       so.file (r.leads script k done now.position so.shown)
 
   module _ (given : Option SessionEnd) (file : new.machine.amx ≡ m.amx)
-      (ad : Advanced (move_by m.amx script e (place_behind m now)) new given (λ text. Said taken faults has_room mid out text (told_of given))) where
+      (ad : Advanced (move_by m.amx script e (place_behind m now)) new given
+      (λ text. Said taken faults has_room mid out text (told_of given))) where
     abbrev at_end : Config
     at_end = placed new.machine.state new.position (so.shown ++ ad.shown)
 
     module _ (steps : IsStep e) where
       last_move : go (placed r.mid now.position so.shown) ≡ made_by ad.stop at_end
       last_move =
-          subst (λ amx. move amx script (placed r.mid now.position so.shown) ≡ made_by ad.stop at_end) (r.file ∙ so.file)
-          (subst (λ amx. move amx script (placed r.mid now.position so.shown) ≡ moved m.amx script (placed m.state now.position so.shown) (turned_by e m.state)) (sym r.file)
-          (move_is now.machine.amx script e (bound - done) r.mid r.passed count m.state now.position so.shown steps r.last
-          ∙ ap (λ amx. moved amx script (placed m.state now.position so.shown) (turned_by e m.state)) (sym r.file))
+          subst (λ amx. move amx script (placed r.mid now.position so.shown)
+          ≡ made_by ad.stop at_end) (r.file ∙ so.file)
+          (subst (λ amx. move amx script (placed r.mid now.position so.shown)
+          ≡ moved m.amx script (placed m.state now.position so.shown) (turned_by e m.state))
+          (sym r.file)
+          (move_is now.machine.amx script e (bound - done) r.mid r.passed count m.state now.position
+          so.shown steps r.last
+          ∙ ap (λ amx. moved amx script (placed m.state now.position so.shown)
+          (turned_by e m.state)) (sym r.file))
           ∙ ad.moved so.shown)
 
-      from_there : (k : ℕ) → segment_of script old (before + suc k) ≡ behind go ad.stop k (before + 1) at_end
-      from_there k = up_to (suc k) ∙ one_move go ad.stop k before (placed r.mid now.position so.shown) at_end last_move
+      from_there : (k : ℕ) → segment_of script old (before + suc k)
+          ≡ behind go ad.stop k (before + 1) at_end
+      from_there k =
+          up_to (suc k) ∙ one_move go ad.stop k before
+          (placed r.mid now.position so.shown) at_end last_move
 
       count_is : count ≡ r.passed + 1
-      count_is = (counted e now.machine.amx (bound - done) r.mid r.passed count m.state steps r.last).0
+      count_is =
+          (counted e now.machine.amx (bound - done) r.mid r.passed count m.state steps r.last).0
 
       passed_is : r.passed < bound - done
-      passed_is = (counted e now.machine.amx (bound - done) r.mid r.passed count m.state steps r.last).1
+      passed_is =
+          (counted e now.machine.amx (bound - done) r.mid r.passed count m.state steps r.last).1
 
       is_within : done + count ≤ bound
       is_within = omega (arith, count_is, passed_is)
@@ -168,7 +206,8 @@ module _ {S : Type 0} (taken : S → Option (List ℕ)) (faults : S → ℕ) (ha
       total = omega (arith, count_is)
 
       -- the segment of so many steps
-      so_many : segment_of script old (done + count) ≡ record { stop = ad.stop; config = at_end; steps = done + count }
+      so_many : segment_of script old (done + count)
+          ≡ record { stop = ad.stop; config = at_end; steps = done + count }
       so_many =
           let n : done + count ≡ before + suc 0 = omega (arith, count_is) in
           ap (segment_of script old) n ∙ from_there 0 ∙ at_once go ad.stop (before + 1) at_end
@@ -178,10 +217,14 @@ module _ {S : Type 0} (taken : S → Option (List ℕ)) (faults : S → ℕ) (ha
       all_of = omega (arith, passed_is)
 
       -- that of the bound
-      whole : segment_of script old bound ≡ behind go ad.stop (bound - (before + 1)) (done + count) at_end
-      whole = ap (segment_of script old) all_of ∙ from_there (bound - (before + 1)) ∙ ap (λ i. behind go ad.stop (bound - (before + 1)) i at_end) total
+      whole : segment_of script old bound
+          ≡ behind go ad.stop (bound - (before + 1)) (done + count) at_end
+      whole =
+          ap (segment_of script old) all_of ∙ from_there (bound - (before + 1))
+          ∙ ap (λ i. behind go ad.stop (bound - (before + 1)) i at_end) total
 
-      stands_by : (n : ℕ) → segment_of script old n ≡ record { stop = ad.stop; config = at_end; steps = done + count }
+      stands_by : (n : ℕ) → segment_of script old n
+          ≡ record { stop = ad.stop; config = at_end; steps = done + count }
           → Stands old (segment_of script old n) (done + count) new
       stands_by n is = record {
         file = file ∙ r.file ∙ so.file;
@@ -189,10 +232,13 @@ module _ {S : Type 0} (taken : S → Option (List ℕ)) (faults : S → ℕ) (ha
         position = sym (ap (λ it. it.config.position) is);
         steps = sym (ap (λ it. it.steps) is);
         still = λ none. absurd (omega (arith, none, count_is));
-        mode = λ some. subst (λ stop. IsLeft stop new.machine.mode) (sym (ap (λ it. it.stop) is)) ad.mode;
+        mode =
+            λ some. subst (λ stop. IsLeft stop new.machine.mode)
+            (sym (ap (λ it. it.stop) is)) ad.mode;
       }
 
-      text_then : lines_of (so.shown ++ ad.shown) ++ stop_text ad.stop ≡ lines_of so.shown ++ (lines_of ad.shown ++ stop_text ad.stop)
+      text_then : lines_of (so.shown ++ ad.shown) ++ stop_text ad.stop
+          ≡ lines_of so.shown ++ (lines_of ad.shown ++ stop_text ad.stop)
       text_then =
           ap (λ text. text ++ stop_text ad.stop) (flat_map-append event_text so.shown ad.shown)
           ∙ append_assoc (lines_of so.shown) (lines_of ad.shown) (stop_text ad.stop)
@@ -204,20 +250,30 @@ module _ {S : Type 0} (taken : S → Option (List ℕ)) (faults : S → ℕ) (ha
           ∙ ap text_of (up_to 0 ∙ segment-zero go before (placed r.mid now.position so.shown))
           ∙ append-nil (lines_of so.shown)
 
-      text_behind : text_of (segment_of script old (done + count)) ≡ text_of (segment_of script old before) ++ (lines_of ad.shown ++ stop_text ad.stop)
-      text_behind = ap text_of so_many ∙ text_then ∙ ap (λ text. text ++ (lines_of ad.shown ++ stop_text ad.stop)) (sym text_before)
+      text_behind : text_of (segment_of script old (done + count))
+          ≡ text_of (segment_of script old before) ++ (lines_of ad.shown ++ stop_text ad.stop)
+      text_behind =
+          ap text_of so_many ∙ text_then
+          ∙ ap (λ text. text ++ (lines_of ad.shown ++ stop_text ad.stop)) (sym text_before)
 
       -- more may follow it
-      text_whole : (more : List ℕ) × (text_of (segment_of script old bound) ≡ (lines_of so.shown ++ (lines_of ad.shown ++ stop_text ad.stop)) ++ more)
+      text_whole : (more : List ℕ) ×
+          (text_of (segment_of script old bound)
+          ≡ (lines_of so.shown ++ (lines_of ad.shown ++ stop_text ad.stop)) ++ more)
       text_whole =
-          let rest = text_grows go (move_grows old.machine.amx script) ad.stop (bound - (before + 1)) (done + count) at_end in
+          let rest =
+          text_grows go (move_grows old.machine.amx script) ad.stop (bound - (before + 1))
+          (done + count) at_end in
           (rest.0, ap text_of whole ∙ rest.1 ∙ ap (λ text. text ++ rest.0) text_then)
 
       -- it stops there
-      stopped : (ad.stop ≡ Steps → ⊥) → segment_of script old bound ≡ record { stop = ad.stop; config = at_end; steps = done + count }
+      stopped : (ad.stop ≡ Steps → ⊥)
+          → segment_of script old bound ≡ record
+          { stop = ad.stop; config = at_end; steps = done + count }
       stopped goes = whole ∙ by ad.stop goes where
         by : (stop : Stop End) → (stop ≡ Steps → ⊥)
-            → behind go stop (bound - (before + 1)) (done + count) at_end ≡ record { stop = stop; config = at_end; steps = done + count }
+            → behind go stop (bound - (before + 1)) (done + count) at_end
+            ≡ record { stop = stop; config = at_end; steps = done + count }
         by Steps h = absurd (h refl)
         by Asleep h = refl
         by (Over_by x) h = refl
@@ -231,17 +287,23 @@ module _ {S : Type 0} (taken : S → Option (List ℕ)) (faults : S → ℕ) (ha
       lines : Said taken faults has_room begun out (lines_of (so.shown ++ ad.shown)) (Ok tt)
       lines =
           let none : lines_of ad.shown ++ stop_text ad.stop ≡ lines_of ad.shown =
-          ap (λ stop. lines_of ad.shown ++ stop_text stop) stop_is ∙ append-nil (lines_of ad.shown) in
-          let more : Said taken faults has_room mid out (lines_of ad.shown ++ stop_text ad.stop) (Ok tt) =
-          subst (λ it. Said taken faults has_room mid out (lines_of ad.shown ++ stop_text ad.stop) (told_of it)) on ad.said in
-          said_as (sym (flat_map-append event_text so.shown ad.shown)) (said_then so.said (said_as none more))
+          ap (λ stop. lines_of ad.shown ++ stop_text stop) stop_is
+          ∙ append-nil (lines_of ad.shown) in
+          let more : Said taken faults has_room mid out (lines_of ad.shown ++ stop_text ad.stop)
+          (Ok tt) =
+          subst (λ it. Said taken faults has_room mid out (lines_of ad.shown ++ stop_text ad.stop)
+          (told_of it)) on ad.said in
+          said_as (sym (flat_map-append event_text so.shown ad.shown))
+          (said_then so.said (said_as none more))
 
       runs_on : new.machine.mode ≡ mode.Running
       runs_on = subst (λ stop. IsLeft stop new.machine.mode) stop_is ad.mode
 
       by_leads : done + count ≤ bound → 1 ≤ count
-          → ((k : ℕ) → segment_of script old ((done + count) + k) ≡ segment go k (done + count) at_end)
-          → SoFar script old bound (done + count) new (λ text. Said taken faults has_room begun out text (Ok tt))
+          → ((k : ℕ) → segment_of script old ((done + count) + k)
+          ≡ segment go k (done + count) at_end)
+          → SoFar script old bound (done + count) new
+          (λ text. Said taken faults has_room begun out text (Ok tt))
       by_leads within some leads = record {
         within = within;
         file = file ∙ r.file ∙ so.file;
@@ -253,20 +315,25 @@ module _ {S : Type 0} (taken : S → Option (List ℕ)) (faults : S → ℕ) (ha
         leads = leads;
       }
 
-      by_step : IsStep e → SoFar script old bound (done + count) new (λ text. Said taken faults has_room begun out text (Ok tt))
+      by_step : IsStep e → SoFar script old bound (done + count) new
+          (λ text. Said taken faults has_room begun out text (Ok tt))
       by_step steps =
           by_leads (is_within steps) (omega (arith, count_is steps))
           (λ k.
           let n : (done + count) + k ≡ before + suc k = omega (arith, count_is steps) in
-          ap (segment_of script old) n ∙ from_there steps k ∙ ap (λ stop. behind go stop k (before + 1) at_end) stop_is
+          ap (segment_of script old) n ∙ from_there steps k
+          ∙ ap (λ stop. behind go stop k (before + 1) at_end) stop_is
           ∙ ap (λ i. segment go k i at_end) (total steps))
 
       -- all of the bound was done without an event
       by_going : (count ≡ r.passed) × (r.passed ≡ bound - done) × (m.state ≡ r.mid)
-          → ((events : List Shown) → run.Goes (placed m.state now.position events) ≡ made_by ad.stop (placed new.machine.state new.position (events ++ ad.shown)))
-          → SoFar script old bound (done + count) new (λ text. Said taken faults has_room begun out text (Ok tt))
+          → ((events : List Shown) → run.Goes (placed m.state now.position events)
+          ≡ made_by ad.stop (placed new.machine.state new.position (events ++ ad.shown)))
+          → SoFar script old bound (done + count) new
+          (λ text. Said taken faults has_room begun out text (Ok tt))
       by_going last moves =
-          by_leads (omega (arith, last.0, last.1, within_bound)) (omega (arith, last.0, last.1, within_bound))
+          by_leads (omega (arith, last.0, last.1, within_bound))
+          (omega (arith, last.0, last.1, within_bound))
           (λ k.
           let n : (done + count) + k ≡ before + k = omega (arith, last.0) in
           let t : before ≡ done + count = omega (arith, last.0) in
@@ -283,17 +350,23 @@ module _ {S : Type 0} (taken : S → Option (List ℕ)) (faults : S → ℕ) (ha
       gives = subst (IsGiven ad.stop new.machine.state) on ad.gives
 
       told_so : Said taken faults has_room mid out (lines_of ad.shown ++ stop_text ad.stop) (told g)
-      told_so = subst (λ it. Said taken faults has_room mid out (lines_of ad.shown ++ stop_text ad.stop) (told_of it)) on ad.said
+      told_so =
+          subst (λ it. Said taken faults has_room mid out (lines_of ad.shown ++ stop_text ad.stop)
+          (told_of it)) on ad.said
 
-      concludes : (ad.stop ≡ Steps → ⊥) → IsAnswer (record { stop = ad.stop; config = at_end; steps = done + count }) g
+      concludes : (ad.stop ≡ Steps → ⊥)
+          → IsAnswer (record { stop = ad.stop; config = at_end; steps = done + count }) g
           → Concludes (segment_of script old) bound old (done + count) g new
       concludes goes is = record {
         answer = subst (λ made. IsAnswer made g) (sym (stopped steps goes)) is;
         stands = stands_by steps bound (stopped steps goes);
       }
 
-      all_said : (ad.stop ≡ Steps → ⊥) → Said taken faults has_room begun out (text_of (segment_of script old bound)) (told g)
-      all_said goes = said_as (sym (ap text_of (stopped steps goes) ∙ text_then steps)) (said_then so.said told_so)
+      all_said : (ad.stop ≡ Steps → ⊥)
+          → Said taken faults has_room begun out (text_of (segment_of script old bound)) (told g)
+      all_said goes =
+          said_as (sym (ap text_of (stopped steps goes) ∙ text_then steps))
+          (said_then so.said told_so)
 
     not_steps : (stop : Stop End) (x : End) → stop ≡ Over_by x → stop ≡ Steps → ⊥
     not_steps stop x e f = absurd (cc (e, f))
@@ -317,13 +390,17 @@ module _ {S : Type 0} (taken : S → Option (List ℕ)) (faults : S → ℕ) (ha
     pub session_ends : (g : SessionEnd) → given ≡ Some g → IsStep e
         → Sessions (segment_of script old) (taken begun) (taken out) bound old (done + count) g new
     session_ends (answer.Done value) on steps =
-        let is = gives (answer.Done value) on steps in concludes (answer.Done value) on steps (not_steps ad.stop _ is) is
+        let is = gives (answer.Done value) on steps in
+        concludes (answer.Done value) on steps (not_steps ad.stop _ is) is
     session_ends (answer.Exit value tag) on steps =
-        let is = gives (answer.Exit value tag) on steps in concludes (answer.Exit value tag) on steps (not_steps ad.stop _ is) is
+        let is = gives (answer.Exit value tag) on steps in
+        concludes (answer.Exit value tag) on steps (not_steps ad.stop _ is) is
     session_ends (answer.Error code) on steps =
-        let is = gives (answer.Error code) on steps in concludes (answer.Error code) on steps (not_steps ad.stop _ is) is
+        let is = gives (answer.Error code) on steps in
+        concludes (answer.Error code) on steps (not_steps ad.stop _ is) is
     session_ends (answer.Asleep value tag) on steps =
-        let is = gives (answer.Asleep value tag) on steps in concludes (answer.Asleep value tag) on steps (not_awake ad.stop is.0) is
+        let is = gives (answer.Asleep value tag) on steps in
+        concludes (answer.Asleep value tag) on steps (not_awake ad.stop is.0) is
     session_ends answer.Steps on steps = absurd (gives answer.Steps on steps)
     session_ends answer.SinkFault on steps = record {
       within = is_within steps;
@@ -333,26 +410,45 @@ module _ {S : Type 0} (taken : S → Option (List ℕ)) (faults : S → ℕ) (ha
 
     pub text_ends : (g : SessionEnd) → given ≡ Some g → IsStep e
         → Said taken faults has_room begun out (text_of (segment_of script old bound)) (told g)
-    text_ends (answer.Done value) on steps = all_said (answer.Done value) on steps (not_steps ad.stop _ (gives (answer.Done value) on steps))
-    text_ends (answer.Exit value tag) on steps = all_said (answer.Exit value tag) on steps (not_steps ad.stop _ (gives (answer.Exit value tag) on steps))
-    text_ends (answer.Error code) on steps = all_said (answer.Error code) on steps (not_steps ad.stop _ (gives (answer.Error code) on steps))
-    text_ends (answer.Asleep value tag) on steps = all_said (answer.Asleep value tag) on steps (not_awake ad.stop (gives (answer.Asleep value tag) on steps).0)
+    text_ends (answer.Done value) on steps =
+        all_said (answer.Done value) on steps
+        (not_steps ad.stop _ (gives (answer.Done value) on steps))
+    text_ends (answer.Exit value tag) on steps =
+        all_said (answer.Exit value tag) on steps
+        (not_steps ad.stop _ (gives (answer.Exit value tag) on steps))
+    text_ends (answer.Error code) on steps =
+        all_said (answer.Error code) on steps
+        (not_steps ad.stop _ (gives (answer.Error code) on steps))
+    text_ends (answer.Asleep value tag) on steps =
+        all_said (answer.Asleep value tag) on steps
+        (not_awake ad.stop (gives (answer.Asleep value tag) on steps).0)
     text_ends answer.Steps on steps = absurd (gives answer.Steps on steps)
     text_ends answer.SinkFault on steps =
         let more = text_whole steps in
-        said_as (sym more.1) (said_cut more.0 (Err (record {})) refl (said_then so.said (told_so answer.SinkFault on steps)))
+        said_as (sym more.1) (said_cut more.0 (Err (record {})) refl
+        (said_then so.said (told_so answer.SinkFault on steps)))
 
 -- ---- all steps are done
 
-module _ {S : Type 0} (taken : S → Option (List ℕ)) (faults : S → ℕ) (has_room : S → ℕ → Type 0) (begun out : S)
+module _ {S : Type 0} (taken : S → Option (List ℕ)) (faults : S → ℕ) (has_room : S → ℕ → Type 0)
+    (begun out : S)
     (script : Script) (old now : Place) (bound done : ℕ)
-    (so : SoFar script old bound done now (λ text. Said taken faults has_room begun out text (Ok tt))) (all : bound ≤ done) where
-  all_done : segment_of script old bound ≡ record { stop = Steps; config = placed now.machine.state now.position so.shown; steps = done }
+    (so : SoFar script old bound done now
+    (λ text. Said taken faults has_room begun out text (Ok tt))) (all : bound ≤ done) where
+  all_done : segment_of script old bound
+      ≡ record {
+        stop = Steps;
+        config = placed now.machine.state now.position so.shown;
+        steps = done;
+      }
   all_done =
       let n : bound ≡ done + 0 = omega (arith, so.within, all) in
-      ap (segment_of script old) n ∙ so.leads 0 ∙ segment-zero (move old.machine.amx script) done (placed now.machine.state now.position so.shown)
+      ap (segment_of script old) n ∙ so.leads 0
+      ∙ segment-zero (move old.machine.amx script) done
+      (placed now.machine.state now.position so.shown)
 
-  pub session_done : Sessions (segment_of script old) (taken begun) (taken out) bound old done answer.Steps now
+  pub session_done : Sessions (segment_of script old) (taken begun)
+      (taken out) bound old done answer.Steps now
   session_done = record {
     answer = ap (λ it. it.stop) all_done;
     stands = record {
@@ -361,17 +457,22 @@ module _ {S : Type 0} (taken : S → Option (List ℕ)) (faults : S → ℕ) (ha
       position = sym (ap (λ it. it.config.position) all_done);
       steps = sym (ap (λ it. it.steps) all_done);
       still = so.still;
-      mode = λ some. subst (λ stop. IsLeft stop now.machine.mode) (sym (ap (λ it. it.stop) all_done)) (so.running some);
+      mode =
+          λ some. subst (λ stop. IsLeft stop now.machine.mode) (sym (ap (λ it. it.stop) all_done))
+          (so.running some);
     };
   }
 
-  pub text_done : Said taken faults has_room begun out (text_of (segment_of script old bound)) (told answer.Steps)
+  pub text_done : Said taken faults has_room begun out (text_of (segment_of script old bound))
+      (told answer.Steps)
   text_done = said_as (sym (ap text_of all_done ∙ append-nil (lines_of so.shown))) so.said
 
 -- ---- nothing is done
 
-pub at_start : {S : Type 0} (taken : S → Option (List ℕ)) (faults : S → ℕ) (has_room : S → ℕ → Type 0) (out : S) (script : Script) (old : Place) (bound : ℕ)
-    → IsAwake old.machine.mode → SoFar script old bound 0 old (λ text. Said taken faults has_room out out text (Ok tt))
+pub at_start : {S : Type 0} (taken : S → Option (List ℕ)) (faults : S → ℕ)
+    (has_room : S → ℕ → Type 0) (out : S) (script : Script) (old : Place) (bound : ℕ)
+    → IsAwake old.machine.mode → SoFar script old bound 0 old
+    (λ text. Said taken faults has_room out out text (Ok tt))
 at_start taken faults has_room out script old bound awake = record {
   within = omega arith;
   file = refl;
@@ -386,25 +487,43 @@ at_start taken faults has_room out script old bound awake = record {
 -- ---- from event to event
 
 -- so many steps were counted, within the bound
-pub counts : (e : Event) (amx : Amx) (bound : ℕ) (mid : State) (passed count : ℕ) (s : State) → 1 ≤ bound → IsLast e amx bound mid passed count s
+pub counts : (e : Event) (amx : Amx) (bound : ℕ) (mid : State) (passed count : ℕ) (s : State)
+    → 1 ≤ bound → IsLast e amx bound mid passed count s
     → (1 ≤ count) × (count ≤ bound)
-counts event.Going amx bound mid passed count s some last = (omega (arith, some, last.0, last.1), omega (arith, last.0, last.1))
-counts (event.Native number) amx bound mid passed count s some last = (omega (arith, last.0), omega (arith, last.0, last.1))
-counts (event.Halt code pri alt) amx bound mid passed count s some last = (omega (arith, last.0), omega (arith, last.0, last.1))
-counts (event.Error code) amx bound mid passed count s some last = (omega (arith, last.0), omega (arith, last.0, last.1))
+counts event.Going amx bound mid passed count s some last =
+    (omega (arith, some, last.0, last.1), omega (arith, last.0, last.1))
+counts (event.Native number) amx bound mid passed count s some last =
+    (omega (arith, last.0), omega (arith, last.0, last.1))
+counts (event.Halt code pri alt) amx bound mid passed count s some last =
+    (omega (arith, last.0), omega (arith, last.0, last.1))
+counts (event.Error code) amx bound mid passed count s some last =
+    (omega (arith, last.0), omega (arith, last.0, last.1))
 
 -- behind an event that didn't end it
-pub session_goes : {S : Type 0} (taken : S → Option (List ℕ)) (faults : S → ℕ) (has_room : S → ℕ → Type 0) (begun mid out : S)
+pub session_goes : {S : Type 0} (taken : S → Option (List ℕ)) (faults : S → ℕ)
+    (has_room : S → ℕ → Type 0) (begun mid out : S)
     (script : Script) (old now new : Place) (bound done count : ℕ) (e : Event) (m : Machine)
-    (so : SoFar script old bound done now (λ text. Said taken faults has_room begun mid text (Ok tt)))
-    (r : Reached (bound - done) now.machine count e m) (within_bound : done < bound) (given : Option SessionEnd) (file : new.machine.amx ≡ m.amx)
-    (ad : Advanced (move_by m.amx script e (place_behind m now)) new given (λ text. Said taken faults has_room mid out text (told_of given)))
-    → given ≡ None → SoFar script old bound (done + count) new (λ text. Said taken faults has_room begun out text (Ok tt))
-session_goes taken faults has_room begun mid out script old now new bound done count event.Going m so r within_bound given file ad on =
-    by_going taken faults has_room begun mid out script old now new bound done count event.Going m so r within_bound given file ad on r.last ad.moved
-session_goes taken faults has_room begun mid out script old now new bound done count (event.Native number) m so r within_bound given file ad on =
-    by_step taken faults has_room begun mid out script old now new bound done count (event.Native number) m so r within_bound given file ad on tt
-session_goes taken faults has_room begun mid out script old now new bound done count (event.Halt code pri alt) m so r within_bound given file ad on =
-    by_step taken faults has_room begun mid out script old now new bound done count (event.Halt code pri alt) m so r within_bound given file ad on tt
-session_goes taken faults has_room begun mid out script old now new bound done count (event.Error code) m so r within_bound given file ad on =
-    by_step taken faults has_room begun mid out script old now new bound done count (event.Error code) m so r within_bound given file ad on tt
+    (so : SoFar script old bound done now
+    (λ text. Said taken faults has_room begun mid text (Ok tt)))
+    (r : Reached (bound - done) now.machine count e m) (within_bound : done < bound)
+    (given : Option SessionEnd) (file : new.machine.amx ≡ m.amx)
+    (ad : Advanced (move_by m.amx script e (place_behind m now)) new given
+    (λ text. Said taken faults has_room mid out text (told_of given)))
+    → given ≡ None → SoFar script old bound (done + count) new
+    (λ text. Said taken faults has_room begun out text (Ok tt))
+session_goes taken faults has_room begun mid out script old now new bound done count event.Going m
+    so r within_bound given file ad on =
+    by_going taken faults has_room begun mid out script old now new bound done count event.Going m
+    so r within_bound given file ad on r.last ad.moved
+session_goes taken faults has_room begun mid out script old now new bound done count
+    (event.Native number) m so r within_bound given file ad on =
+    by_step taken faults has_room begun mid out script old now new bound done count
+    (event.Native number) m so r within_bound given file ad on tt
+session_goes taken faults has_room begun mid out script old now new bound done count
+    (event.Halt code pri alt) m so r within_bound given file ad on =
+    by_step taken faults has_room begun mid out script old now new bound done count
+    (event.Halt code pri alt) m so r within_bound given file ad on tt
+session_goes taken faults has_room begun mid out script old now new bound done count
+    (event.Error code) m so r within_bound given file ad on =
+    by_step taken faults has_room begun mid out script old now new bound done count
+    (event.Error code) m so r within_bound given file ad on tt

@@ -1,5 +1,7 @@
 -- Names of natives, each once, and their places.
-use Rattle.std.proofs.Common.{◌≡◌, ◌+◌, ◌<◌, ℕ, zero, suc, Bool, false, ◌||◌, not, cond, nat_lt, List, [], ◌∷◌, ◌++◌, Option, None, Some, length, map, take, get_or, refl, sym, ap, ap₂, ◌∙◌, arith}
+use Rattle.std.proofs.Common.{◌≡◌, ◌+◌, ◌<◌, ℕ, zero, suc, Bool, false, ◌||◌, not, cond, nat_lt}
+use Rattle.std.proofs.Common.{List, [], ◌∷◌, ◌++◌, Option, None, Some, length, map, take, get_or}
+use Rattle.std.proofs.Common.{refl, sym, ap, ap₂, ◌∙◌, arith}
 use Rattle.std.specs.Prelude.{position, is_none, nat_eq, if◌then◌else◌}
 use Rattle.std.specs.List.{IsDistinct, AllByRecursion, position_from, position_or_len}
 use Rattle.std.specs.Str.{bytes_eq}
@@ -16,22 +18,26 @@ use Rattle.host_run.specs.Bound.{names_of, entry_of, bound_of, unserved}
 pub flip : (x y : List ℕ) → bytes_eq x y ≡ bytes_eq y x
 flip x y = nat_list_eq_equiv.symm x y
 
-at_place : (P : List ℕ → Type 0) (xs : List (List ℕ)) (i : ℕ) → AllByRecursion P xs → i < length xs → P (get_or xs i [])
+at_place : (P : List ℕ → Type 0) (xs : List (List ℕ)) (i : ℕ) → AllByRecursion P xs → i < length xs
+    → P (get_or xs i [])
 at_place P [] i h k = absurd (omega (arith, k))
 at_place P (x ∷ xs) zero h k = h.0
 at_place P (x ∷ xs) (suc i) h k = at_place P xs i h.1 (omega (arith, k))
 
 -- a name isn't among those before it
-pub first_time : (names : List (List ℕ)) (i : ℕ) → IsDistinct (pointwise nat_eq) names → i < length names → is_among (get_or names i []) (take i names) ≡ false
+pub first_time : (names : List (List ℕ)) (i : ℕ) → IsDistinct (pointwise nat_eq) names
+    → i < length names → is_among (get_or names i []) (take i names) ≡ false
 unfolding IsDistinct
 first_time [] i d k = absurd (omega (arith, k))
 first_time (x ∷ xs) zero d k = refl
 first_time (x ∷ xs) (suc i) d k =
     let within : i < length xs = omega (arith, k) in
-    ap₂ (λ a b. a || b) (flip (get_or xs i []) x ∙ at_place (λ y. pointwise nat_eq x y ≡ false) xs i d.0 within) (first_time xs i d.1 within)
+    ap₂ (λ a b. a || b) (flip (get_or xs i []) x
+    ∙ at_place (λ y. pointwise nat_eq x y ≡ false) xs i d.0 within) (first_time xs i d.1 within)
 
 module _ {X : Type 0} (name_of : X → List ℕ) (name : List ℕ) where
-  passed : (xs : List X) → position_or_len (bytes_eq name) (map name_of xs) ≡ position_or_len (λ x. pointwise nat_eq (name_of x) name) xs
+  passed : (xs : List X) → position_or_len (bytes_eq name) (map name_of xs)
+      ≡ position_or_len (λ x. pointwise nat_eq (name_of x) name) xs
   passed [] = refl
   passed (x ∷ xs) = ap₂ (λ b n. cond (not b) (1 + n) 0) (flip name (name_of x)) (passed xs)
 
@@ -40,46 +46,64 @@ module _ {X : Type 0} (name_of : X → List ℕ) (name : List ℕ) where
   sized (x ∷ xs) = ap suc (sized xs)
 
   -- a name's place among the names
-  pub place_of : (xs : List X) → position (bytes_eq name) (map name_of xs) ≡ position (λ x. pointwise nat_eq (name_of x) name) xs
+  pub place_of : (xs : List X) → position (bytes_eq name) (map name_of xs)
+      ≡ position (λ x. pointwise nat_eq (name_of x) name) xs
   place_of xs = ap₂ (λ n size. cond (nat_lt n size) (Some n) None) (passed xs) (sized xs)
 
 -- ---- bound natives
 
 module _ {X Y : Type 0} (f : X → Y) (p : Y → Bool) where
-  position_from-map : (i : ℕ) (xs : List X) → position_from p i (map f xs) ≡ position_from (λ x. p (f x)) i xs
+  position_from-map : (i : ℕ) (xs : List X)
+      → position_from p i (map f xs) ≡ position_from (λ x. p (f x)) i xs
   position_from-map i [] = refl
   position_from-map i (x ∷ xs) = ap (λ o. cond (p (f x)) (Some i) o) (position_from-map (i + 1) xs)
 
 -- the first of them that isn't served, by their entries
-pub unserved_is : (script : Script) (natives : List Record) (bound : List BoundNative) (o : Option ℕ) → bound ≡ bound_of script natives
-    → o ≡ (if script.others then None else position_from (λ it. is_none it.entry) 0 bound) → unserved script natives ≡ o
+pub unserved_is : (script : Script) (natives : List Record) (bound : List BoundNative)
+    (o : Option ℕ) → bound ≡ bound_of script natives
+    → o ≡ (if script.others then None else position_from (λ it. is_none it.entry) 0 bound)
+    → unserved script natives ≡ o
 unserved_is script natives bound o is e =
-    sym (e ∙ ap (λ all. if script.others then None else position_from (λ (it : BoundNative). is_none it.entry) 0 all) is
+    sym (e ∙ ap (λ all. if script.others then None
+    else position_from (λ (it : BoundNative). is_none it.entry) 0 all) is
     ∙ ap (λ first. if script.others then None else first)
-    (position_from-map (λ (it : Record). record { name = it.name; entry = entry_of script it.name }) (λ (it : BoundNative). is_none it.entry) 0 natives))
+    (position_from-map (λ (it : Record). record { name = it.name; entry = entry_of script it.name })
+    (λ (it : BoundNative). is_none it.entry) 0 natives))
 
 -- ---- names that are added one by one
 
-not_yet : (natives : List Native) (i : ℕ) (d : Native) → IsDistinct (pointwise nat_eq) (names_of natives) → i < length natives
+not_yet : (natives : List Native) (i : ℕ) (d : Native)
+    → IsDistinct (pointwise nat_eq) (names_of natives) → i < length natives
     → is_among (get_or natives i d).name (names_of (take i natives)) ≡ false
 not_yet natives i d distinct h =
     let name_of : Native → List ℕ = λ native. native.name in
     let within : i < length (map name_of natives) = omega (arith, h, length-map natives name_of) in
-    ap₂ is_among (sym (get_or-map name_of natives i d [] h)) (sym (take-map name_of i natives)) ∙ first_time (map name_of natives) i distinct within
+    ap₂ is_among (sym (get_or-map name_of natives i d [] h)) (sym (take-map name_of i natives))
+    ∙ first_time (map name_of natives) i distinct within
 
-pub is_new : (natives : List Native) (i : ℕ) (d : Native) (name : List ℕ) (names : List (List ℕ)) → name ≡ (get_or natives i d).name
-    → names ≡ names_of (take i natives) → IsDistinct (pointwise nat_eq) (names_of natives) → i < length natives → is_among name names ≡ false
+pub is_new : (natives : List Native) (i : ℕ) (d : Native) (name : List ℕ) (names : List (List ℕ))
+    → name ≡ (get_or natives i d).name
+    → names ≡ names_of (take i natives) → IsDistinct (pointwise nat_eq) (names_of natives)
+    → i < length natives → is_among name names ≡ false
 is_new natives i d name names e n distinct h = ap₂ is_among e n ∙ not_yet natives i d distinct h
 
 -- one native more
-pub bound_next : (script : Script) (natives : List Record) (i : ℕ) (d : Record) (names : List (List ℕ)) (bound more : List BoundNative) (name : List ℕ) (native : BoundNative)
-    → more ≡ bound ++ native ∷ [] → native ≡ record { name = name; entry = position (bytes_eq name) names } → name ≡ (get_or natives i d).name
-    → names ≡ names_of script.natives → bound ≡ bound_of script (take i natives) → i < length natives
+pub bound_next : (script : Script) (natives : List Record) (i : ℕ) (d : Record)
+    (names : List (List ℕ)) (bound more : List BoundNative) (name : List ℕ) (native : BoundNative)
+    → more ≡ bound ++ native ∷ [] → native
+    ≡ record { name = name; entry = position (bytes_eq name) names }
+    → name ≡ (get_or natives i d).name
+    → names ≡ names_of script.natives → bound ≡ bound_of script (take i natives)
+    → i < length natives
     → more ≡ bound_of script (take (i + 1) natives)
 bound_next script natives i d names bound more name native pushed is n all so_far h =
-    let bound_it : Record → BoundNative = λ it. record { name = it.name; entry = entry_of script it.name } in
+    let bound_it : Record → BoundNative =
+    λ it. record { name = it.name; entry = entry_of script it.name } in
     let x = get_or natives i d in
     let entry : position (bytes_eq name) names ≡ entry_of script x.name =
-    ap₂ (λ a b. position (bytes_eq a) b) n all ∙ place_of (λ (it : Native). it.name) x.name script.natives in
-    pushed ∙ ap₂ (λ a b. a ++ b ∷ []) so_far (is ∙ ap₂ (λ a b. record { name = a; entry = b }) n entry)
-    ∙ sym (ap (map bound_it) (take_more natives i d h) ∙ map-append bound_it (take i natives) (x ∷ []))
+    ap₂ (λ a b. position (bytes_eq a) b) n all
+    ∙ place_of (λ (it : Native). it.name) x.name script.natives in
+    pushed ∙ ap₂ (λ a b. a ++ b ∷ []) so_far
+    (is ∙ ap₂ (λ a b. record { name = a; entry = b }) n entry)
+    ∙ sym (ap (map bound_it) (take_more natives i d h)
+    ∙ map-append bound_it (take i natives) (x ∷ []))

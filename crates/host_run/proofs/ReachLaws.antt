@@ -1,5 +1,6 @@
 -- Steps that a machine counted are moves of its segments.
-use Rattle.std.proofs.Common.{◌≡◌, ◌+◌, ◌<◌, ◌≤◌, ◌==◌, ℕ, zero, suc, false, List, None, refl, sym, ap, ap₂, subst, ◌∙◌, arith}
+use Rattle.std.proofs.Common.{◌≡◌, ◌+◌, ◌<◌, ◌≤◌, ◌==◌, ℕ, zero, suc, false, List, None, refl, sym}
+use Rattle.std.proofs.Common.{ap, ap₂, subst, ◌∙◌, arith}
 use Rattle.std.specs.Prelude.{if◌then◌else◌}
 use Rattle.std.proofs.lemmas.Bool.{ne_eqb}
 use Rattle.host_script.specs.declared.script.Script.{Script}
@@ -28,9 +29,12 @@ use Rattle.host_run.specs.Reached.{placed, Reached}
 -- by what the last step did
 abbrev IsLastTurn : Turn → Amx → ℕ → State → ℕ → ℕ → State → Type 0
 IsLastTurn turn.Goes amx bound mid passed count s = (count ≡ passed) × (passed ≡ bound) × (s ≡ mid)
-IsLastTurn (turn.Errs code) amx bound mid passed count s = (count ≡ passed + 1) × (passed < bound) × (step amx mid ≡ Errs code) × (s ≡ mid)
-IsLastTurn (turn.Halts code) amx bound mid passed count s = (count ≡ passed + 1) × (passed < bound) × (step amx mid ≡ Halts code s)
-IsLastTurn (turn.Asks native) amx bound mid passed count s = (count ≡ passed + 1) × (passed < bound) × (step amx mid ≡ Asks native s)
+IsLastTurn (turn.Errs code) amx bound mid passed count s =
+    (count ≡ passed + 1) × (passed < bound) × (step amx mid ≡ Errs code) × (s ≡ mid)
+IsLastTurn (turn.Halts code) amx bound mid passed count s =
+    (count ≡ passed + 1) × (passed < bound) × (step amx mid ≡ Halts code s)
+IsLastTurn (turn.Asks native) amx bound mid passed count s =
+    (count ≡ passed + 1) × (passed < bound) × (step amx mid ≡ Asks native s)
 
 record Passes (bound so_far : ℕ) (m : Core) (r : Ran) : Type 0 where
   passed : ℕ
@@ -39,32 +43,44 @@ record Passes (bound so_far : ℕ) (m : Core) (r : Ran) : Type 0 where
   steps : r.steps ≡ so_far + count
   file : r.machine.amx ≡ m.amx
   leads : (script : Script) (k so position : ℕ) (events : List Shown)
-      → segment (move m.amx script) (passed + k) so (placed m.state position events) ≡ segment (move m.amx script) k (so + passed) (placed mid position events)
+      → segment (move m.amx script) (passed + k) so (placed m.state position events)
+      ≡ segment (move m.amx script) k (so + passed) (placed mid position events)
   last : IsLastTurn r.turn m.amx bound mid passed count r.machine.state
 
 nothing : (m : Core) (script : Script) (k so position : ℕ) (events : List Shown)
-    → segment (move m.amx script) (0 + k) so (placed m.state position events) ≡ segment (move m.amx script) k (so + 0) (placed m.state position events)
+    → segment (move m.amx script) (0 + k) so (placed m.state position events)
+    ≡ segment (move m.amx script) k (so + 0) (placed m.state position events)
 nothing m script k so position events =
     let a : 0 + k ≡ k = omega arith in
     let b : so ≡ so + 0 = omega arith in
     ap₂ (λ n i. segment (move m.amx script) n i (placed m.state position events)) a b
 
-goes_on : (m : Core) (s : State) (script : Script) (k so position passed : ℕ) (mid : State) (events : List Shown) → step m.amx m.state ≡ Goes s
-    → ((k so position : ℕ) (events : List Shown) → segment (move m.amx script) (passed + k) so (placed s position events) ≡ segment (move m.amx script) k (so + passed) (placed mid position events))
-    → segment (move m.amx script) ((1 + passed) + k) so (placed m.state position events) ≡ segment (move m.amx script) k (so + (1 + passed)) (placed mid position events)
+goes_on : (m : Core) (s : State) (script : Script) (k so position passed : ℕ) (mid : State)
+    (events : List Shown) → step m.amx m.state ≡ Goes s
+    → ((k so position : ℕ) (events : List Shown)
+    → segment (move m.amx script) (passed + k) so (placed s position events)
+    ≡ segment (move m.amx script) k (so + passed) (placed mid position events))
+    → segment (move m.amx script) ((1 + passed) + k) so (placed m.state position events)
+    ≡ segment (move m.amx script) k (so + (1 + passed)) (placed mid position events)
 goes_on m s script k so position passed mid events e rest =
     let a : (1 + passed) + k ≡ suc (passed + k) = omega arith in
     let b : (so + 1) + passed ≡ so + (1 + passed) = omega arith in
     ap (λ n. segment (move m.amx script) n so (placed m.state position events)) a
-    ∙ segment-goes (move m.amx script) (passed + k) so (placed m.state position events) (placed s position events) (ap (moved m.amx script (placed m.state position events)) e)
+    ∙ segment-goes (move m.amx script) (passed + k) so (placed m.state position events)
+    (placed s position events) (ap (moved m.amx script (placed m.state position events)) e)
     ∙ rest k (so + 1) position events
     ∙ ap (λ i. segment (move m.amx script) k i (placed mid position events)) b
 
-one_more : (t : Turn) (amx : Amx) (bound : ℕ) (mid : State) (passed count : ℕ) (s : State) → IsLastTurn t amx bound mid passed count s → IsLastTurn t amx (suc bound) mid (1 + passed) (1 + count) s
+one_more : (t : Turn) (amx : Amx) (bound : ℕ) (mid : State) (passed count : ℕ) (s : State)
+    → IsLastTurn t amx bound mid passed count s
+    → IsLastTurn t amx (suc bound) mid (1 + passed) (1 + count) s
 one_more turn.Goes amx bound mid passed count s h = (omega (arith, h.0), omega (arith, h.1), h.2)
-one_more (turn.Errs code) amx bound mid passed count s h = (omega (arith, h.0), omega (arith, h.1), h.2, h.3)
-one_more (turn.Halts code) amx bound mid passed count s h = (omega (arith, h.0), omega (arith, h.1), h.2)
-one_more (turn.Asks native) amx bound mid passed count s h = (omega (arith, h.0), omega (arith, h.1), h.2)
+one_more (turn.Errs code) amx bound mid passed count s h =
+    (omega (arith, h.0), omega (arith, h.1), h.2, h.3)
+one_more (turn.Halts code) amx bound mid passed count s h =
+    (omega (arith, h.0), omega (arith, h.1), h.2)
+one_more (turn.Asks native) amx bound mid passed count s h =
+    (omega (arith, h.0), omega (arith, h.1), h.2)
 
 by_turn : (n so_far : ℕ) (m : Core) (t : Turned) → step m.amx m.state ≡ t
     → ((s : State) → Passes n (so_far + 1) (with_state m s) (runs n (so_far + 1) (with_state m s)))
@@ -75,7 +91,9 @@ by_turn n so_far m (Goes s) e rest = let p = rest s in record {
   mid = p.mid;
   steps = omega (arith, p.steps);
   file = p.file;
-  leads = λ script k so position events. goes_on m s script k so position p.passed p.mid events e (p.leads script);
+  leads =
+      λ script k so position events. goes_on m s script k so position p.passed p.mid events e
+      (p.leads script);
   last = one_more _ m.amx n p.mid p.passed p.count _ p.last;
 }
 by_turn n so_far m (Errs code) e rest = record {
@@ -135,10 +153,13 @@ some_steps n h = ne_eqb n 0 (λ e. absurd (omega (arith, e, h)))
 
 awake_ran : (n : ℕ) (m : Machine) → IsAwake m.mode → 1 ≤ n → ran n m ≡ ran_by (runs n 0 (core_of m))
 awake_ran n m h some =
-    ap (λ o. machine.again_or o (if n == 0 then machine.stays event.Going m else ran_by (runs n 0 (core_of m))) m) (none_ended m.mode m.state h)
-    ∙ ap (λ b. if b then machine.stays event.Going m else ran_by (runs n 0 (core_of m))) (some_steps n some)
+    ap (λ o. machine.again_or o (if n == 0 then machine.stays event.Going m
+    else ran_by (runs n 0 (core_of m))) m) (none_ended m.mode m.state h)
+    ∙ ap (λ b. if b then machine.stays event.Going m else ran_by (runs n 0 (core_of m)))
+    (some_steps n some)
 
-reached_by : (n : ℕ) (old : Machine) (steps : ℕ) (t : Turn) (core : Core) → Passes n 0 (core_of old) (record { steps = steps; turn = t; machine = core })
+reached_by : (n : ℕ) (old : Machine) (steps : ℕ) (t : Turn) (core : Core)
+    → Passes n 0 (core_of old) (record { steps = steps; turn = t; machine = core })
     → Reached n old steps (machine.event_of t core.state) (machine.behind t core)
 reached_by n old steps turn.Goes core p = record {
   passed = p.passed;
@@ -178,5 +199,7 @@ pub reached : (n : ℕ) (old new : Machine) (count : ℕ) (e : Event) → IsAwak
     → record { steps = count; event = e; machine = new } ≡ ran n old → Reached n old count e new
 reached n old new count e h some is =
     let r = runs n 0 (core_of old) in
-    let all : record { steps = count; event = e; machine = new } ≡ ran_by r = is ∙ awake_ran n old h some in
-    subst (λ (it : machine.Ran). Reached n old it.steps it.event it.machine) (sym all) (reached_by n old r.steps r.turn r.machine (passes n 0 (core_of old)))
+    let all : record { steps = count; event = e; machine = new } ≡ ran_by r =
+    is ∙ awake_ran n old h some in
+    subst (λ (it : machine.Ran). Reached n old it.steps it.event it.machine) (sym all)
+    (reached_by n old r.steps r.turn r.machine (passes n 0 (core_of old)))

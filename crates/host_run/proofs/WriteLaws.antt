@@ -1,5 +1,7 @@
 -- Writes one after another: the size of the cells stays, and so do the live parts.
-use Rattle.std.proofs.Common.{◌≡◌, ◌+◌, ◌-◌, ◌/◌, ◌%◌, ◌==◌, ◌≤◌, ℕ, ℤ, pos, List, [], ◌∷◌, ◌++◌, Bool, true, false, cond, All, length, map, take, drop, min, nat_lt, nat_le, refl, sym, ap, subst, ◌∙◌, arith, length-append, length-drop}
+use Rattle.std.proofs.Common.{◌≡◌, ◌+◌, ◌-◌, ◌/◌, ◌%◌, ◌==◌, ◌≤◌, ℕ, ℤ, pos, List, [], ◌∷◌, ◌++◌}
+use Rattle.std.proofs.Common.{Bool, true, false, cond, All, length, map, take, drop, min, nat_lt}
+use Rattle.std.proofs.Common.{nat_le, refl, sym, ap, subst, ◌∙◌, arith, length-append, length-drop}
 use Rattle.std.specs.List.{slice_index_or}
 use Rattle.std.proofs.lemmas.List.{length-take, get_or_append_left, map-append}
 use Rattle.std.proofs.lemmas.List.Elements.{All-head, All-tail}
@@ -13,28 +15,36 @@ use Rattle.host_run.specs.Sights.{put_of, IsRoomFor}
 
 -- ---- sizes
 
-cut_twice : (n m : ℕ) (xs ys : List ℤ) → length xs ≡ length ys → length (drop n (take m xs)) ≡ length (drop n (take m ys))
+cut_twice : (n m : ℕ) (xs ys : List ℤ) → length xs ≡ length ys
+    → length (drop n (take m xs)) ≡ length (drop n (take m ys))
 cut_twice n m xs ys e =
-    length-drop n (take m xs) ∙ ap (λ k. k - n) (length-take m xs ∙ ap (min m) e ∙ sym (length-take m ys)) ∙ sym (length-drop n (take m ys))
+    length-drop n (take m xs) ∙ ap (λ k. k - n)
+    (length-take m xs ∙ ap (min m) e ∙ sym (length-take m ys)) ∙ sym (length-drop n (take m ys))
 
-cut_once : (n : ℕ) (xs ys : List ℤ) → length xs ≡ length ys → length (drop n xs) ≡ length (drop n ys)
+cut_once : (n : ℕ) (xs ys : List ℤ) → length xs ≡ length ys
+    → length (drop n xs) ≡ length (drop n ys)
 cut_once n xs ys e = length-drop n xs ∙ ap (λ k. k - n) e ∙ sym (length-drop n ys)
 
 same_by : (s : State) (cells : List ℤ) (a : ℕ) (b c d : Bool) → length cells ≡ length s.cells
-    → length (cond b (cond c (drop (a / 4) (take (s.hea / 4) cells)) (cond d (drop (a / 4) cells) [])) [])
-    ≡ length (cond b (cond c (drop (a / 4) (take (s.hea / 4) s.cells)) (cond d (drop (a / 4) s.cells) [])) [])
+    → length (cond b (cond c (drop (a / 4) (take (s.hea / 4) cells))
+    (cond d (drop (a / 4) cells) [])) [])
+    ≡ length (cond b (cond c (drop (a / 4) (take (s.hea / 4) s.cells))
+    (cond d (drop (a / 4) s.cells) [])) [])
 same_by s cells a true true d e = cut_twice (a / 4) (s.hea / 4) cells s.cells e
 same_by s cells a true false true e = cut_once (a / 4) cells s.cells e
 same_by s cells a true false false e = refl
 same_by s cells a false c d e = refl
 
 -- with other cells, as many, the live parts are as long
-pub length-live : (s : State) (cells : List ℤ) (a : ℕ) → length cells ≡ length s.cells → length (live_from (record s { cells = cells }) a) ≡ length (live_from s a)
+pub length-live : (s : State) (cells : List ℤ) (a : ℕ) → length cells ≡ length s.cells
+    → length (live_from (record s { cells = cells }) a) ≡ length (live_from s a)
 length-live s cells a e = same_by s cells a (a % 4 == 0) (nat_lt a s.hea) (nat_le s.stk a) e
 
 within_by : (s : State) (a : ℕ) (b c d : Bool)
-    → length (cond b (cond c (drop (a / 4) (take (s.hea / 4) s.cells)) (cond d (drop (a / 4) s.cells) [])) []) ≤ length s.cells - a / 4
-within_by s a true true d = omega (arith, length-drop (a / 4) (take (s.hea / 4) s.cells), length-take (s.hea / 4) s.cells)
+    → length (cond b (cond c (drop (a / 4) (take (s.hea / 4) s.cells))
+    (cond d (drop (a / 4) s.cells) [])) []) ≤ length s.cells - a / 4
+within_by s a true true d =
+    omega (arith, length-drop (a / 4) (take (s.hea / 4) s.cells), length-take (s.hea / 4) s.cells)
 within_by s a true false true = omega (arith, length-drop (a / 4) s.cells)
 within_by s a true false false = omega arith
 within_by s a false c d = omega arith
@@ -43,12 +53,14 @@ within_by s a false c d = omega arith
 pub live_within : (s : State) (a : ℕ) → length (live_from s a) ≤ length s.cells - a / 4
 live_within s a = within_by s a (a % 4 == 0) (nat_lt a s.hea) (nat_le s.stk a)
 
-pub length-write : (put : Put ℕ) (cells : List ℤ) → length put.values ≤ length cells - put.to / 4 → length (with_write put cells) ≡ length cells
+pub length-write : (put : Put ℕ) (cells : List ℤ) → length put.values ≤ length cells - put.to / 4
+    → length (with_write put cells) ≡ length cells
 length-write put cells h =
     omega (
       arith,
       h,
-      length-append (take (put.to / 4) cells) (put.values ++ drop (put.to / 4 + length put.values) cells),
+      length-append (take (put.to / 4) cells)
+          (put.values ++ drop (put.to / 4 + length put.values) cells),
       length-append put.values (drop (put.to / 4 + length put.values) cells),
       length-take (put.to / 4) cells,
       length-drop (put.to / 4 + length put.values) cells,
@@ -56,45 +68,61 @@ length-write put cells h =
 
 -- ---- one more
 
-pub writes-more : (puts : List (Put ℕ)) (put : Put ℕ) (cells : List ℤ) → with_writes (puts ++ put ∷ []) cells ≡ with_write put (with_writes puts cells)
+pub writes-more : (puts : List (Put ℕ)) (put : Put ℕ) (cells : List ℤ)
+    → with_writes (puts ++ put ∷ []) cells ≡ with_write put (with_writes puts cells)
 writes-more [] put cells = refl
 writes-more (first ∷ puts) put cells = writes-more puts put (with_write first cells)
 
-pub all_before : {A : Type 0} (P : A → Type 0) (xs : List A) (y : A) → All P (xs ++ y ∷ []) → All P xs
+pub all_before : {A : Type 0} (P : A → Type 0) (xs : List A) (y : A) → All P (xs ++ y ∷ [])
+    → All P xs
 all_before P xs y h k d within =
-    subst P (get_or_append_left xs (y ∷ []) d k within) (h k d (omega (arith, within, length-append xs (y ∷ []))))
+    subst P (get_or_append_left xs (y ∷ []) d k within)
+    (h k d (omega (arith, within, length-append xs (y ∷ []))))
 
 pub all_last : {A : Type 0} (P : A → Type 0) (xs : List A) (y : A) → All P (xs ++ y ∷ []) → P y
-all_last P xs y h = subst P (get_or-append_seam xs y [] y) (h (length xs) y (omega (arith, length-append xs (y ∷ []))))
+all_last P xs y h =
+    subst P (get_or-append_seam xs y [] y)
+    (h (length xs) y (omega (arith, length-append xs (y ∷ []))))
 
 -- ---- the writes of an answer
 
 module _ (s : State) (values : List ℤ) where
-  fits_by : (write : Write) (cells : List ℤ) → length cells ≡ length s.cells → IsRoomFor s values write
+  fits_by : (write : Write) (cells : List ℤ) → length cells ≡ length s.cells
+      → IsRoomFor s values write
       → length write.cells ≤ length cells - bits_of (slice_index_or values write.arg (pos 0)) / 4
   fits_by write cells e h =
       let live = live_within s (bits_of (slice_index_or values write.arg (pos 0))) in
       omega (arith, e, h, live)
 
   -- the size of the cells stays
-  pub writes_length : (writes : List Write) (cells : List ℤ) → length cells ≡ length s.cells → All (IsRoomFor s values) writes
+  pub writes_length : (writes : List Write) (cells : List ℤ) → length cells ≡ length s.cells
+      → All (IsRoomFor s values) writes
       → length (with_writes (map (put_of values) writes) cells) ≡ length cells
   writes_length [] cells e h = refl
   writes_length (write ∷ writes) cells e h =
-      let one = length-write (put_of values write) cells (fits_by write cells e (All-head (IsRoomFor s values) write writes h)) in
-      writes_length writes (with_write (put_of values write) cells) (one ∙ e) (All-tail (IsRoomFor s values) write writes h) ∙ one
+      let one =
+      length-write (put_of values write) cells
+      (fits_by write cells e (All-head (IsRoomFor s values) write writes h)) in
+      writes_length writes (with_write (put_of values write) cells) (one ∙ e)
+      (All-tail (IsRoomFor s values) write writes h) ∙ one
 
   -- and so there is room for the next
-  pub room_next : (before : List Write) (last : Write) → All (IsRoomFor s values) (before ++ last ∷ [])
-      → length last.cells ≤ length (live_from (record s { cells = with_writes (map (put_of values) before) s.cells }) (bits_of (slice_index_or values last.arg (pos 0))))
+  pub room_next : (before : List Write) (last : Write)
+      → All (IsRoomFor s values) (before ++ last ∷ [])
+      → length last.cells ≤ length (live_from
+      (record s { cells = with_writes (map (put_of values) before) s.cells })
+      (bits_of (slice_index_or values last.arg (pos 0))))
   room_next before last h =
       let cells = with_writes (map (put_of values) before) s.cells in
-      let size = writes_length before s.cells refl (all_before (IsRoomFor s values) before last h) in
+      let size =
+      writes_length before s.cells refl (all_before (IsRoomFor s values) before last h) in
       let live = length-live s cells (bits_of (slice_index_or values last.arg (pos 0))) size in
       omega (arith, live, all_last (IsRoomFor s values) before last h)
 
 -- the last write behind those before it
 pub writes_last : (values cells : List ℤ) (before : List Write) (last : Write)
-    → with_writes (map (put_of values) (before ++ last ∷ [])) cells ≡ with_write (put_of values last) (with_writes (map (put_of values) before) cells)
+    → with_writes (map (put_of values) (before ++ last ∷ [])) cells
+    ≡ with_write (put_of values last) (with_writes (map (put_of values) before) cells)
 writes_last values cells before last =
-    ap (λ puts. with_writes puts cells) (map-append (put_of values) before (last ∷ [])) ∙ writes-more (map (put_of values) before) (put_of values last) cells
+    ap (λ puts. with_writes puts cells) (map-append (put_of values) before (last ∷ []))
+    ∙ writes-more (map (put_of values) before) (put_of values last) cells

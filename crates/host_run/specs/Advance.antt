@@ -1,5 +1,6 @@
 -- What was done for one event of the machine, as the code tells it.
-use Rattle.std.specs.Prelude.{◌≡◌, ◌≤◌, ◌++◌, ℕ, ℤ, pos, List, Option, None, Some, Result, Ok, length}
+use Rattle.std.specs.Prelude.{◌≡◌, ◌≤◌, ◌++◌, ℕ, ℤ, pos, List, Option, None, Some, Result, Ok}
+use Rattle.std.specs.Prelude.{length}
 use Rattle.pawn_outside.specs.declared.fault.SinkFault.{SinkFault}
 use Rattle.host_script.specs.declared.script.Script.{Script}
 use Rattle.host_script.specs.declared.event.Event.{Event as Shown}
@@ -40,15 +41,19 @@ IsGiven stop s (Some (answer.Asleep value tag)) = (stop ≡ Asleep) × (value �
 IsGiven stop s (Some answer.Steps) = ⊥
 IsGiven stop s (Some answer.SinkFault) = Unit {0}
 
+-- whether the sink failed, also where the session goes on
 abbrev pub told_of : Option SessionEnd → Result (Unit {0}) SinkFault
 told_of None = Ok tt
 told_of (Some given) = told given
 
 -- the move of a machine that showed some events before; `say` is what was done to the sink
-pub record Advanced (moves : List Shown → Moved Config End) (new : Place) (given : Option SessionEnd) (say : List ℕ → Type 0) : Type 0 where
+pub record Advanced (moves : List Shown → Moved Config End) (new : Place)
+    (given : Option SessionEnd) (say : List ℕ → Type 0) : Type 0 where
   pub stop : Stop End
   pub shown : List Shown
-  pub moved : (before : List Shown) → moves before ≡ made_by stop (record { state = new.machine.state; position = new.position; events = before ++ shown })
+  pub moved : (before : List Shown)
+      → moves before ≡ made_by stop (record
+      { state = new.machine.state; position = new.position; events = before ++ shown })
   pub mode : IsLeft stop new.machine.mode
   pub gives : IsGiven stop new.machine.state given
   pub said : say (lines_of shown ++ stop_text stop)
@@ -66,7 +71,8 @@ turned_by (event.Error code) s = Errs code
 -- the move with that step
 abbrev pub move_by : Amx → Script → Event → Place → List Shown → Moved Config End
 move_by amx script e p before =
-    moved amx script (record { state = p.machine.state; position = p.position; events = before }) (turned_by e p.machine.state)
+    moved amx script (record { state = p.machine.state; position = p.position; events = before })
+    (turned_by e p.machine.state)
 
 -- a machine behind an event
 abbrev pub IsBehind : Event → Machine → Type 0
@@ -82,7 +88,9 @@ IsBehind (event.Error code) m = m.mode ≡ mode.Failed code
 abbrev pub EndsBy : ℤ → ℤ → ℤ → Option End → Type 0
 EndsBy code pri alt None = code ≡ pos 12
 EndsBy code pri alt (Some e) =
-    (s : State) (c : Config) → s.pri ≡ pri → s.alt ≡ alt → (halted code s c ≡ run.Ends e (record c { state = s })) × IsEnded e (asleep_or (is_number 12 code) code)
+    (s : State) (c : Config) → s.pri ≡ pri → s.alt ≡ alt
+    → (halted code s c ≡ run.Ends e (record c { state = s }))
+    × IsEnded e (asleep_or (is_number 12 code) code)
 
 -- an end that was written, or wasn't
 abbrev pub IsOver : End → SessionEnd → Type 0
@@ -113,4 +121,5 @@ pub record IsGuest (script : Script) (name : List ℕ) (guest : Guest) : Type 0 
 -- a call by a name at a place, with some events shown before
 abbrev pub call_by : Script → List ℕ → Place → List Shown → Moved Config End
 call_by script name p before =
-    asked script name (arguments p.machine.state) p.machine.state (record { state = p.machine.state; position = p.position; events = before })
+    asked script name (arguments p.machine.state) p.machine.state
+    (record { state = p.machine.state; position = p.position; events = before })

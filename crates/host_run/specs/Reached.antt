@@ -12,6 +12,7 @@ use Rattle.amx_machine.specs.declared.event.Event.TheVariants as event
 use Rattle.amx_machine.specs.Machine.{Machine}
 use Rattle.host_run.specs.Advance.{turned_by, IsBehind}
 
+-- a configuration by its parts
 abbrev pub placed : State → ℕ → List Shown → Config
 placed s position events = record { state = s; position = position; events = events }
 
@@ -23,9 +24,12 @@ IsLast (event.Native number) amx bound mid passed count s =
 IsLast (event.Halt code pri alt) amx bound mid passed count s =
     (count ≡ passed + 1) × (passed < bound) × (step amx mid ≡ turned_by (event.Halt code pri alt) s)
 IsLast (event.Error code) amx bound mid passed count s =
-    (count ≡ passed + 1) × (passed < bound) × (step amx mid ≡ turned_by (event.Error code) s) × (s ≡ mid)
+    (count ≡ passed + 1) × (passed < bound) × (step amx mid ≡ turned_by (event.Error code) s)
+    × (s ≡ mid)
 
-pub record Reached (bound : ℕ) (old : Machine) (count : ℕ) (e : Event) (new : Machine) : Type 0 where
+-- a machine did so many steps up to an event; all before the last were silent, under any script
+pub record Reached (bound : ℕ) (old : Machine) (count : ℕ) (e : Event)
+    (new : Machine) : Type 0 where
   pub passed : ℕ
   pub mid : State
   pub file : new.amx ≡ old.amx

@@ -24,6 +24,7 @@ segment_of script p bound = segment (move p.machine.amx script) bound 0 (begun p
 
 -- ---- its text
 
+-- a line for each event
 abbrev pub lines_of : List Event → List ℕ
 lines_of events = flat_map event_text events
 
@@ -33,5 +34,6 @@ stop_text Steps = []
 stop_text Asleep = []
 stop_text (Over_by e) = end_text e
 
+-- its events, and its end
 abbrev pub text_of : Segmented Config End → List ℕ
 text_of made = lines_of made.config.events ++ stop_text made.stop

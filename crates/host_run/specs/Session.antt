@@ -1,5 +1,5 @@
--- What a session answers, and where it leaves its machine and the script's position: `segments` gives
--- the segment with each bound from where it began.
+-- What a session answers, and where it leaves its machine and the script's position: `segments`
+-- gives the segment with each bound from where it began.
 use Rattle.std.specs.Prelude.{◌≡◌, ◌≤◌, ◌++◌, ℕ, suc, List, Option, Result, Ok, Err, length}
 use Rattle.pawn_outside.specs.declared.fault.SinkFault.{SinkFault}
 use Rattle.pawn_outside.specs.Taken.{with_more, WroteFront}
@@ -25,7 +25,8 @@ IsAnswer made answer.SinkFault = ⊥
 
 -- so many steps were done, and the sink failed at a line of the last one: it has taken all lines
 -- before, and a front of that line
-pub record IsCutOff (segments : ℕ → Segmented Config End) (taken after : Option (List ℕ)) (count : ℕ) : Type 0 where
+pub record IsCutOff (segments : ℕ → Segmented Config End) (taken after : Option (List ℕ))
+    (count : ℕ) : Type 0 where
   pub before : ℕ
   pub last : count ≡ suc before
   pub line : List ℕ
@@ -34,23 +35,33 @@ pub record IsCutOff (segments : ℕ → Segmented Config End) (taken after : Opt
   pub front : WroteFront (with_more taken (text_of (segments before))) after line
 
 -- with this answer the segment is done, and all is as it says
-pub record Concludes (segments : ℕ → Segmented Config End) (bound : ℕ) (old : Place) (count : ℕ) (given : SessionEnd) (new : Place) : Type 0 where
+pub record Concludes (segments : ℕ → Segmented Config End) (bound : ℕ) (old : Place) (count : ℕ)
+    (given : SessionEnd) (new : Place) : Type 0 where
   pub answer : IsAnswer (segments bound) given
   pub stands : Stands old (segments bound) count new
 
 -- or it was cut short, and all is as the segment of so many steps says
-pub record StopsShort (segments : ℕ → Segmented Config End) (taken after : Option (List ℕ)) (bound : ℕ) (old : Place) (count : ℕ) (new : Place) : Type 0 where
+pub record StopsShort (segments : ℕ → Segmented Config End) (taken after : Option (List ℕ))
+    (bound : ℕ) (old : Place) (count : ℕ) (new : Place) : Type 0 where
   pub within : count ≤ bound
   pub stands : Stands old (segments count) count new
   pub cut : IsCutOff segments taken after count
 
-abbrev pub Sessions : (ℕ → Segmented Config End) → Option (List ℕ) → Option (List ℕ) → ℕ → Place → ℕ → SessionEnd → Place → Type 0
-Sessions segments taken after bound old count (answer.Done value) new = Concludes segments bound old count (answer.Done value) new
-Sessions segments taken after bound old count (answer.Exit value tag) new = Concludes segments bound old count (answer.Exit value tag) new
-Sessions segments taken after bound old count (answer.Error code) new = Concludes segments bound old count (answer.Error code) new
-Sessions segments taken after bound old count (answer.Asleep value tag) new = Concludes segments bound old count (answer.Asleep value tag) new
-Sessions segments taken after bound old count answer.Steps new = Concludes segments bound old count answer.Steps new
-Sessions segments taken after bound old count answer.SinkFault new = StopsShort segments taken after bound old count new
+-- it was cut short only where the sink failed
+abbrev pub Sessions : (ℕ → Segmented Config End) → Option (List ℕ) → Option (List ℕ) → ℕ → Place → ℕ
+    → SessionEnd → Place → Type 0
+Sessions segments taken after bound old count (answer.Done value) new =
+    Concludes segments bound old count (answer.Done value) new
+Sessions segments taken after bound old count (answer.Exit value tag) new =
+    Concludes segments bound old count (answer.Exit value tag) new
+Sessions segments taken after bound old count (answer.Error code) new =
+    Concludes segments bound old count (answer.Error code) new
+Sessions segments taken after bound old count (answer.Asleep value tag) new =
+    Concludes segments bound old count (answer.Asleep value tag) new
+Sessions segments taken after bound old count answer.Steps new =
+    Concludes segments bound old count answer.Steps new
+Sessions segments taken after bound old count answer.SinkFault new =
+    StopsShort segments taken after bound old count new
 
 -- whether the sink failed
 abbrev pub told : SessionEnd → Result (Unit {0}) SinkFault

@@ -9,7 +9,9 @@ use Rattle.host_run.specs.Segments.{Place, segment_of, lines_of}
 use Rattle.host_run.specs.Stands.{IsAwake}
 use Rattle.host_run.specs.Reached.{placed}
 
-pub record SoFar (script : Script) (old : Place) (bound done : ℕ) (now : Place) (say : List ℕ → Type 0) : Type 0 where
+-- the rest of the segment is the one from where it is now
+pub record SoFar (script : Script) (old : Place) (bound done : ℕ) (now : Place)
+    (say : List ℕ → Type 0) : Type 0 where
   pub within : done ≤ bound
   pub file : now.machine.amx ≡ old.machine.amx
   pub awake : IsAwake now.machine.mode

@@ -31,7 +31,8 @@ IsLeft Asleep m = m ≡ mode.Asleep
 IsLeft (Over_by e) m = IsEnded e m
 
 -- machine, position and count are the segment's; without a step the mode is what it was
-pub record Stands (old : Place) (made : Segmented Config End) (count : ℕ) (new : Place) : Type 0 where
+pub record Stands (old : Place) (made : Segmented Config End) (count : ℕ)
+    (new : Place) : Type 0 where
   pub file : new.machine.amx ≡ old.machine.amx
   pub state : new.machine.state ≡ made.config.state
   pub position : new.position ≡ made.config.position

@@ -8,7 +8,8 @@ use Rattle.host_script.specs.declared.script.Answer.{Answer}
 use Rattle.host_script.specs.declared.script.Answer.TheVariants.{Given, Error}
 use Rattle.host_script.specs.declared.event.Seen.TheVariants as seen
 use Rattle.host_script.specs.declared.event.Event.TheVariants as event
-use Rattle.host_script.specs.NativeCall.{Sight, Sees, Blind, Sought, Called, Ends_there, Answers, Lost, Fault, native_call}
+use Rattle.host_script.specs.NativeCall.{Sight, Sees, Blind, Sought, Called, Ends_there, Answers}
+use Rattle.host_script.specs.NativeCall.{Lost, Fault, native_call}
 
 -- a value is seen as a cell, and as nothing else
 abbrev see : ℤ → Form → Sight (Sought ℕ)
@@ -40,7 +41,8 @@ error_is_taken : called form.Cell (Error (pos 7) ∷ []) (pos 1 ∷ []) ≡ Ends
 error_is_taken = refl
 
 -- no write goes to a cell, not even one of no cells
-forbidden_write_is_taken : called form.Cell (Given (pos 0) (record { arg = 0; cells = [] } ∷ []) ∷ []) (pos 1 ∷ [])
+forbidden_write_is_taken : called form.Cell
+    (Given (pos 0) (record { arg = 0; cells = [] } ∷ []) ∷ []) (pos 1 ∷ [])
     ≡ Ends_there (Fault (pos 10)) 1
 forbidden_write_is_taken = refl
 

@@ -1,5 +1,6 @@
 -- The text of a native's arguments, one cell after another.
-use Rattle.std.proofs.Common.{◌≡◌, ◌+◌, ◌<◌, ℕ, ℤ, suc, List, [], ◌∷◌, ◌++◌, codes, map, length, take, drop, get_or, sym, ap, ◌∙◌, append_assoc, append-nil}
+use Rattle.std.proofs.Common.{◌≡◌, ◌+◌, ◌<◌, ℕ, ℤ, suc, List, [], ◌∷◌, ◌++◌, codes, map, length}
+use Rattle.std.proofs.Common.{take, drop, get_or, sym, ap, ◌∙◌, append_assoc, append-nil}
 use Rattle.std.specs.Fmt.{signed_decimal}
 use Rattle.std.specs.List.{flat_map}
 use Rattle.std.proofs.Math.Seq.{drop-cons}
@@ -25,29 +26,37 @@ pub cells_text-more : (cells : List ℤ) (i : ℕ) (d : ℤ) → i < length cell
 cells_text-more cells i d h =
     cells_text-is (take (i + 1) cells) ∙ ap (flat_map cell_text) (take_more cells i d h)
     ∙ flat_map-append cell_text (take i cells) (get_or cells i d ∷ [])
-    ∙ ap (λ front. front ++ (cell_text (get_or cells i d) ++ [])) (sym (cells_text-is (take i cells)))
+    ∙ ap (λ front. front ++ (cell_text (get_or cells i d) ++ []))
+    (sym (cells_text-is (take i cells)))
     ∙ ap (λ last. cells_text (take i cells) ++ last) (append-nil (cell_text (get_or cells i d)))
 
 -- the cells before one, that one and those after it
 pub cells_text-at : (cells : List ℤ) (i : ℕ) (d : ℤ) → i < length cells
-    → cells_text (take i cells) ++ (cell_text (get_or cells i d) ++ cells_text (drop (suc i) cells)) ≡ cells_text cells
+    → cells_text (take i cells) ++ (cell_text (get_or cells i d) ++ cells_text (drop (suc i) cells))
+    ≡ cells_text cells
 cells_text-at cells i d h =
-    ap (λ front. front ++ (cell_text (get_or cells i d) ++ cells_text (drop (suc i) cells))) (cells_text-is (take i cells))
-    ∙ ap (λ back. flat_map cell_text (take i cells) ++ (cell_text (get_or cells i d) ++ back)) (cells_text-is (drop (suc i) cells))
-    ∙ sym (ap (λ rest. flat_map cell_text (take i cells) ++ flat_map cell_text rest) (drop-cons cells i d h))
+    ap (λ front. front ++ (cell_text (get_or cells i d) ++ cells_text (drop (suc i) cells)))
+    (cells_text-is (take i cells))
+    ∙ ap (λ back. flat_map cell_text (take i cells) ++ (cell_text (get_or cells i d) ++ back))
+    (cells_text-is (drop (suc i) cells))
+    ∙ sym (ap (λ rest. flat_map cell_text (take i cells) ++ flat_map cell_text rest)
+    (drop-cons cells i d h))
     ∙ sym (flat_map-append cell_text (take i cells) (drop i cells))
     ∙ ap (flat_map cell_text) (take-append-drop i cells)
     ∙ sym (cells_text-is cells)
 
 -- a native's line in its three parts
 pub native_line : (name arguments answer : List ℕ)
-    → ((codes "native " ++ (name ++ [])) ++ arguments) ++ answer ≡ codes "native " ++ (name ++ (arguments ++ answer))
+    → ((codes "native " ++ (name ++ [])) ++ arguments) ++ answer
+    ≡ codes "native " ++ (name ++ (arguments ++ answer))
 native_line name arguments answer =
     append_assoc (codes "native " ++ (name ++ [])) arguments answer
     ∙ ap (λ head. (codes "native " ++ head) ++ (arguments ++ answer)) (append-nil name)
     ∙ append_assoc (codes "native ") name (arguments ++ answer)
 
 -- values parted by blanks: each but the first after one
-pub values_text-cons : (value : ℤ) (values : List ℤ) → values_text (value ∷ values) ≡ signed_decimal value ++ cells_text values
+pub values_text-cons : (value : ℤ) (values : List ℤ)
+    → values_text (value ∷ values) ≡ signed_decimal value ++ cells_text values
 values_text-cons value [] = sym (append-nil (signed_decimal value))
-values_text-cons value (next ∷ values) = ap (λ text. signed_decimal value ++ (codes " " ++ text)) (values_text-cons next values)
+values_text-cons value (next ∷ values) =
+    ap (λ text. signed_decimal value ++ (codes " " ++ text)) (values_text-cons next values)

@@ -3,7 +3,8 @@
 -- arguments, all of them seen, the answer, its error, its writes tested, the writes and the event.
 -- An answer is taken once all arguments were seen, also where it ends the run: then the script's
 -- position is the one behind that answer.
-use Rattle.std.specs.Prelude.{ℕ, ℤ, pos, List, [], ◌∷◌, Option, None, Some, length, map, slice_get, nat_le, if◌then◌else◌}
+use Rattle.std.specs.Prelude.{ℕ, ℤ, pos, List, [], ◌∷◌, Option, None, Some, length, map, slice_get}
+use Rattle.std.specs.Prelude.{nat_le, if◌then◌else◌}
 use Rattle.host_script.specs.declared.script.Script.{Script}
 use Rattle.host_script.specs.declared.script.Form.{Form}
 use Rattle.host_script.specs.declared.script.Answer.{Answer}
@@ -55,15 +56,20 @@ with_sight (Sees a) go = go a
 with_sight (Blind trap) go = Blind trap
 
 -- each argument by its form, until one can't be seen
-abbrev pub see_all : {A P : Type 0} → (A → Form → Sight (Sought P)) → List A → List Form → Sight (List (Sought P))
+abbrev pub see_all : {A P : Type 0} → (A → Form → Sight (Sought P)) → List A → List Form
+    → Sight (List (Sought P))
 see_all see [] forms = Sees []
 see_all see (argument ∷ arguments) [] = Sees []
-see_all see (argument ∷ arguments) (form ∷ forms) = with_sight (see argument form) (λ sought. with_sight (see_all see arguments forms) (λ others. Sees (sought ∷ others)))
+see_all see (argument ∷ arguments) (form ∷ forms) =
+    with_sight (see argument form)
+    (λ sought. with_sight (see_all see arguments forms) (λ others. Sees (sought ∷ others)))
 
 -- a write of at most so many cells as the argument has
 abbrev pub put_into : {P : Type 0} → Option (Hold P) → List ℤ → Option (Put P)
 put_into None values = None
-put_into (Some hold) values = if nat_le (length values) hold.cells then Some (record { to = hold.at; values = values }) else None
+put_into (Some hold) values =
+    if nat_le (length values) hold.cells then Some (record { to = hold.at; values = values })
+    else None
 
 -- of an argument by its number, which may not be there
 abbrev pub put_for : {P : Type 0} → Option (Sought P) → List ℤ → Option (Put P)
@@ -79,16 +85,20 @@ with_put (Some put) (Some others) = Some (put ∷ others)
 -- all writes of an answer, where each is allowed
 abbrev pub puts_of : {P : Type 0} → List (Sought P) → List Write → Option (List (Put P))
 puts_of arguments [] = Some []
-puts_of arguments (write ∷ writes) = with_put (put_for (slice_get arguments write.arg) write.cells) (puts_of arguments writes)
+puts_of arguments (write ∷ writes) =
+    with_put (put_for (slice_get arguments write.arg) write.cells) (puts_of arguments writes)
 
 -- a write that isn't allowed ends the run, and its answer is taken all the same
-abbrev pub answered : {P : Type 0} → List ℕ → List (Sought P) → ℤ → ℕ → Option (List (Put P)) → Called P
+abbrev pub answered : {P : Type 0} → List ℕ → List (Sought P) → ℤ → ℕ → Option (List (Put P))
+    → Called P
 answered name arguments result position None = Ends_there native_error position
-answered name arguments result position (Some puts) = Answers (event.Native name (map (λ sought. sought.seen) arguments) result) result position puts
+answered name arguments result position (Some puts) =
+    Answers (event.Native name (map (λ sought. sought.seen) arguments) result) result position puts
 
 -- what an answer does; one that is an error is taken too
 abbrev pub called_by : {P : Type 0} → List ℕ → List (Sought P) → Answer → ℕ → Called P
-called_by name arguments (Given result writes) position = answered name arguments result position (puts_of arguments writes)
+called_by name arguments (Given result writes) position =
+    answered name arguments result position (puts_of arguments writes)
 called_by name arguments (Error code) position = Ends_there (Fault code) position
 
 -- with an argument that can't be seen no answer is taken
@@ -97,15 +107,19 @@ called_with name position turn (Sees arguments) = called_by name arguments turn.
 called_with name position turn (Blind trap) = Ends_there trap position
 
 -- with a number of arguments that the native doesn't take no answer is taken
-abbrev pub called_on : {A P : Type 0} → (A → Form → Sight (Sought P)) → List ℕ → List A → ℕ → Turn → Option (List Form) → Called P
+abbrev pub called_on : {A P : Type 0} → (A → Form → Sight (Sought P)) → List ℕ → List A → ℕ → Turn
+    → Option (List Form) → Called P
 called_on see name arguments position turn None = Ends_there native_error position
-called_on see name arguments position turn (Some forms) = called_with name position turn (see_all see arguments forms)
+called_on see name arguments position turn (Some forms) =
+    called_with name position turn (see_all see arguments forms)
 
 -- the call of a native by its name at a position of the script
-abbrev pub native_call : {A P : Type 0} → Script → (A → Form → Sight (Sought P)) → List ℕ → List A → ℕ → Called P
+abbrev pub native_call : {A P : Type 0} → Script → (A → Form → Sight (Sought P)) → List ℕ → List A
+    → ℕ → Called P
 native_call script see name arguments position =
     let native = native_of script name in
-    called_on see name arguments position (turn_of script native position) (forms_of native (length arguments))
+    called_on see name arguments position (turn_of script native position)
+    (forms_of native (length arguments))
 
 -- the script's position behind a call
 abbrev pub position_after : {P : Type 0} → Called P → ℕ

@@ -1,5 +1,7 @@
 -- Native scripts: which native a name means, the forms of its arguments, and what it answers.
-use Rattle.std.specs.Prelude.{ℕ, zero, suc, ◌+◌, ℤ, pos, negsuc, List, [], ◌∷◌, Option, None, Some, option_map, find, map, replicate, slice_get, nat_eq, nat_lt, true, if◌then◌else◌}
+use Rattle.std.specs.Prelude.{ℕ, zero, suc, ◌+◌, ℤ, pos, negsuc, List, [], ◌∷◌, Option, None, Some}
+use Rattle.std.specs.Prelude.{option_map, find, map, replicate, slice_get, nat_eq, nat_lt, true}
+use Rattle.std.specs.Prelude.{if◌then◌else◌}
 use Rattle.std.specs.Int.{w32, cast_unsigned, to_be_bytes}
 use Rattle.std.specs.List.{flat_map}
 use Rattle.std.specs.Cmp.Lexicographic.{pointwise}
@@ -18,13 +20,15 @@ plain = record { others = true; natives = []; answers = [] }
 abbrev pub unlisted : List ℕ → Native
 unlisted name = record { name = name; forms = []; rest = Some Cell; result = Some (pos 0) }
 
+-- what a script lists for a name, where it lists the name
 abbrev pub listed_or : Option Native → List ℕ → Native
 listed_or None name = unlisted name
 listed_or (Some native) name = native
 
 -- the native that a name means
 abbrev pub native_of : Script → List ℕ → Native
-native_of script name = listed_or (find (λ native. pointwise nat_eq native.name name) script.natives) name
+native_of script name =
+    listed_or (find (λ native. pointwise nat_eq native.name name) script.natives) name
 
 -- a form for each of so many arguments, where the native takes so many
 abbrev pub forms_from : List Form → Option Form → ℕ → Option (List Form)
@@ -32,8 +36,10 @@ forms_from [] rest zero = Some []
 forms_from [] None (suc count) = None
 forms_from [] (Some form) (suc count) = Some (replicate (suc count) form)
 forms_from (form ∷ forms) rest zero = None
-forms_from (form ∷ forms) rest (suc count) = option_map (λ others. form ∷ others) (forms_from forms rest count)
+forms_from (form ∷ forms) rest (suc count) =
+    option_map (λ others. form ∷ others) (forms_from forms rest count)
 
+-- of a call of a native with so many arguments
 abbrev pub forms_of : Native → ℕ → Option (List Form)
 forms_of native count = forms_from native.forms native.rest count
 
@@ -47,6 +53,7 @@ abbrev pub turn_at : Option Answer → ℕ → Turn
 turn_at None position = record { answer = Given (pos 0) []; position = position }
 turn_at (Some answer) position = record { answer = answer; position = position + 1 }
 
+-- by the result that is the native's own, if it has one
 abbrev pub turn_by : Option ℤ → Script → ℕ → Turn
 turn_by (Some result) script position = record { answer = Given result []; position = position }
 turn_by None script position = turn_at (slice_get script.answers position) position

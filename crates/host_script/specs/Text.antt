@@ -1,5 +1,6 @@
 -- The lines that are printed for events and ends. Numbers are decimal, with a sign where negative.
-use Rattle.std.specs.Prelude.{ℕ, ℤ, pos, negsuc, List, [], ◌∷◌, ◌++◌, Bool, ◌&&◌, not, codes, nat_le, ◌==◌, if◌then◌else◌}
+use Rattle.std.specs.Prelude.{ℕ, ℤ, pos, negsuc, List, [], ◌∷◌, ◌++◌, Bool, ◌&&◌, not, codes}
+use Rattle.std.specs.Prelude.{nat_le, ◌==◌, if◌then◌else◌}
 use Rattle.std.specs.Fmt.{signed_decimal}
 use Rattle.std.specs.List.{flat_map}
 use Rattle.host_script.specs.declared.event.Seen.{Seen}
@@ -13,6 +14,7 @@ use Rattle.host_script.specs.declared.event.End.TheVariants.{Done, Exit, Error, 
 abbrev pub stands_for_itself : ℕ → Bool
 stands_for_itself c = nat_le 32 c && nat_le c 126 && not (c == 34) && not (c == 92)
 
+-- a character that is printed as its number
 abbrev pub escaped : ℤ → List ℕ
 escaped c = codes "\\" ++ (signed_decimal c ++ codes ";")
 
@@ -25,8 +27,10 @@ character_text (negsuc c) = escaped (negsuc c)
 abbrev pub values_text : List ℤ → List ℕ
 values_text [] = []
 values_text (value ∷ []) = signed_decimal value
-values_text (value ∷ next ∷ values) = signed_decimal value ++ (codes " " ++ values_text (next ∷ values))
+values_text (value ∷ next ∷ values) =
+    signed_decimal value ++ (codes " " ++ values_text (next ∷ values))
 
+-- a reference has `&` before it, an array stands in brackets and a text in quotes
 abbrev pub seen_text : Seen → List ℕ
 seen_text (Cell value) = signed_decimal value
 seen_text (Ref value) = codes "&" ++ signed_decimal value
@@ -37,18 +41,24 @@ seen_text (Text characters) = codes "\"" ++ (flat_map character_text characters 
 abbrev pub argument_text : Seen → List ℕ
 argument_text argument = codes " " ++ seen_text argument
 
+-- all arguments of a call
 abbrev pub arguments_text : List Seen → List ℕ
 arguments_text seen = flat_map argument_text seen
 
+-- a call with its result, or a sleep with its value and tag
 abbrev pub event_text : Event → List ℕ
 event_text (Native name seen result) =
-    codes "native " ++ (name ++ (arguments_text seen ++ (codes " -> " ++ (signed_decimal result ++ codes "\n"))))
-event_text (Slept value tag) = codes "sleep " ++ (signed_decimal value ++ (codes " tag " ++ (signed_decimal tag ++ codes "\n")))
+    codes "native " ++ (name ++ (arguments_text seen
+    ++ (codes " -> " ++ (signed_decimal result ++ codes "\n"))))
+event_text (Slept value tag) =
+    codes "sleep " ++ (signed_decimal value
+    ++ (codes " tag " ++ (signed_decimal tag ++ codes "\n")))
 
 -- a stray access prints nothing
 abbrev pub end_text : End → List ℕ
 end_text (Done value) = codes "done " ++ (signed_decimal value ++ codes "\n")
-end_text (Exit value tag) = codes "exit " ++ (signed_decimal value ++ (codes " tag " ++ (signed_decimal tag ++ codes "\n")))
+end_text (Exit value tag) =
+    codes "exit " ++ (signed_decimal value ++ (codes " tag " ++ (signed_decimal tag ++ codes "\n")))
 end_text (Error code) = codes "error " ++ (signed_decimal code ++ codes "\n")
 end_text Stray = []
 

@@ -1,6 +1,6 @@
 ghost use Rattle.std.specs.Prelude.{◌≡◌, ◌+◌, ◌^◌, ◌<◌, ◌≤◌, IfOk, IfSome, IsSome, length};
 ghost use Rattle.amx_machine.specs.declared.mode.Mode.TheVariants as mode;
-ghost use Rattle.image_tests.specs.Up.{IsUp};
+ghost use Rattle.host_run.specs.Stands.{IsAwake};
 
 use amx_machine::{Event, Machine};
 use amx_ops::Amx;
@@ -60,7 +60,7 @@ pub fn started<'v>(alloc: Global, verified: &'v Verified) -> Option<Machine<'v>>
 /// Runs a machine up to its sleep, and tells its value; none where it comes to something else.
 #[tactic(auto, using(crate::proofs::UpLaws::up_is_steady))]
 pub fn sleep_of(machine: &mut Machine) -> Option<i32>
-    requires { IsUp machine.old.mode }
+    requires { IsAwake machine.old.mode }
     ensures { IsSome result → machine.new.mode ≡ mode.Asleep }
 {
     let (_, event) = machine.run(1_000_000);
@@ -77,7 +77,7 @@ pub fn sleep_of(machine: &mut Machine) -> Option<i32>
 /// Runs a machine up to its end: the value of HALT 0, or less than -1000 by the error, or -1000.
 #[tactic(auto, using(crate::proofs::UpLaws::up_is_steady))]
 pub fn end_of(machine: &mut Machine) -> i32
-    requires { IsUp machine.old.mode }
+    requires { IsAwake machine.old.mode }
 {
     let (_, event) = machine.run(1_000_000);
     match event {

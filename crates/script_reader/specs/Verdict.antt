@@ -4,14 +4,17 @@ use Rattle.serde_json.specs.Data.{Data, Items, no_items, item}
 use Rattle.script_reader.specs.declared.fault.ScriptFault.{ScriptFault}
 use Rattle.script_reader.specs.declared.fault.ScriptFault.TheVariants.{Json, Shape, Range, Memory}
 
+-- all faults are kept, not only the first
 pub data Verdict (A : Type 0) : Type 0 where
   Stands : A → Verdict A
   Breaks : List ScriptFault → Verdict A
 
+-- none of what stands
 abbrev pub faults : {A : Type 0} → Verdict A → List ScriptFault
 faults (Stands x) = []
 faults (Breaks found) = found
 
+-- by one fault alone
 abbrev pub broken : {A : Type 0} → ScriptFault → Verdict A
 broken fault = Breaks (fault ∷ [])
 
@@ -32,6 +35,7 @@ each step done (item d ds) = after (step done d) (λ next. each step next ds)
 
 -- ---- calls
 
+-- what a call may answer for it: any of the faults, and want of memory whatever it is
 abbrev pub Causes : {A : Type 0} → Verdict A → ScriptFault → Type 0
 Causes verdict Json = ⊥
 Causes verdict (Shape field) = Contains (faults verdict) (Shape field)

@@ -14,13 +14,17 @@ use Rattle.segment_runs.specs.Trace.{trace_on}
 -- the trace from a place on, with some events shown before, behind so many sleeps more
 abbrev pub rest_of : Script → Machine → ℕ → ℕ → Place → List Event → Traced Config End
 rest_of script old steps left now shown =
-    joined (move old.amx script) steps (replicate left steps) (placed now.machine.state now.position shown)
+    joined (move old.amx script) steps (replicate left steps)
+    (placed now.machine.state now.position shown)
 
 -- of a machine that stood so at first
-pub record Going (script : Script) (old : Machine) (steps sleeps left : ℕ) (now : Place) (say : List ℕ → Type 0) : Type 0 where
+pub record Going (script : Script) (old : Machine) (steps sleeps left : ℕ) (now : Place)
+    (say : List ℕ → Type 0) : Type 0 where
   pub file : now.machine.amx ≡ old.amx
   pub awake : IsAwake now.machine.mode
   pub shown : List Event
   pub said : say (lines_of shown)
-  pub stop : (trace_on script old steps sleeps).stop ≡ (rest_of script old steps left now shown).stop
-  pub config : (trace_on script old steps sleeps).config ≡ (rest_of script old steps left now shown).config
+  pub stop : (trace_on script old steps sleeps).stop
+      ≡ (rest_of script old steps left now shown).stop
+  pub config : (trace_on script old steps sleeps).config
+      ≡ (rest_of script old steps left now shown).config

@@ -1,5 +1,5 @@
--- The trace of a machine from where it stands, at the script's first answer, in segments with one bound, and how it
--- is told.
+-- The trace of a machine from where it stands, at the script's first answer, in segments with one
+-- bound, and how it is told.
 use Rattle.std.specs.Prelude.{◌≡◌, ◌++◌, ℕ, List, replicate}
 use Rattle.host_script.specs.declared.script.Script.{Script}
 use Rattle.host_script.specs.declared.event.End.{End}
@@ -14,7 +14,8 @@ use Rattle.host_run.specs.declared.end.SessionEnd.TheVariants as session
 
 -- it goes on behind so many sleeps, with so many steps in each segment
 abbrev pub trace_on : Script → Machine → ℕ → ℕ → Traced Config End
-trace_on script m steps sleeps = joined (move m.amx script) steps (replicate sleeps steps) (begun m.state)
+trace_on script m steps sleeps =
+    joined (move m.amx script) steps (replicate sleeps steps) (begun m.state)
 
 -- the lines of what was shown, and that of an end
 abbrev pub told_text : Traced Config End → List ℕ

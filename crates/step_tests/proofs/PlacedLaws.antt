@@ -1,5 +1,6 @@
 -- Registers that stand over the memory of a file that was loaded.
-use Rattle.std.proofs.Common.{◌≡◌, ◌+◌, ◌*◌, ◌%◌, ◌≤◌, pos, length, replicate, sym, subst, arith, length-append}
+use Rattle.std.proofs.Common.{◌≡◌, ◌+◌, ◌*◌, ◌%◌, ◌≤◌, pos, length, replicate, sym, subst, arith}
+use Rattle.std.proofs.Common.{length-append}
 use Rattle.std.proofs.lemmas.List.{length-replicate}
 use Rattle.pawn_cells.specs.Cells.{bits_of}
 use Rattle.amx_ops.specs.declared.amx.Amx.{Amx}
@@ -10,7 +11,8 @@ use Rattle.amx_effects.specs.Hosting.{AreInOrder, cleared}
 
 in_order : (amx : Amx) (r : Registers) → bits_of r.hea % 4 ≡ 0 → bits_of r.stk % 4 ≡ 0
     → 4 * length amx.store ≤ bits_of r.hea → bits_of r.hea ≤ bits_of r.stk
-    → bits_of r.stk ≤ 4 * length amx.store + 4 * amx.room → AreInOrder amx (cleared r (loaded amx amx.room))
+    → bits_of r.stk ≤ 4 * length amx.store + 4 * amx.room
+    → AreInOrder amx (cleared r (loaded amx amx.room))
 in_order amx r hea stk first order top = record {
   whole = (hea, stk);
   order = (
@@ -26,9 +28,11 @@ in_order amx r hea stk first order top = record {
   );
 }
 
-pub placed : (m : Machine) (amx : Amx) (r : Registers) → m ≡ record { amx = amx; state = loaded amx amx.room }
+pub placed : (m : Machine) (amx : Amx) (r : Registers)
+    → m ≡ record { amx = amx; state = loaded amx amx.room }
     → bits_of r.hea % 4 ≡ 0 → bits_of r.stk % 4 ≡ 0
     → 4 * length amx.store ≤ bits_of r.hea → bits_of r.hea ≤ bits_of r.stk
     → bits_of r.stk ≤ 4 * length amx.store + 4 * amx.room → AreInOrder m.amx (cleared r m.state)
 placed m amx r is hea stk first order top =
-    subst (λ (q : Machine). AreInOrder q.amx (cleared r q.state)) (sym is) (in_order amx r hea stk first order top)
+    subst (λ (q : Machine). AreInOrder q.amx (cleared r q.state)) (sym is)
+    (in_order amx r hea stk first order top)

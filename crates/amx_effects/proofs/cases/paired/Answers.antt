@@ -10,5 +10,6 @@ loop-done-preserved c =
     let others = c.in-Some-split_first.others.now in
     let is : c.loop-done.rest.now ≡ found ∷ address ∷ others = search rules in
     let other : equal found (to_z w32 (of_z w32 c.args.value)) ≡ false = search rules in
-    pair_next c.loop-done.rest.now (to_z w32 (of_z w32 c.args.value)) c.args.count c.loop-done.done c.args.other _ c.loop-done-test.true c.loop-done.invariant
+    pair_next c.loop-done.rest.now (to_z w32 (of_z w32 c.args.value)) c.args.count c.loop-done.done
+    c.args.other _ c.loop-done-test.true c.loop-done.invariant
     found address others is other

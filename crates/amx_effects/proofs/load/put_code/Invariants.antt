@@ -3,7 +3,8 @@ use Rattle.amx_effects.proofs.load.put_code.Given as goal
 
 abbrev pub invariant-loop-place : goal.invariant-loop-place
 invariant-loop-place l = record {
-  done : (k : ℕ) → k < l.place → slice_index_or l.block.code k (pos 0) ≡ slice_index_or l.code k (pos 0);
+  done : (k : ℕ) → k < l.place → slice_index_or l.block.code k (pos 0)
+      ≡ slice_index_or l.code k (pos 0);
   count : length l.block.code ≡ length l.code;
   memory : l.block.memory ≡ l.initial.block.memory;
   store : l.block.store ≡ l.initial.block.store;

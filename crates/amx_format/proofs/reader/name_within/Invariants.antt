@@ -3,4 +3,5 @@ use Rattle.std.specs.Prelude.{All}
 use Rattle.amx_format.proofs.reader.name_within.Given as goal
 
 abbrev pub invariant-loop-index : goal.invariant-loop-index
-invariant-loop-index l = record { none : All (λ byte. byte ≢ 0) (take l.index l.text); few : l.index ≤ l.most }
+invariant-loop-index l =
+    record { none : All (λ byte. byte ≢ 0) (take l.index l.text); few : l.index ≤ l.most }

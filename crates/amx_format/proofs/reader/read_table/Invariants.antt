@@ -4,4 +4,5 @@ use Rattle.amx_format.proofs.reader.read_table.Given as goal
 
 abbrev pub invariant-loop-index : goal.invariant-loop-index
 invariant-loop-index l =
-    l.records ++ records_at l.bytes (l.first + 8 * l.index) ((l.past - l.first) / 8 - l.index) ≡ table_at l.bytes l.first l.past
+    l.records ++ records_at l.bytes (l.first + 8 * l.index) ((l.past - l.first) / 8 - l.index)
+    ≡ table_at l.bytes l.first l.past

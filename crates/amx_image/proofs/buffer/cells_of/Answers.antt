@@ -9,5 +9,6 @@ returns-clause-count c =
     let m = c.args.machine.now in
     let stk = ap (λ r. bits_of r.stk) c.registers-stk.ensures.value in
     let bits : c.cast_unsigned.result ≡ bits_of c.registers-stk.result.stk = search rules in
-    let part : c.live_from.result.now ≡ live_from m.state (bits_of c.registers-stk.result.stk) = search rules in
+    let part : c.live_from.result.now ≡ live_from m.state (bits_of c.registers-stk.result.stk) =
+    search rules in
     count_is m c.registers-stk.ensures.kept _ _ (bits ∙ stk) (part ∙ ap (live_from m.state) stk)

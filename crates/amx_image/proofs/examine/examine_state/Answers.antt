@@ -10,8 +10,10 @@ returns-then-not-has_cells c =
     let hea : c.cast_unsigned-hea.result ≡ bits_of r.hea = search rules in
     let stk : c.cast_unsigned-stk.result ≡ bits_of r.stk = search rules in
     let cip : c.cast_unsigned.result ≡ bits_of r.cip = search rules in
-    state_told c.args.verified.now c.args.count c.args.version r c.args.bytes.now _ _ _ _ hea stk cip
-    c.if-not-is_heap.ensures c.if-not-is_stack.ensures.is c.if-not-starts_at.ensures.is c.if-not-has_cells.ensures
+    state_told c.args.verified.now c.args.count c.args.version r c.args.bytes.now _ _ _ _
+    hea stk cip
+    c.if-not-is_heap.ensures c.if-not-is_stack.ensures.is c.if-not-starts_at.ensures.is
+    c.if-not-has_cells.ensures
     ∙ search rules
 
 pub returns : goal.returns
@@ -20,5 +22,7 @@ returns c =
     let hea : c.cast_unsigned-hea.result ≡ bits_of r.hea = search rules in
     let stk : c.cast_unsigned-stk.result ≡ bits_of r.stk = search rules in
     let cip : c.cast_unsigned.result ≡ bits_of r.cip = search rules in
-    state_told c.args.verified.now c.args.count c.args.version r c.args.bytes.now _ _ _ _ hea stk cip
-    c.if-not-is_heap.ensures c.if-not-is_stack.ensures.is c.if-not-starts_at.ensures.is c.if-not-has_cells.ensures
+    state_told c.args.verified.now c.args.count c.args.version r c.args.bytes.now _ _ _ _
+    hea stk cip
+    c.if-not-is_heap.ensures c.if-not-is_stack.ensures.is c.if-not-starts_at.ensures.is
+    c.if-not-has_cells.ensures

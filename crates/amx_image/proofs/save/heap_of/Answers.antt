@@ -11,4 +11,5 @@ returns c =
     let bits : c.cast_unsigned-count.result ≡ bits_of c.registers.result.hea = search rules in
     let count = bits ∙ ap (λ r. bits_of r.hea) c.registers.ensures.value ∙ hea_back m k in
     let part : c.live_from.result.now ≡ live_from m.state 0 = search rules in
-    ap (λ n. take (n / 4) c.live_from.result.now) count ∙ ap (take (m.state.hea / 4)) part ∙ heap_is m k
+    ap (λ n. take (n / 4) c.live_from.result.now) count ∙ ap (take (m.state.hea / 4)) part
+    ∙ heap_is m k

@@ -12,19 +12,40 @@ pub put_cells-requires : goal.put_cells-requires
 put_cells-requires c =
     let m = c.args.machine.now in
     let r = c.registers-registers in
-    let part : c.live_from-stack.result.now ≡ live_from m.state (bits_of r.result.stk) = search rules in
-    let stack = part ∙ ap (λ q. live_from m.state (bits_of q.stk)) r.ensures.value ∙ stack_is m r.ensures.kept in
+    let part : c.live_from-stack.result.now ≡ live_from m.state (bits_of r.result.stk) =
+    search rules in
+    let stack =
+    part ∙ ap (λ q. live_from m.state (bits_of q.stk)) r.ensures.value
+    ∙ stack_is m r.ensures.kept in
     let room = ap (λ b. b.room) c.put_front.ensures.bytes in
-    omega (arith, room, c.put_front.ensures.size, c.requires.room, live_fit m r.ensures.kept _ _ c.heap_of-heap.ensures stack)
+    omega (
+      arith,
+      room,
+      c.put_front.ensures.size,
+      c.requires.room,
+      live_fit m r.ensures.kept _ _ c.heap_of-heap.ensures stack,
+    )
 
 pub put_cells-requires-2 : goal.put_cells-requires-2
 put_cells-requires-2 c =
     let m = c.args.machine.now in
     let r = c.registers-registers in
-    let part : c.live_from-stack.result.now ≡ live_from m.state (bits_of r.result.stk) = search rules in
-    let stack = part ∙ ap (λ q. live_from m.state (bits_of q.stk)) r.ensures.value ∙ stack_is m r.ensures.kept in
-    let room = ap (λ b. b.room) c.put_cells.ensures.bytes ∙ ap (λ b. b.room) c.put_front.ensures.bytes in
-    omega (arith, room, c.put_front.ensures.size, c.put_cells.ensures.size, c.requires.room, live_fit m r.ensures.kept _ _ c.heap_of-heap.ensures stack)
+    let part : c.live_from-stack.result.now ≡ live_from m.state (bits_of r.result.stk) =
+    search rules in
+    let stack =
+    part ∙ ap (λ q. live_from m.state (bits_of q.stk)) r.ensures.value
+    ∙ stack_is m r.ensures.kept in
+    let room =
+    ap (λ b. b.room) c.put_cells.ensures.bytes
+    ∙ ap (λ b. b.room) c.put_front.ensures.bytes in
+    omega (
+      arith,
+      room,
+      c.put_front.ensures.size,
+      c.put_cells.ensures.size,
+      c.requires.room,
+      live_fit m r.ensures.kept _ _ c.heap_of-heap.ensures stack,
+    )
 
 pub returns-clause-image : goal.returns-clause-image
 returns-clause-image c =
@@ -33,12 +54,17 @@ returns-clause-image c =
     let heap = c.heap_of-heap.result.now in
     let stack = c.live_from-stack.result.now in
     let part : stack ≡ live_from m.state (bits_of r.result.stk) = search rules in
-    let is_stack = part ∙ ap (λ q. live_from m.state (bits_of q.stk)) r.ensures.value ∙ stack_is m r.ensures.kept in
+    let is_stack =
+    part ∙ ap (λ q. live_from m.state (bits_of q.stk)) r.ensures.value
+    ∙ stack_is m r.ensures.kept in
     let few : length m.state.cells < 2 ^ 32 = omega (arith, c.cells_of.ensures.few) in
     let is =
     ap (λ b. b.bytes) c.put_cells-2.ensures.bytes
     ∙ ap (λ b. b.bytes ++ cells stack) c.put_cells.ensures.bytes
     ∙ ap (λ b. b.bytes ++ cells heap ++ cells stack) c.put_front.ensures.bytes
-    ∙ ap (λ n. spelled r.result c.args.at n c.args.digest.now heap stack) c.cells_of.ensures.count in
+    ∙ ap (λ n. spelled r.result c.args.at n c.args.digest.now heap stack)
+    c.cells_of.ensures.count in
     subst (λ bytes. IsImage Live m.state c.args.at c.args.digest.now bytes) (sym is)
-    (spelled_is_image m.state c.args.at c.args.digest.now r.result heap stack c.told-digest c.ranges.at.fits few r.ensures.value c.put_front.ensures.fits c.put_cells.ensures.fits c.put_cells-2.ensures.fits c.heap_of-heap.ensures is_stack)
+    (spelled_is_image m.state c.args.at c.args.digest.now r.result heap stack c.told-digest
+    c.ranges.at.fits few r.ensures.value c.put_front.ensures.fits c.put_cells.ensures.fits
+    c.put_cells-2.ensures.fits c.heap_of-heap.ensures is_stack)

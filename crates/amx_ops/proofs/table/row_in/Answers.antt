@@ -10,7 +10,8 @@ returns-then-from-cell c =
     let bits = rw (to_z-of_z w32 c.args.cell f) at c.cast_unsigned.ensures in
     row_kept c.args.rows.now _ c.args.cell c.place_of.result c.requires c.place_of.ensures.within
     (λ k row e h. c.place_of.ensures.place k row e (h ∙ sym bits))
-    (sym c.from.ensures ∙ sym (to_z-of_z w32 c.from.result g) ∙ ap (to_z w32) c.if-from-cell.true ∙ to_z-of_z w32 c.args.cell f)
+    (sym c.from.ensures ∙ sym (to_z-of_z w32 c.from.result g) ∙ ap (to_z w32) c.if-from-cell.true
+    ∙ to_z-of_z w32 c.args.cell f)
 
 pub returns-else-from-cell : goal.returns-else-from-cell
 returns-else-from-cell c =

@@ -15,6 +15,10 @@ returns-in-24 c =
     let is : c.args.number ≡ pos 24 = search rules in
     let fits : FitsSigned w32 c.operand-v-in-24.result = search rules in
     let done = rw (to_z-of_z w32 c.operand-v-in-24.result fits) at c.store_bytes.ensures in
-    let at_cell = subst (λ (v : ℤ). IsTurn (act m.amx op.StrbI v c.behind-q-in-24.result m.state) m turn new) c.operand-v-in-24.ensures done in
-    let at_next = subst (λ (q : ℕ). IsTurn (act m.amx op.StrbI (next_cell m) q m.state) m turn new) c.behind-q-in-24.ensures at_cell in
+    let at_cell =
+    subst (λ (v : ℤ). IsTurn (act m.amx op.StrbI v c.behind-q-in-24.result m.state) m turn
+    new) c.operand-v-in-24.ensures done in
+    let at_next =
+    subst (λ (q : ℕ). IsTurn (act m.amx op.StrbI (next_cell m) q m.state) m turn new)
+    c.behind-q-in-24.ensures at_cell in
     subst (λ (n : ℤ). IsDone (group 14 10 n) m (Some turn) new) (sym is) (refl, at_next)

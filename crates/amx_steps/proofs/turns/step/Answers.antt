@@ -11,8 +11,11 @@ act-requires-clause-ready c =
     let starts : c.is_start.result ≡ true = search rules in
     let fits : FitsSigned w32 c.code-number.result = search rules in
     rw (to_z-of_z w32 c.code-number.result fits)
-    (ready_met m c.code-number.result m.amx.entry (map (λ (it : Record). it.address) m.amx.publics) c.cip-cip.result c.cip-cip.ensures c.amx.ensures.valid
-    (c.is_start.ensures.within starts) (sym c.is_start.ensures.is ∙ starts) (c.is_start.ensures.here starts) c.code-number.ensures)
+    (ready_met m c.code-number.result m.amx.entry
+    (map (λ (it : Record). it.address) m.amx.publics) c.cip-cip.result c.cip-cip.ensures
+    c.amx.ensures.valid
+    (c.is_start.ensures.within starts) (sym c.is_start.ensures.is ∙ starts)
+    (c.is_start.ensures.here starts) c.code-number.ensures)
 
 pub returns : goal.returns
 returns c =
@@ -21,5 +24,8 @@ returns c =
     let fits : FitsSigned w32 c.code-number.result = search rules in
     let done = rw (to_z-of_z w32 c.code-number.result fits) at c.act.ensures in
     subst (λ t. IsTurn t m c.act.result c.act.new.machine)
-    (sym (step_met m c.code-number.result m.amx.entry (map (λ (it : Record). it.address) m.amx.publics) c.cip-cip.result c.cip-cip.ensures c.amx.ensures.valid
-    (c.is_start.ensures.within starts) (sym c.is_start.ensures.is ∙ starts) (c.is_start.ensures.here starts) c.code-number.ensures)) done
+    (sym (step_met m c.code-number.result m.amx.entry
+    (map (λ (it : Record). it.address) m.amx.publics) c.cip-cip.result c.cip-cip.ensures
+    c.amx.ensures.valid
+    (c.is_start.ensures.within starts) (sym c.is_start.ensures.is ∙ starts)
+    (c.is_start.ensures.here starts) c.code-number.ensures)) done

@@ -11,12 +11,15 @@ loop-place-init c = record { done = append-nil (hexadecimal 8 c.args.at); size =
 pub loop-place-preserved : goal.loop-place-preserved
 loop-place-preserved c = record {
   done =
-      digit_more c.loop-place.digits (address_text c.args.at) c.loop-place.place c.loop-place.rest c.loop-place.invariant.done
-      c.hexadecimal_digit.result c.loop-place-test.true c.loop-place.invariant.size c.hexadecimal_digit.ensures;
+      digit_more c.loop-place.digits (address_text c.args.at) c.loop-place.place c.loop-place.rest
+      c.loop-place.invariant.done
+      c.hexadecimal_digit.result c.loop-place-test.true c.loop-place.invariant.size
+      c.hexadecimal_digit.ensures;
   size = search (rules, common_steps, c.loop-place.invariant.size);
 }
 
 pub returns : goal.returns
 returns c =
-    digits_done c.loop-place.digits (address_text c.args.at) c.loop-place.place c.loop-place.rest c.loop-place.invariant.done
+    digits_done c.loop-place.digits (address_text c.args.at) c.loop-place.place c.loop-place.rest
+    c.loop-place.invariant.done
     (omega (arith, c.loop-place-test.false))

@@ -7,11 +7,14 @@ use Rattle.amx_text.proofs.line.name_of.Goals as goal
 pub returns-in-Some : goal.returns-in-Some
 returns-in-Some c =
     let fits : FitsSigned w32 c.from.result = search rules in
-    let is : to_z w32 (of_z w32 c.from.result) ≡ pos c.args.number = to_z-of_z w32 c.from.result fits ∙ c.from.ensures in
-    c.name_in_table.ensures ∙ name_at (pos c.args.number) c.in-Some.op (ap (λ z. op_by (row_at z)) (sym is) ∙ sym c.in-Some.ensures)
+    let is : to_z w32 (of_z w32 c.from.result) ≡ pos c.args.number =
+    to_z-of_z w32 c.from.result fits ∙ c.from.ensures in
+    c.name_in_table.ensures ∙ name_at (pos c.args.number) c.in-Some.op
+    (ap (λ z. op_by (row_at z)) (sym is) ∙ sym c.in-Some.ensures)
 
 pub returns-in-None : goal.returns-in-None
 returns-in-None c =
     let fits : FitsSigned w32 c.from.result = search rules in
-    let is : to_z w32 (of_z w32 c.from.result) ≡ pos c.args.number = to_z-of_z w32 c.from.result fits ∙ c.from.ensures in
+    let is : to_z w32 (of_z w32 c.from.result) ≡ pos c.args.number =
+    to_z-of_z w32 c.from.result fits ∙ c.from.ensures in
     no_name (pos c.args.number) (ap (λ z. op_by (row_at z)) (sym is) ∙ sym c.in-None.ensures)

@@ -9,11 +9,13 @@ pub returns-in_err-say : goal.returns-in_err-say
 returns-in_err-say g c =
     let cells = cells_line c.args.cells.now in
     let is = err_from_is_err_and c.from_residual.result c.from_residual.ensures.1 in
-    said_as (ap (λ a. (a ++ []) ++ cells) c.address.ensures ∙ data_parts (address_text c.args.at) cells)
+    said_as (ap (λ a. (a ++ []) ++ cells) c.address.ensures
+    ∙ data_parts (address_text c.args.at) cells)
     (said_cut cells c.from_residual.result is.1 c.in_err-say.ensures)
 
 pub returns : goal.returns
 returns g c =
     let cells = cells_line c.args.cells.now in
-    said_as (ap (λ a. (a ++ []) ++ cells) c.address.ensures ∙ data_parts (address_text c.args.at) cells)
+    said_as (ap (λ a. (a ++ []) ++ cells) c.address.ensures
+    ∙ data_parts (address_text c.args.at) cells)
     (said_then c.in_ok-say.ensures c.say_cells.ensures)

@@ -12,7 +12,8 @@ returns-in_err-say g c =
     let name = name_by (row_of c.args.number) in
     let is = err_from_is_err_and c.from_residual.result c.from_residual.ensures.1 in
     said_as (ap (λ a. (a ++ (32 ∷ (c.as_bytes.result.now ++ []))) ++ cells) c.address.ensures
-    ∙ ap (λ n. (address_text c.args.at ++ (32 ∷ (n ++ []))) ++ cells) (c.as_bytes.ensures.value ∙ c.name_of.ensures)
+    ∙ ap (λ n. (address_text c.args.at ++ (32 ∷ (n ++ []))) ++ cells)
+    (c.as_bytes.ensures.value ∙ c.name_of.ensures)
     ∙ instruction_parts (address_text c.args.at) name cells)
     (said_cut cells c.from_residual.result is.1 c.in_err-say.ensures)
 
@@ -21,6 +22,7 @@ returns g c =
     let cells = cells_line c.args.operands.now in
     let name = name_by (row_of c.args.number) in
     said_as (ap (λ a. (a ++ (32 ∷ (c.as_bytes.result.now ++ []))) ++ cells) c.address.ensures
-    ∙ ap (λ n. (address_text c.args.at ++ (32 ∷ (n ++ []))) ++ cells) (c.as_bytes.ensures.value ∙ c.name_of.ensures)
+    ∙ ap (λ n. (address_text c.args.at ++ (32 ∷ (n ++ []))) ++ cells)
+    (c.as_bytes.ensures.value ∙ c.name_of.ensures)
     ∙ instruction_parts (address_text c.args.at) name cells)
     (said_then c.in_ok-say.ensures c.say_cells.ensures)

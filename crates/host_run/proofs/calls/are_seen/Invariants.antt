@@ -7,4 +7,5 @@ abbrev pub invariant-loop-index : goal.invariant-loop-index
 invariant-loop-index l =
     let form = form_at l.guest.forms.now l.guest.rest in
     let values = arguments_of l.machine.state in
-    all_seen l.machine.state form l.index (drop l.index values) ≡ all_seen l.machine.state form 0 values
+    all_seen l.machine.state form l.index (drop l.index values)
+    ≡ all_seen l.machine.state form 0 values

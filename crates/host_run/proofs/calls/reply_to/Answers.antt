@@ -6,7 +6,8 @@ use Rattle.host_run.proofs.calls.reply_to.Goals as goal
 pub returns-then-not-are_seen : goal.returns-then-not-are_seen
 returns-then-not-are_seen c = λ name.
     let guest = c.args.guest.now in
-    not_seen c.args.script.now guest.forms.now guest.rest guest.result name c.args.machine.now.state c.args.at.now c.in-Some.count
+    not_seen c.args.script.now guest.forms.now guest.rest guest.result name c.args.machine.now.state
+    c.args.at.now c.in-Some.count
     (sym c.in-Some.ensures) (sym c.if-not-takes.ensures) (sym c.if-not-are_seen.ensures)
 
 pub returns-in-Err : goal.returns-in-Err
@@ -14,15 +15,19 @@ returns-in-Err c = λ name.
     let guest = c.args.guest.now in
     let fits : FitsSigned w32 c.in-Err.code = search rules in
     rw (to_z-of_z w32 c.in-Err.code fits, c.in-Err.ensures.position)
-    (an_error c.args.script.now guest.forms.now guest.rest guest.result name c.args.machine.now.state c.args.at.now c.in-Some.count
-    (sym c.in-Some.ensures) (sym c.if-not-takes.ensures) (sym c.if-not-are_seen.ensures) c.in-Err.code c.in-Err.ensures.answer)
+    (an_error c.args.script.now guest.forms.now guest.rest guest.result name
+    c.args.machine.now.state c.args.at.now c.in-Some.count
+    (sym c.in-Some.ensures) (sym c.if-not-takes.ensures)
+    (sym c.if-not-are_seen.ensures) c.in-Err.code c.in-Err.ensures.answer)
 
 pub returns-then-not-may_write : goal.returns-then-not-may_write
 returns-then-not-may_write c = λ name.
     let guest = c.args.guest.now in
     rw c.in-Ok.ensures.position
-    (not_allowed c.args.script.now guest.forms.now guest.rest guest.result name c.args.machine.now.state c.args.at.now c.in-Some.count
-    (sym c.in-Some.ensures) (sym c.if-not-takes.ensures) (sym c.if-not-are_seen.ensures) c.in-Ok.result c.in-Ok.writes.now c.in-Ok.ensures.answer
+    (not_allowed c.args.script.now guest.forms.now guest.rest guest.result name
+    c.args.machine.now.state c.args.at.now c.in-Some.count
+    (sym c.in-Some.ensures) (sym c.if-not-takes.ensures)
+    (sym c.if-not-are_seen.ensures) c.in-Ok.result c.in-Ok.writes.now c.in-Ok.ensures.answer
     (sym c.if-not-may_write.ensures))
 
 pub returns-else-not-may_write : goal.returns-else-not-may_write
@@ -30,6 +35,8 @@ returns-else-not-may_write c = λ name.
     let guest = c.args.guest.now in
     let fits : FitsSigned w32 c.in-Ok.result = search rules in
     rw (to_z-of_z w32 c.in-Ok.result fits, c.in-Ok.ensures.position)
-    (answered_so c.args.script.now guest.forms.now guest.rest guest.result name c.args.machine.now.state c.args.at.now c.in-Some.count
-    (sym c.in-Some.ensures) (sym c.if-not-takes.ensures) (sym c.if-not-are_seen.ensures) c.in-Ok.result c.in-Ok.writes.now c.in-Ok.ensures.answer
+    (answered_so c.args.script.now guest.forms.now guest.rest guest.result name
+    c.args.machine.now.state c.args.at.now c.in-Some.count
+    (sym c.in-Some.ensures) (sym c.if-not-takes.ensures)
+    (sym c.if-not-are_seen.ensures) c.in-Ok.result c.in-Ok.writes.now c.in-Ok.ensures.answer
     (sym c.if-not-may_write.ensures))

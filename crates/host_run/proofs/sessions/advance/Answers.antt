@@ -12,7 +12,8 @@ use Rattle.host_run.proofs.sessions.advance.Goals as goal
 
 pub returns-in-Going-clause-advances : goal.returns-in-Going-clause-advances
 returns-in-Going-clause-advances g c =
-    rw c.in-Going.is (nothing (λ before. refl) (rw c.in-Going.is at c.requires.behind) (said_nothing c.args.out.now))
+    rw c.in-Going.is (nothing (λ before. refl) (rw c.in-Going.is at c.requires.behind)
+    (said_nothing c.args.out.now))
 
 pub returns-in-Some-clause-advances : goal.returns-in-Some-clause-advances
 returns-in-Some-clause-advances g c =
@@ -25,11 +26,17 @@ returns-in-Some-clause-advances g c =
     let s = c.args.machine.now.state in
     let at = c.args.at.now in
     let behind = rw c.in-Halt.is at c.requires.behind in
-    let over = rw (to_z-of_z w32 code code_fits, to_z-of_z w32 pri pri_fits, to_z-of_z w32 alt alt_fits) at c.in-Some.ensures in
+    let over =
+    rw (
+      to_z-of_z w32 code code_fits,
+      to_z-of_z w32 pri pri_fits,
+      to_z-of_z w32 alt alt_fits,
+    ) at c.in-Some.ensures in
     rw c.in-Halt.is
     (ends c.in-Some.end c.over.result
     (λ before. (over s (placed s at before) (sym behind.0) (sym behind.1)).0)
-    (subst (IsEnded c.in-Some.end) (sym behind.2) (over s (placed s at []) (sym behind.0) (sym behind.1)).1)
+    (subst (IsEnded c.in-Some.end) (sym behind.2)
+    (over s (placed s at []) (sym behind.0) (sym behind.1)).1)
     c.over.ensures.answer c.over.ensures.text)
 
 pub returns-in-None-clause-advances : goal.returns-in-None-clause-advances
@@ -56,5 +63,7 @@ returns-in-Error-clause-advances g c =
     let code = c.in-Error.code in
     let fits : FitsSigned w32 code = search rules in
     rw c.in-Error.is
-    (ends (end.Error code) c.over-in-Error.result (λ before. refl) (inr (rw c.in-Error.is at c.requires.behind))
-    (rw (to_z-of_z w32 code fits) at c.over-in-Error.ensures.answer) (rw (to_z-of_z w32 code fits) at c.over-in-Error.ensures.text))
+    (ends (end.Error code) c.over-in-Error.result (λ before. refl)
+    (inr (rw c.in-Error.is at c.requires.behind))
+    (rw (to_z-of_z w32 code fits) at c.over-in-Error.ensures.answer)
+    (rw (to_z-of_z w32 code fits) at c.over-in-Error.ensures.text))

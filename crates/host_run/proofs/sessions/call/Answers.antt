@@ -1,4 +1,5 @@
-use Rattle.std.proofs.Common.{rules, w32, FitsSigned, All, ◌<◌, None, Some, inl, inr, map, unwrap_or, refl, sym, ap, subst}
+use Rattle.std.proofs.Common.{rules, w32, FitsSigned, All, ◌<◌, None, Some, inl, inr, map}
+use Rattle.std.proofs.Common.{unwrap_or, refl, sym, ap, subst}
 use Rattle.std.proofs.lemmas.Int.{to_z-of_z}
 use Rattle.host_script.specs.declared.event.Event.TheVariants as event
 use Rattle.host_script.specs.declared.event.End.TheVariants as end
@@ -18,7 +19,8 @@ say_call-said-requires-clause-visible g c = (c.in-Ok.ensures c.args.name.now).vi
 pub write_all-requires-clause-there : goal.write_all-requires-clause-there
 write_all-requires-clause-there g c =
     let is = c.in-Ok.ensures c.args.name.now in
-    subst (λ n. All (λ write. write.arg < n) c.in-Ok.reply.writes.now) (sym (ap (λ o. unwrap_or o 0) is.counted)) is.there
+    subst (λ n. All (λ write. write.arg < n) c.in-Ok.reply.writes.now)
+    (sym (ap (λ o. unwrap_or o 0) is.counted)) is.there
 
 pub write_all-requires-clause-room : goal.write_all-requires-clause-room
 write_all-requires-clause-room g c = (c.in-Ok.ensures c.args.name.now).room
@@ -31,8 +33,10 @@ returns-in-Err-clause-advances g c =
     let name = c.args.name.now in
     rw (c.fail.ensures, to_z-of_z w32 code fits)
     (ends (end.Error code) c.over.result
-    (λ before. asked_is c.args.script.now name c.args.guest.now c.requires.guest place before _ (c.in-Err.ensures name))
-    (inr refl) (rw (to_z-of_z w32 code fits) at c.over.ensures.answer) (rw (to_z-of_z w32 code fits) at c.over.ensures.text))
+    (λ before. asked_is c.args.script.now name c.args.guest.now c.requires.guest place before _
+    (c.in-Err.ensures name))
+    (inr refl) (rw (to_z-of_z w32 code fits) at c.over.ensures.answer)
+    (rw (to_z-of_z w32 code fits) at c.over.ensures.text))
 
 pub returns-in-Ok-said-clause-advances : goal.returns-in-Ok-said-clause-advances
 returns-in-Ok-said-clause-advances g c =
@@ -44,8 +48,10 @@ returns-in-Ok-said-clause-advances g c =
     let form = form_at c.args.guest.now.forms.now c.args.guest.now.rest in
     let called = (c.in-Ok.ensures name).answers in
     rw (c.answer.ensures, c.write_all.ensures, to_z-of_z w32 result fits)
-    (answers (event.Native name (map (λ it. it.seen) (sought s form 0 (arguments_of s))) result) None (inl refl)
-    (λ before. asked_is c.args.script.now name c.args.guest.now c.requires.guest place before _ called)
+    (answers (event.Native name (map (λ it. it.seen) (sought s form 0 (arguments_of s))) result)
+    None (inl refl)
+    (λ before. asked_is c.args.script.now name c.args.guest.now c.requires.guest place before
+    _ called)
     refl (rw (to_z-of_z w32 result fits) at c.in-Ok-said.ensures))
 
 pub returns-in-Err-said-clause-advances : goal.returns-in-Err-said-clause-advances
@@ -58,6 +64,8 @@ returns-in-Err-said-clause-advances g c =
     let form = form_at c.args.guest.now.forms.now c.args.guest.now.rest in
     let called = (c.in-Ok.ensures name).answers in
     rw (c.answer.ensures, c.write_all.ensures, to_z-of_z w32 result fits)
-    (answers (event.Native name (map (λ it. it.seen) (sought s form 0 (arguments_of s))) result) (Some answer.SinkFault) (inr refl)
-    (λ before. asked_is c.args.script.now name c.args.guest.now c.requires.guest place before _ called)
+    (answers (event.Native name (map (λ it. it.seen) (sought s form 0 (arguments_of s))) result)
+    (Some answer.SinkFault) (inr refl)
+    (λ before. asked_is c.args.script.now name c.args.guest.now c.requires.guest place before
+    _ called)
     refl (rw (to_z-of_z w32 result fits) at c.in-Err-said.ensures))

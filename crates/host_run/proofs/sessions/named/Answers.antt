@@ -11,7 +11,10 @@ returns-in-None c = λ natives all. (
 
 pub returns-in-Some : goal.returns-in-Some
 returns-in-Some c = λ natives all.
-    let both = named_some c.args.script.now natives c.args.bound.now c.args.number all c.in-Some.native.now c.in-Some.ensures in (
+    let both =
+    named_some c.args.script.now natives c.args.bound.now c.args.number all
+    c.in-Some.native.now c.in-Some.ensures in (
       c.as_slice.ensures ∙ both.0,
-      subst (λ name. IsGuest c.args.script.now name c.guest_at-in-Some.result) (sym c.as_slice.ensures) (c.guest_at-in-Some.ensures c.in-Some.native.now.name both.1),
+      subst (λ name. IsGuest c.args.script.now name c.guest_at-in-Some.result)
+          (sym c.as_slice.ensures) (c.guest_at-in-Some.ensures c.in-Some.native.now.name both.1),
     )

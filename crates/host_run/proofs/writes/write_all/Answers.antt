@@ -1,4 +1,6 @@
-use Rattle.std.proofs.Common.{◌≡◌, ◌+◌, ◌-◌, ◌<◌, ◌≤◌, ◌∙◌, ◌∷◌, ◌++◌, [], ℤ, List, Option, All, get_or, take, drop, length, option_map, unwrap_or, sym, ap, subst, arith, length-drop}
+use Rattle.std.proofs.Common.{◌≡◌, ◌+◌, ◌-◌, ◌<◌, ◌≤◌, ◌∙◌, ◌∷◌, ◌++◌, [], ℤ, List, Option, All}
+use Rattle.std.proofs.Common.{get_or, take, drop, length, option_map, unwrap_or, sym, ap, subst}
+use Rattle.std.proofs.Common.{arith, length-drop}
 use Rattle.std.proofs.lemmas.List.{take_all, take_more, take-append-drop}
 use Rattle.host_script.specs.declared.script.Write.{Write}
 use Rattle.amx_ops.specs.Moves.{arguments}
@@ -14,11 +16,17 @@ loop-index-preserved c =
     let writes = c.args.writes.now in
     let l = c.loop-index in
     let x = c.index-writes-index in
-    let w = subst (λ b. WritesApart x.result l.machine b c.write_apart.new.machine) c.if-not-write_apart.false c.write_apart.ensures in
+    let w =
+    subst (λ b. WritesApart x.result l.machine b c.write_apart.new.machine)
+    c.if-not-write_apart.false c.write_apart.ensures in
     let more : take l.index writes ++ x.result ∷ [] ≡ take (l.index + 1) writes =
-    ap (λ y. take l.index writes ++ y ∷ []) x.is ∙ sym (take_more writes l.index x.result c.loop-index-test.true) in
+    ap (λ y. take l.index writes ++ y ∷ []) x.is
+    ∙ sym (take_more writes l.index x.result c.loop-index-test.true) in
     record {
-      done = w.0 ∙ written_behind old l.machine (take l.index writes) (x.result ∷ []) l.invariant.done l.invariant.arguments ∙ ap (λ ws. written ws old) more;
+      done =
+          w.0 ∙ written_behind old l.machine (take l.index writes)
+          (x.result ∷ []) l.invariant.done l.invariant.arguments
+          ∙ ap (λ ws. written ws old) more;
       arguments = w.1 ∙ l.invariant.arguments;
     }
 
@@ -26,9 +34,12 @@ pub write_apart-requires-clause-there : goal.write_apart-requires-clause-there
 write_apart-requires-clause-there c =
     let l = c.loop-index in
     let x = c.index-writes-index in
-    let count = ap (λ (o : Option (List ℤ)). unwrap_or (option_map length o) 0) l.invariant.arguments in
-    subst (λ (w : Write). w.arg < unwrap_or (option_map length (arguments l.machine.state)) 0) (sym x.is)
-    (subst (λ n. (get_or c.args.writes.now l.index x.result).arg < n) (sym count) (c.requires.there l.index x.result c.loop-index-test.true))
+    let count =
+    ap (λ (o : Option (List ℤ)). unwrap_or (option_map length o) 0) l.invariant.arguments in
+    subst (λ (w : Write). w.arg < unwrap_or (option_map length (arguments l.machine.state)) 0)
+    (sym x.is)
+    (subst (λ n. (get_or c.args.writes.now l.index x.result).arg < n) (sym count)
+    (c.requires.there l.index x.result c.loop-index-test.true))
 
 pub write_apart-requires-clause-room : goal.write_apart-requires-clause-room
 write_apart-requires-clause-room c =
@@ -38,7 +49,8 @@ write_apart-requires-clause-room c =
     let x = c.index-writes-index in
     let P : Write → Type 0 = IsRoomFor old.state (arguments_of old.state) in
     let less : l.index ≤ length writes = omega (arith, c.loop-index-test.true) in
-    still_room old l.machine (take l.index writes) l.invariant.done l.invariant.arguments (all_taken P writes l.index less c.requires.room) x.result
+    still_room old l.machine (take l.index writes) l.invariant.done l.invariant.arguments
+    (all_taken P writes l.index less c.requires.room) x.result
     (subst P (sym x.is) (c.requires.room l.index x.result c.loop-index-test.true))
 
 pub write_rest-requires-clause-there : goal.write_rest-requires-clause-there
@@ -47,13 +59,19 @@ write_rest-requires-clause-there c =
     let writes = c.args.writes.now in
     let l = c.loop-index in
     let now = c.write_apart.new.machine in
-    let same : now ≡ l.machine = subst (λ b. WritesApart c.index-writes-index.result l.machine b now) c.if-not-write_apart.true c.write_apart.ensures in
-    let args : arguments now.state ≡ arguments old.state = ap (λ (m : Machine). arguments m.state) same ∙ l.invariant.arguments in
+    let same : now ≡ l.machine =
+    subst (λ b. WritesApart c.index-writes-index.result l.machine b now)
+    c.if-not-write_apart.true c.write_apart.ensures in
+    let args : arguments now.state ≡ arguments old.state =
+    ap (λ (m : Machine). arguments m.state) same ∙ l.invariant.arguments in
     let rest : take (length writes - l.index) (drop l.index writes) ≡ drop l.index writes =
-    take_all (length writes - l.index) (drop l.index writes) (omega (arith, length-drop l.index writes)) in
-    let P : Option (List ℤ) → Write → Type 0 = λ o write. write.arg < unwrap_or (option_map length o) 0 in
+    take_all (length writes - l.index) (drop l.index writes)
+    (omega (arith, length-drop l.index writes)) in
+    let P : Option (List ℤ) → Write → Type 0 =
+    λ o write. write.arg < unwrap_or (option_map length o) 0 in
     subst (λ o. All (P o) (take (length writes - l.index) (drop l.index writes))) (sym args)
-    (subst (All (P (arguments old.state))) (sym rest) (all_left (P (arguments old.state)) writes l.index c.requires.there))
+    (subst (All (P (arguments old.state))) (sym rest)
+    (all_left (P (arguments old.state)) writes l.index c.requires.there))
 
 pub write_rest-requires-clause-room : goal.write_rest-requires-clause-room
 write_rest-requires-clause-room c =
@@ -61,15 +79,21 @@ write_rest-requires-clause-room c =
     let writes = c.args.writes.now in
     let l = c.loop-index in
     let now = c.write_apart.new.machine in
-    let same : now ≡ l.machine = subst (λ b. WritesApart c.index-writes-index.result l.machine b now) c.if-not-write_apart.true c.write_apart.ensures in
+    let same : now ≡ l.machine =
+    subst (λ b. WritesApart c.index-writes-index.result l.machine b now)
+    c.if-not-write_apart.true c.write_apart.ensures in
     let P : Write → Type 0 = IsRoomFor old.state (arguments_of old.state) in
     let rest : take (length writes - l.index) (drop l.index writes) ≡ drop l.index writes =
-    take_all (length writes - l.index) (drop l.index writes) (omega (arith, length-drop l.index writes)) in
+    take_all (length writes - l.index) (drop l.index writes)
+    (omega (arith, length-drop l.index writes)) in
     let less : l.index ≤ length writes = omega (arith, c.loop-index-test.true) in
     let taken = all_taken P writes l.index less c.requires.room in
-    let left : All P (take (length writes - l.index) (drop l.index writes)) = subst (All P) (sym rest) (all_left P writes l.index c.requires.room) in
-    subst (λ (m : Machine). All (IsRoomFor m.state (arguments_of m.state)) (take (length writes - l.index) (drop l.index writes))) (sym same)
-    (λ k d within. still_room old l.machine (take l.index writes) l.invariant.done l.invariant.arguments taken _ (left k d within))
+    let left : All P (take (length writes - l.index) (drop l.index writes)) =
+    subst (All P) (sym rest) (all_left P writes l.index c.requires.room) in
+    subst (λ (m : Machine). All (IsRoomFor m.state (arguments_of m.state))
+    (take (length writes - l.index) (drop l.index writes))) (sym same)
+    (λ k d within. still_room old l.machine
+    (take l.index writes) l.invariant.done l.invariant.arguments taken _ (left k d within))
 
 pub returns-then-not-write_apart : goal.returns-then-not-write_apart
 returns-then-not-write_apart c =
@@ -77,14 +101,19 @@ returns-then-not-write_apart c =
     let writes = c.args.writes.now in
     let l = c.loop-index in
     let now = c.write_apart.new.machine in
-    let same : now ≡ l.machine = subst (λ b. WritesApart c.index-writes-index.result l.machine b now) c.if-not-write_apart.true c.write_apart.ensures in
+    let same : now ≡ l.machine =
+    subst (λ b. WritesApart c.index-writes-index.result l.machine b now)
+    c.if-not-write_apart.true c.write_apart.ensures in
     let rest : take (length writes - l.index) (drop l.index writes) ≡ drop l.index writes =
-    take_all (length writes - l.index) (drop l.index writes) (omega (arith, length-drop l.index writes)) in
+    take_all (length writes - l.index) (drop l.index writes)
+    (omega (arith, length-drop l.index writes)) in
     c.write_rest.ensures ∙ ap (λ ws. written ws now) rest ∙ ap (written (drop l.index writes)) same
-    ∙ written_behind old l.machine (take l.index writes) (drop l.index writes) l.invariant.done l.invariant.arguments
+    ∙ written_behind old l.machine (take l.index writes)
+    (drop l.index writes) l.invariant.done l.invariant.arguments
     ∙ ap (λ ws. written ws old) (take-append-drop l.index writes)
 
 pub returns : goal.returns
 returns c =
     let l = c.loop-index in
-    l.invariant.done ∙ ap (λ ws. written ws c.args.machine.now) (take_all l.index c.args.writes.now (omega (arith, c.loop-index-test.false)))
+    l.invariant.done ∙ ap (λ ws. written ws c.args.machine.now)
+    (take_all l.index c.args.writes.now (omega (arith, c.loop-index-test.false)))

@@ -7,13 +7,17 @@ use Rattle.host_script.proofs.arguments.say_cells.Goals as goal
 pub returns-in_err-say : goal.returns-in_err-say
 returns-in_err-say g c =
     let is = err_from_is_err_and c.from_residual.result c.from_residual.ensures.1 in
-    said_cut (values_text c.args.values.now ++ codes "]") c.from_residual.result is.1 c.in_err-say.ensures
+    said_cut (values_text c.args.values.now ++ codes "]") c.from_residual.result is.1
+    c.in_err-say.ensures
 
 pub returns-in_err-say_values : goal.returns-in_err-say_values
 returns-in_err-say_values g c =
-    let is = err_from_is_err_and c.from_residual-in_err-say_values.result c.from_residual-in_err-say_values.ensures.1 in
+    let is =
+    err_from_is_err_and c.from_residual-in_err-say_values.result
+    c.from_residual-in_err-say_values.ensures.1 in
     said_as (append_assoc (codes " [") (values_text c.args.values.now) (codes "]"))
-    (said_cut (codes "]") c.from_residual-in_err-say_values.result is.1 (said_then c.in_ok-say.ensures c.in_err-say_values.ensures))
+    (said_cut (codes "]") c.from_residual-in_err-say_values.result is.1
+    (said_then c.in_ok-say.ensures c.in_err-say_values.ensures))
 
 pub returns : goal.returns
 returns g c =

@@ -9,4 +9,6 @@ use Rattle.host_script.proofs.arguments.say_packed.Given as goal
 abbrev pub invariant-loop-cell : goal.invariant-loop-cell
 invariant-loop-cell g l =
     let sink = g.S.Sink in
-    Said sink.taken sink.faults sink.has_room l.initial.out l.out (characters_text (flat_map bytes_of (take l.cell-index l.cells))) (Ok tt) × Passed bytes_of l.cells l.cell-index
+    Said sink.taken sink.faults sink.has_room l.initial.out l.out
+    (characters_text (flat_map bytes_of (take l.cell-index l.cells))) (Ok tt)
+    × Passed bytes_of l.cells l.cell-index

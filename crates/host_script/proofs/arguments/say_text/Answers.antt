@@ -11,7 +11,8 @@ returns-in_err-say g c =
     let sink = g.S.Sink in
     let text = characters_text (front (unpacked c.args.cells.now)) in
     let is = err_from_is_err_and c.from_residual.result c.from_residual.ensures.1 in
-    some_text c.args.cells.now (λ all. Said sink.taken sink.faults sink.has_room c.args.out.now c.say.new.out (codes " \"" ++ (characters_text all ++ codes "\"")) c.from_residual.result)
+    some_text c.args.cells.now (λ all. Said sink.taken sink.faults sink.has_room c.args.out.now
+    c.say.new.out (codes " \"" ++ (characters_text all ++ codes "\"")) c.from_residual.result)
     (said_cut (text ++ codes "\"") c.from_residual.result is.1 c.in_err-say.ensures)
 
 pub returns-in_err-say_before_zero : goal.returns-in_err-say_before_zero
@@ -20,12 +21,17 @@ returns-in_err-say_before_zero g c =
     let text = characters_text (front (unpacked c.args.cells.now)) in
     let result = c.from_residual-in_err-say_before_zero.result in
     let is = err_from_is_err_and result c.from_residual-in_err-say_before_zero.ensures.1 in
-    some_text c.args.cells.now (λ all. Said sink.taken sink.faults sink.has_room c.args.out.now c.say_before_zero.new.out (codes " \"" ++ (characters_text all ++ codes "\"")) result)
-    (said_as (append_assoc (codes " \"") text (codes "\"")) (said_cut (codes "\"") result is.1 (said_then c.in_ok-say.ensures c.in_err-say_before_zero.ensures)))
+    some_text c.args.cells.now (λ all. Said sink.taken sink.faults sink.has_room c.args.out.now
+    c.say_before_zero.new.out (codes " \"" ++ (characters_text all ++ codes "\"")) result)
+    (said_as (append_assoc (codes " \"") text (codes "\""))
+    (said_cut (codes "\"") result is.1
+    (said_then c.in_ok-say.ensures c.in_err-say_before_zero.ensures)))
 
 pub returns : goal.returns
 returns g c =
     let sink = g.S.Sink in
     let text = characters_text (front (unpacked c.args.cells.now)) in
-    some_text c.args.cells.now (λ all. Said sink.taken sink.faults sink.has_room c.args.out.now c.say-2.new.out (codes " \"" ++ (characters_text all ++ codes "\"")) c.say-2.result)
-    (said_as (append_assoc (codes " \"") text (codes "\"")) (said_then (said_then c.in_ok-say.ensures c.in_ok-say_before_zero.ensures) c.say-2.ensures))
+    some_text c.args.cells.now (λ all. Said sink.taken sink.faults sink.has_room c.args.out.now
+    c.say-2.new.out (codes " \"" ++ (characters_text all ++ codes "\"")) c.say-2.result)
+    (said_as (append_assoc (codes " \"") text (codes "\""))
+    (said_then (said_then c.in_ok-say.ensures c.in_ok-say_before_zero.ensures) c.say-2.ensures))

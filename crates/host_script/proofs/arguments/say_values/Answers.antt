@@ -12,9 +12,12 @@ returns-in_err-say g c =
     let first = c.in-Some.first.now in
     let others = c.in-Some.others.now in
     let fits : FitsSigned w32 first = search rules in
-    let digits : c.as_bytes.result.now ++ [] ≡ signed_decimal first = append-nil c.as_bytes.result.now ∙ c.as_bytes.ensures.value ∙ c.format.ensures.text ∙ ap signed_decimal (to_z-of_z w32 first fits) in
+    let digits : c.as_bytes.result.now ++ [] ≡ signed_decimal first =
+    append-nil c.as_bytes.result.now ∙ c.as_bytes.ensures.value ∙ c.format.ensures.text
+    ∙ ap signed_decimal (to_z-of_z w32 first fits) in
     let is = err_from_is_err_and c.from_residual.result c.from_residual.ensures.1 in
-    said_as (ap (λ text. text ++ cells_text others) digits ∙ sym (values_text-cons first others) ∙ ap values_text (sym c.in-Some.ensures.cases.0))
+    said_as (ap (λ text. text ++ cells_text others) digits ∙ sym (values_text-cons first others)
+    ∙ ap values_text (sym c.in-Some.ensures.cases.0))
     (said_cut (cells_text others) c.from_residual.result is.1 c.in_err-say.ensures)
 
 pub returns : goal.returns
@@ -22,6 +25,9 @@ returns g c =
     let first = c.in-Some.first.now in
     let others = c.in-Some.others.now in
     let fits : FitsSigned w32 first = search rules in
-    let digits : c.as_bytes.result.now ++ [] ≡ signed_decimal first = append-nil c.as_bytes.result.now ∙ c.as_bytes.ensures.value ∙ c.format.ensures.text ∙ ap signed_decimal (to_z-of_z w32 first fits) in
-    said_as (ap (λ text. text ++ cells_text others) digits ∙ sym (values_text-cons first others) ∙ ap values_text (sym c.in-Some.ensures.cases.0))
+    let digits : c.as_bytes.result.now ++ [] ≡ signed_decimal first =
+    append-nil c.as_bytes.result.now ∙ c.as_bytes.ensures.value ∙ c.format.ensures.text
+    ∙ ap signed_decimal (to_z-of_z w32 first fits) in
+    said_as (ap (λ text. text ++ cells_text others) digits ∙ sym (values_text-cons first others)
+    ∙ ap values_text (sym c.in-Some.ensures.cases.0))
     (said_then c.in_ok-say.ensures c.say_plain.ensures)

@@ -1,4 +1,5 @@
-use Rattle.std.proofs.Common.{◌++◌, ◌∷◌, ◌∙◌, ◌≡◌, [], pos, FitsSigned, rules, sym, ap, append_assoc, append-nil, take, drop, get_or, suc, w32}
+use Rattle.std.proofs.Common.{◌++◌, ◌∷◌, ◌∙◌, ◌≡◌, [], pos, FitsSigned, rules, sym, ap}
+use Rattle.std.proofs.Common.{append_assoc, append-nil, take, drop, get_or, suc, w32}
 use Rattle.std.specs.Fmt.{signed_decimal}
 use Rattle.std.proofs.lemmas.Int.{to_z-of_z}
 use Rattle.std.proofs.lemmas.Result.{err_from_is_err_and}
@@ -12,9 +13,13 @@ loop-cell-preserved g c =
     let i = c.loop-cell.cell-index in
     let cell = get_or cells i (pos 0) in
     let fits : FitsSigned w32 cell = search rules in
-    let digits : c.as_bytes.result.now ≡ signed_decimal cell = c.as_bytes.ensures.value ∙ c.format.ensures.text ∙ ap signed_decimal (to_z-of_z w32 cell fits) in
-    let piece : 32 ∷ (c.as_bytes.result.now ++ []) ≡ cell_text cell = ap (λ text. 32 ∷ text) (append-nil c.as_bytes.result.now ∙ digits) in
-    said_as (ap (λ text. cells_text (take i cells) ++ text) piece ∙ sym (cells_text-more cells i (pos 0) c.loop-cell-test.true))
+    let digits : c.as_bytes.result.now ≡ signed_decimal cell =
+    c.as_bytes.ensures.value ∙ c.format.ensures.text
+    ∙ ap signed_decimal (to_z-of_z w32 cell fits) in
+    let piece : 32 ∷ (c.as_bytes.result.now ++ []) ≡ cell_text cell =
+    ap (λ text. 32 ∷ text) (append-nil c.as_bytes.result.now ∙ digits) in
+    said_as (ap (λ text. cells_text (take i cells) ++ text) piece
+    ∙ sym (cells_text-more cells i (pos 0) c.loop-cell-test.true))
     (said_then c.loop-cell.invariant c.in_ok-say.ensures)
 
 pub returns-in_err-say : goal.returns-in_err-say
@@ -23,9 +28,15 @@ returns-in_err-say g c =
     let i = c.loop-cell.cell-index in
     let cell = get_or cells i (pos 0) in
     let fits : FitsSigned w32 cell = search rules in
-    let digits : c.as_bytes.result.now ≡ signed_decimal cell = c.as_bytes.ensures.value ∙ c.format.ensures.text ∙ ap signed_decimal (to_z-of_z w32 cell fits) in
-    let piece : 32 ∷ (c.as_bytes.result.now ++ []) ≡ cell_text cell = ap (λ text. 32 ∷ text) (append-nil c.as_bytes.result.now ∙ digits) in
+    let digits : c.as_bytes.result.now ≡ signed_decimal cell =
+    c.as_bytes.ensures.value ∙ c.format.ensures.text
+    ∙ ap signed_decimal (to_z-of_z w32 cell fits) in
+    let piece : 32 ∷ (c.as_bytes.result.now ++ []) ≡ cell_text cell =
+    ap (λ text. 32 ∷ text) (append-nil c.as_bytes.result.now ∙ digits) in
     let is = err_from_is_err_and c.from_residual.result c.from_residual.ensures.1 in
-    said_as (append_assoc (cells_text (take i cells)) (32 ∷ (c.as_bytes.result.now ++ [])) (cells_text (drop (suc i) cells))
-    ∙ ap (λ text. cells_text (take i cells) ++ (text ++ cells_text (drop (suc i) cells))) piece ∙ cells_text-at cells i (pos 0) c.loop-cell-test.true)
-    (said_cut (cells_text (drop (suc i) cells)) c.from_residual.result is.1 (said_then c.loop-cell.invariant c.in_err-say.ensures))
+    said_as (append_assoc (cells_text (take i cells)) (32 ∷ (c.as_bytes.result.now ++ []))
+    (cells_text (drop (suc i) cells))
+    ∙ ap (λ text. cells_text (take i cells) ++ (text ++ cells_text (drop (suc i) cells))) piece
+    ∙ cells_text-at cells i (pos 0) c.loop-cell-test.true)
+    (said_cut (cells_text (drop (suc i) cells)) c.from_residual.result is.1
+    (said_then c.loop-cell.invariant c.in_err-say.ensures))

@@ -7,4 +7,5 @@ use Rattle.host_script.proofs.lines.say_plain.Given as goal
 abbrev pub invariant-loop-cell : goal.invariant-loop-cell
 invariant-loop-cell g l =
     let sink = g.S.Sink in
-    Said sink.taken sink.faults sink.has_room l.initial.out l.out (arguments_text (map Cell (take l.cell-index l.cells))) (Ok tt)
+    Said sink.taken sink.faults sink.has_room l.initial.out l.out
+    (arguments_text (map Cell (take l.cell-index l.cells))) (Ok tt)

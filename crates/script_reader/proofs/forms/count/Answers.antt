@@ -9,4 +9,7 @@ stops : (v d : ℕ) (ds : List ℕ) → CELL_LIMIT < v → count_of v (d ∷ ds)
 stops v d ds h = rw (lt-ltb CELL_LIMIT v h) refl
 
 pub returns-then-value-gt-CELL_LIMIT : goal.returns-then-value-gt-CELL_LIMIT
-returns-then-value-gt-CELL_LIMIT c = sym (c.loop-digit.invariant ∙ ap (count_of c.loop-digit.value) (drop-cons c.args.digits.now c.loop-digit.digit-index 0 (omega arith)) ∙ stops _ _ _ c.if-value-gt-CELL_LIMIT.true)
+returns-then-value-gt-CELL_LIMIT c =
+    sym (c.loop-digit.invariant ∙ ap (count_of c.loop-digit.value)
+    (drop-cons c.args.digits.now c.loop-digit.digit-index 0 (omega arith))
+    ∙ stops _ _ _ c.if-value-gt-CELL_LIMIT.true)

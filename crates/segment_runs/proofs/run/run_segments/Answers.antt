@@ -1,56 +1,81 @@
 use Rattle.std.proofs.Common.{◌≡◌, ◌+◌, ◌-◌, ◌∙◌, suc, sym, arith}
 use Rattle.host_run.specs.Segments.{Place}
-use Rattle.segment_runs.proofs.GoingLaws.{at_first, left_as, text_ends, answer_ends, goes_on, ends_early}
+use Rattle.segment_runs.proofs.GoingLaws.{at_first, left_as, text_ends, answer_ends, goes_on}
+use Rattle.segment_runs.proofs.GoingLaws.{ends_early}
 use Rattle.segment_runs.proofs.run.run_segments.Goals as goal
 
 pub loop-init : goal.loop-init
 loop-init g c =
     let all : c.args.sleeps ≡ c.args.sleeps - 0 = omega arith in
     left_as all
-    (at_first g.S.Sink.taken g.S.Sink.faults g.S.Sink.has_room c.args.out.now c.args.script.now c.args.machine.now c.args.steps c.args.sleeps
+    (at_first g.S.Sink.taken g.S.Sink.faults g.S.Sink.has_room c.args.out.now c.args.script.now
+    c.args.machine.now c.args.steps c.args.sleeps
     c.requires.awake)
 
 pub returns-in-Some-clause-text : goal.returns-in-Some-clause-text
 returns-in-Some-clause-text g c =
     let now : Place = record { machine = c.loop.machine; position = c.loop.at } in
-    let new : Place = record { machine = c.session-end.new.machine; position = c.session-end.new.at } in
-    let more : c.args.sleeps - c.loop.counter ≡ suc (c.args.sleeps - (c.loop.counter + 1)) = omega (arith, c.loop-test.true) in
-    (ends_early g.S.Sink.taken g.S.Sink.faults g.S.Sink.has_room c.args.out.now c.loop.out c.session-end.new.out c.args.script.now c.args.machine.now
-    c.args.steps c.args.sleeps (c.args.sleeps - c.loop.counter) now new c.session-end.result.0 c.loop.invariant (c.args.sleeps - (c.loop.counter + 1)) more
-    c.session-end.result.1 c.in-Some.last (sym c.unless_asleep.ensures ∙ c.in-Some.is) c.session-end.ensures.text c.session-end.ensures.answer).0
+    let new : Place =
+    record { machine = c.session-end.new.machine; position = c.session-end.new.at } in
+    let more : c.args.sleeps - c.loop.counter ≡ suc (c.args.sleeps - (c.loop.counter + 1)) =
+    omega (arith, c.loop-test.true) in
+    (ends_early g.S.Sink.taken g.S.Sink.faults g.S.Sink.has_room c.args.out.now c.loop.out
+    c.session-end.new.out c.args.script.now c.args.machine.now
+    c.args.steps c.args.sleeps (c.args.sleeps - c.loop.counter) now new c.session-end.result.0
+    c.loop.invariant (c.args.sleeps - (c.loop.counter + 1)) more
+    c.session-end.result.1 c.in-Some.last
+    (sym c.unless_asleep.ensures ∙ c.in-Some.is) c.session-end.ensures.text
+    c.session-end.ensures.answer).0
 
 pub returns-in-Some-clause-answer : goal.returns-in-Some-clause-answer
 returns-in-Some-clause-answer g c =
     let now : Place = record { machine = c.loop.machine; position = c.loop.at } in
-    let new : Place = record { machine = c.session-end.new.machine; position = c.session-end.new.at } in
-    let more : c.args.sleeps - c.loop.counter ≡ suc (c.args.sleeps - (c.loop.counter + 1)) = omega (arith, c.loop-test.true) in
-    (ends_early g.S.Sink.taken g.S.Sink.faults g.S.Sink.has_room c.args.out.now c.loop.out c.session-end.new.out c.args.script.now c.args.machine.now
-    c.args.steps c.args.sleeps (c.args.sleeps - c.loop.counter) now new c.session-end.result.0 c.loop.invariant (c.args.sleeps - (c.loop.counter + 1)) more
-    c.session-end.result.1 c.in-Some.last (sym c.unless_asleep.ensures ∙ c.in-Some.is) c.session-end.ensures.text c.session-end.ensures.answer).1
+    let new : Place =
+    record { machine = c.session-end.new.machine; position = c.session-end.new.at } in
+    let more : c.args.sleeps - c.loop.counter ≡ suc (c.args.sleeps - (c.loop.counter + 1)) =
+    omega (arith, c.loop-test.true) in
+    (ends_early g.S.Sink.taken g.S.Sink.faults g.S.Sink.has_room c.args.out.now c.loop.out
+    c.session-end.new.out c.args.script.now c.args.machine.now
+    c.args.steps c.args.sleeps (c.args.sleeps - c.loop.counter) now new c.session-end.result.0
+    c.loop.invariant (c.args.sleeps - (c.loop.counter + 1)) more
+    c.session-end.result.1 c.in-Some.last
+    (sym c.unless_asleep.ensures ∙ c.in-Some.is) c.session-end.ensures.text
+    c.session-end.ensures.answer).1
 
 pub loop-preserved : goal.loop-preserved
 loop-preserved g c =
     let now : Place = record { machine = c.loop.machine; position = c.loop.at } in
-    let new : Place = record { machine = c.session-end.new.machine; position = c.session-end.new.at } in
-    let more : c.args.sleeps - c.loop.counter ≡ suc (c.args.sleeps - (c.loop.counter + 1)) = omega (arith, c.loop-test.true) in
-    goes_on g.S.Sink.taken g.S.Sink.faults g.S.Sink.has_room c.args.out.now c.loop.out c.session-end.new.out c.args.script.now c.args.machine.now
-    c.args.steps c.args.sleeps (c.args.sleeps - c.loop.counter) now new c.session-end.result.0 c.loop.invariant (c.args.sleeps - (c.loop.counter + 1)) more
-    c.session-end.result.1 (sym c.unless_asleep.ensures ∙ c.in_default.is) c.session-end.ensures.text c.session-end.ensures.answer
+    let new : Place =
+    record { machine = c.session-end.new.machine; position = c.session-end.new.at } in
+    let more : c.args.sleeps - c.loop.counter ≡ suc (c.args.sleeps - (c.loop.counter + 1)) =
+    omega (arith, c.loop-test.true) in
+    goes_on g.S.Sink.taken g.S.Sink.faults g.S.Sink.has_room c.args.out.now c.loop.out
+    c.session-end.new.out c.args.script.now c.args.machine.now
+    c.args.steps c.args.sleeps (c.args.sleeps - c.loop.counter) now new c.session-end.result.0
+    c.loop.invariant (c.args.sleeps - (c.loop.counter + 1)) more
+    c.session-end.result.1 (sym c.unless_asleep.ensures ∙ c.in_default.is)
+    c.session-end.ensures.text c.session-end.ensures.answer
 
 pub returns-clause-text : goal.returns-clause-text
 returns-clause-text g c =
     let now : Place = record { machine = c.loop.machine; position = c.loop.at } in
-    let new : Place = record { machine = c.session-end-2.new.machine; position = c.session-end-2.new.at } in
+    let new : Place =
+    record { machine = c.session-end-2.new.machine; position = c.session-end-2.new.at } in
     let none : c.args.sleeps - c.loop.counter ≡ 0 = omega (arith, c.loop-test.false) in
-    text_ends g.S.Sink.taken g.S.Sink.faults g.S.Sink.has_room c.args.out.now c.loop.out c.session-end-2.new.out c.args.script.now c.args.machine.now
-    c.args.steps c.args.sleeps (c.args.sleeps - c.loop.counter) now new c.session-end-2.result.0 c.loop.invariant none c.session-end-2.result.1
+    text_ends g.S.Sink.taken g.S.Sink.faults g.S.Sink.has_room c.args.out.now c.loop.out
+    c.session-end-2.new.out c.args.script.now c.args.machine.now
+    c.args.steps c.args.sleeps (c.args.sleeps - c.loop.counter) now new c.session-end-2.result.0
+    c.loop.invariant none c.session-end-2.result.1
     c.session-end-2.ensures.text
 
 pub returns-clause-answer : goal.returns-clause-answer
 returns-clause-answer g c =
     let now : Place = record { machine = c.loop.machine; position = c.loop.at } in
-    let new : Place = record { machine = c.session-end-2.new.machine; position = c.session-end-2.new.at } in
+    let new : Place =
+    record { machine = c.session-end-2.new.machine; position = c.session-end-2.new.at } in
     let none : c.args.sleeps - c.loop.counter ≡ 0 = omega (arith, c.loop-test.false) in
-    answer_ends g.S.Sink.taken g.S.Sink.faults g.S.Sink.has_room c.args.out.now c.loop.out c.session-end-2.new.out c.args.script.now c.args.machine.now
-    c.args.steps c.args.sleeps (c.args.sleeps - c.loop.counter) now new c.session-end-2.result.0 c.loop.invariant none c.session-end-2.result.1
+    answer_ends g.S.Sink.taken g.S.Sink.faults g.S.Sink.has_room c.args.out.now c.loop.out
+    c.session-end-2.new.out c.args.script.now c.args.machine.now
+    c.args.steps c.args.sleeps (c.args.sleeps - c.loop.counter) now new c.session-end-2.result.0
+    c.loop.invariant none c.session-end-2.result.1
     c.session-end-2.ensures.text c.session-end-2.ensures.answer

@@ -13,5 +13,20 @@ returns c =
     let cip : FitsSigned w32 r.cip = search rules in
     let stk : FitsSigned w32 r.stk = search rules in
     let hea : FitsSigned w32 r.hea = search rules in
-    rw (to_z-of_z w32 r.pri pri, to_z-of_z w32 r.alt alt, c.cast_unsigned-self-inside.ensures, c.cast_unsigned-self-inside-2.ensures, c.cast_unsigned-self-inside-3.ensures, c.cast_unsigned-self-inside-4.ensures, c.fill.ensures, ← c.self.view_is)
-    (rw (cleared_cells f.block.memory f.stp c.self.invariant.top_is, to_z-of_z w32 r.frm frm, to_z-of_z w32 r.cip cip, to_z-of_z w32 r.stk stk, to_z-of_z w32 r.hea hea) refl)
+    rw (
+      to_z-of_z w32 r.pri pri,
+      to_z-of_z w32 r.alt alt,
+      c.cast_unsigned-self-inside.ensures,
+      c.cast_unsigned-self-inside-2.ensures,
+      c.cast_unsigned-self-inside-3.ensures,
+      c.cast_unsigned-self-inside-4.ensures,
+      c.fill.ensures,
+      ← c.self.view_is,
+    )
+    (rw (
+      cleared_cells f.block.memory f.stp c.self.invariant.top_is,
+      to_z-of_z w32 r.frm frm,
+      to_z-of_z w32 r.cip cip,
+      to_z-of_z w32 r.stk stk,
+      to_z-of_z w32 r.hea hea,
+    ) refl)

@@ -8,4 +8,5 @@ returns-else-count-gt0 c =
     let m = c.args.self.now in
     let none : c.args.count ≡ 0 = omega (arith, c.if-count-gt0.false) in
     ap (λ (cells : List ℤ). record m { state = record m.state { cells = cells } })
-    (sym (moved_none m.state.cells c.args.from c.args.to) ∙ ap (moved m.state.cells c.args.from c.args.to) (sym none))
+    (sym (moved_none m.state.cells c.args.from c.args.to)
+    ∙ ap (moved m.state.cells c.args.from c.args.to) (sym none))

@@ -9,5 +9,14 @@ returns c =
     rw (← c.self.view_is)
     (ap (λ (cells : List ℤ). record {
       amx = f.verified.now;
-      state = record { pri = f.pri; alt = f.alt; frm = f.frm; cip = f.cip; stk = f.stk; hea = f.hea; cells = cells };
+      state =
+          record {
+            pri = f.pri;
+            alt = f.alt;
+            frm = f.frm;
+            cip = f.cip;
+            stk = f.stk;
+            hea = f.hea;
+            cells = cells;
+          };
     }) law)

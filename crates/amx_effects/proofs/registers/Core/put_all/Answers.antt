@@ -12,7 +12,9 @@ loop-done-preserved c =
     let fits : FitsSigned w32 value = search rules in
     let pushed = rw (to_z-of_z w32 value fits) at p.pushed in
     record {
-      pushed = pushed_next values c.loop-done.done c.args.self.now.state c.loop-done.self.state c.put.new.self.state c.loop-done-test.true v.pushed pushed;
+      pushed =
+          pushed_next values c.loop-done.done c.args.self.now.state c.loop-done.self.state
+          c.put.new.self.state c.loop-done-test.true v.pushed pushed;
       stk = omega (arith, p.stk, v.stk);
       hea = p.hea ∙ v.hea;
       file = p.file ∙ v.file;

@@ -9,4 +9,5 @@ returns c =
     let f = c.self.inside in
     let e = c.live_from.ensures in
     let value = rw (to_z-of_z w32 c.args.at c.ranges.at) at e.value in
-    rw (← c.self.view_is) (value ∙ live_in f.core.amx f.core.state e.order f.mode (bits_of c.args.at))
+    rw (← c.self.view_is) (value ∙ live_in f.core.amx f.core.state e.order f.mode
+    (bits_of c.args.at))

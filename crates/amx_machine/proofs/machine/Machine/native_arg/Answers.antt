@@ -15,4 +15,6 @@ returns c =
     let f = c.self.inside in
     let fits : FitsSigned w32 c.native_arg.result = search rules in
     rw (to_z-of_z w32 c.native_arg.result fits, ← c.self.view_is)
-    (c.native_arg.ensures.value ∙ ap (λ cells. slice_index_or (unwrap_or cells []) c.args.index (pos 0)) (arguments_in f.core.amx f.core.state c.registers.ensures.order f.mode))
+    (c.native_arg.ensures.value ∙ ap
+    (λ cells. slice_index_or (unwrap_or cells []) c.args.index (pos 0))
+    (arguments_in f.core.amx f.core.state c.registers.ensures.order f.mode))

@@ -8,4 +8,5 @@ returns c =
     let f = c.self.inside in
     let live = rw (← c.self.view_is) at c.requires in
     let stored = rw (to_z-of_z w32 c.args.value c.ranges.value) at c.store.ensures in
-    rw (← c.self.view_is) (cell_put f.mode f.core c.store.new.self c.args.at c.args.value c.store.result c.cip-next.result c.registers.ensures.order c.cip-next.ensures live stored)
+    rw (← c.self.view_is) (cell_put f.mode f.core c.store.new.self c.args.at c.args.value
+    c.store.result c.cip-next.result c.registers.ensures.order c.cip-next.ensures live stored)

@@ -23,4 +23,5 @@ returns c =
     c.put_first.ensures ∙ ap (λ part. cells ++ drop (length cells) part) part in
     rw (to_z-of_z w32 c.args.at c.ranges.at, ← c.self.view_is)
     (ap (λ (t : State). record { amx = f.core.amx; state = t; mode = f.mode })
-    (ap (λ part. resting f.mode (with_live s at part)) given ∙ put_in f.core.amx s e.order at cells f.mode short))
+    (ap (λ part. resting f.mode (with_live s at part)) given
+    ∙ put_in f.core.amx s e.order at cells f.mode short))

@@ -11,7 +11,8 @@ returns-then-not-leads c =
     let is : c.loop-done.rest.now ≡ c.in-Some.address.now ∷ c.in-Some.after.now = search rules in
     let bad : leads starts c.in-Some.address.now ≡ false = search rules in
     let total : c.from-total.result ≡ bits_of c.args.count = search rules in
-    address_astray starts (c.from-total.result + 1) c.loop-done.done _ c.loop-done.rest.now c.in-Some.after.now c.in-Some.address.now c.loop-done-test.true is c.loop-done.invariant bad
+    address_astray starts (c.from-total.result + 1) c.loop-done.done _ c.loop-done.rest.now
+    c.in-Some.after.now c.in-Some.address.now c.loop-done-test.true is c.loop-done.invariant bad
     ∙ ap (λ n. all_lead starts (n + 1) c.from_cell-rest.result.now) total
     ∙ ap (all_lead starts (bits_of c.args.count + 1)) c.from_cell-rest.ensures
 
@@ -20,4 +21,6 @@ loop-done-preserved c =
     let starts = is_start c.args.self.now.code in
     let is : c.loop-done.rest.now ≡ c.in-Some.address.now ∷ c.in-Some.after.now = search rules in
     let good : leads starts c.in-Some.address.now ≡ true = search rules in
-    one_more_address starts (c.from-total.result + 1) c.loop-done.done _ c.loop-done.rest.now c.in-Some.after.now c.in-Some.address.now c.loop-done-test.true is c.loop-done.invariant c.behind-rest.result.now good c.behind-rest.ensures
+    one_more_address starts (c.from-total.result + 1) c.loop-done.done _ c.loop-done.rest.now
+    c.in-Some.after.now c.in-Some.address.now c.loop-done-test.true is c.loop-done.invariant
+    c.behind-rest.result.now good c.behind-rest.ensures

@@ -5,4 +5,5 @@ use Rattle.amx_verify.proofs.marked.Marked.all_lead.Given as goal
 
 abbrev pub invariant-loop-done : goal.invariant-loop-done
 invariant-loop-done l =
-    valid.all_lead (is_start l.self.code) (l.total - l.done) l.rest ≡ valid.all_lead (is_start l.self.code) l.total l.initial.rest
+    valid.all_lead (is_start l.self.code) (l.total - l.done) l.rest
+    ≡ valid.all_lead (is_start l.self.code) l.total l.initial.rest

@@ -4,4 +4,5 @@ use Rattle.amx_verify.proofs.MarkLaws.{table_there}
 use Rattle.amx_verify.proofs.marked.Marked.is_table_at.Goals as goal
 
 pub returns : goal.returns
-returns c = c.is_cases.ensures ∙ ap table_by c.fetch.ensures ∙ table_there c.args.self.now.code c.args.at
+returns c =
+    c.is_cases.ensures ∙ ap table_by c.fetch.ensures ∙ table_there c.args.self.now.code c.args.at
