@@ -1,27 +1,6 @@
-use pawn_lex::{Tokens, tokens};
 use pawn_names::{CheckFault, Names, resolve};
-use pawn_outside::MemoryFiles;
-use pawn_parse::parse;
-use pawn_pre::preprocess;
-use pawn_tree::Tree;
+use source_trees::tree_of;
 use std::alloc::Global;
-
-/// The tokens of a source, where it has some.
-fn tokens_of(alloc: Global, source: &str) -> Option<Tokens> {
-    let mut files = MemoryFiles::new(alloc, &[]).ok()?;
-    files.hold("s.p", source.as_bytes()).ok()?;
-    let lines = preprocess(alloc, "s.p", &mut files).ok()?;
-    tokens(alloc, &lines).ok()
-}
-
-/// The tree of a source, where it has one.
-fn tree_of(alloc: Global, source: &str) -> Option<Tree> {
-    let tokens = tokens_of(alloc, source)?;
-    if tokens.list.len() > 4_000_000 {
-        return None;
-    }
-    parse(alloc, &tokens).ok()
-}
 
 /// The names of a source, where it has a tree and its names are resolved.
 pub fn names_of(alloc: Global, source: &str) -> Option<Names> {

@@ -14,7 +14,7 @@ type Tower = (
 );
 
 /// Sources at the limits of brackets and of levels, and beyond them.
-const TOWERS: [Tower; 15] = [
+const TOWERS: [Tower; 18] = [
     ("main() return ", "(", "1", ")", 256, "tree 259 1"),
     ("main() return ", "(", "1", ")", 257, "deep 260"),
     ("", "(", "", "", 257, "deep 256"),
@@ -24,7 +24,10 @@ const TOWERS: [Tower; 15] = [
     ("new a = ", "~", "1", "", 1022, "tree 1024 1"),
     ("new a = ", "~", "1", "", 1023, "syntax 1026"),
     ("main() return 1", "+1", "", "", 1021, "tree 1024 1"),
-    ("main() return 1", "+1", "", "", 1022, "syntax"),
+    ("main() return 1", "+1", "", "", 1022, "syntax 4"),
+    ("main() return 2-1*~1", "+1", "", "", 1019, "syntax 9"),
+    ("main() return f(2, ~1)", "+1", "", "", 1020, "syntax 9"),
+    ("main() return (1<~2<3)", "+1", "", "", 1019, "syntax 8"),
     ("main() ", "if (a) ;\nelse ", ";", "", 1022, "tree 1024 1"),
     ("main() ", "if (a) ;\nelse ", ";", "", 1023, "syntax"),
     ("main() ", "while (a)\n", ";", "", 1022, "tree 1024 1"),

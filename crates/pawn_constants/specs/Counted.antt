@@ -5,6 +5,7 @@ use Rattle.pawn_scopes.specs.Verdict.{Verdict, Stands}
 use Rattle.pawn_scopes.specs.Around.{Around}
 use Rattle.pawn_scopes.specs.Worth.{not_constant}
 
+-- so many values, unless `...` leaves open how many there are
 abbrev pub counted : Around → Place → ℕ → Bool → Verdict ℤ
 counted around place count true = not_constant around place
 counted around place count false = Stands (pos count)

@@ -2,21 +2,8 @@
 use Rattle.pawn_scopes.specs.Signs as plain
 use Rattle.pawn_constants.specs.declared.signs.Before.{Before}
 use Rattle.pawn_constants.specs.declared.signs.Before.TheVariants as before
-use Rattle.pawn_constants.specs.declared.signs.Between.{Between}
-use Rattle.pawn_constants.specs.declared.signs.Between.TheVariants as between
-use Rattle.pawn_constants.specs.declared.signs.LinkSign.{LinkSign}
-use Rattle.pawn_constants.specs.declared.signs.LinkSign.TheVariants as link
 
+-- a sign before an operand
 abbrev pub before_view : Before → plain.Before
 before_view (before.Applies prefix op) = plain.Applies prefix op
 before_view before.Steps = plain.Steps
-
-abbrev pub between_view : Between → plain.Between
-between_view (between.Operates operator op) = plain.Operates operator op
-between_view (between.Decides logical) = plain.Decides logical
-between_view between.Takes = plain.Takes
-between_view between.Nothing = plain.Nothing
-
-abbrev pub link_view : LinkSign → plain.Link
-link_view (link.Compares comparison op) = plain.Compares comparison op
-link_view link.Nothing = plain.No_link

@@ -6,22 +6,22 @@ ghost use Rattle.pawn_scopes.specs.Signs as signs;
 ghost use Rattle.pawn_scopes.specs.Worth as spec;
 ghost use Rattle.pawn_cells.specs.Operators as cells;
 ghost use Rattle.pawn_cells.specs.declared.place.Place.{Place as PlainPlace};
-ghost use Rattle.pawn_sight.specs.Answers.{Answers};
+ghost use Rattle.pawn_verdict.specs.Answers.{Answers};
 ghost use Rattle.pawn_constants.specs.Chosen.{AnswersChosen};
 ghost use Rattle.pawn_constants.specs.Links.{link_sign};
 ghost use Rattle.pawn_sight.specs.Means.{around_view, means_view};
 ghost use Rattle.pawn_sight.specs.Views.{meant_kind_view, size_view};
 ghost use Rattle.pawn_constants.specs.ValuedView.{valued_view};
 
-use super::signs::{Before, Between, LinkSign, before_of, between_of, is_test, link_of};
+use super::signs::{Before, before_of, is_test};
 use pawn_cells::{Cell, Operator, Place, Prefix};
 use pawn_sight::{
-    BY_ZERO, CheckFault, Context, Fault, MeantKind, Size, TRUTH_TAG, UNKNOWN, UNTAGGED, broken,
-    tag_number,
+    BY_ZERO, Context, Fault, MeantKind, Size, TRUTH_TAG, UNKNOWN, UNTAGGED, tag_number,
 };
 use pawn_tags::Op;
 use pawn_token::Sign;
 use pawn_tree::{Link, SizeofOperand, TagofOperand, Text};
+use pawn_verdict::{Between, CheckFault, LinkSign, between_of, broken, link_of};
 
 /// A value and its tag's number.
 #[derive(Clone, Copy)]

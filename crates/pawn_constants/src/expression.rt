@@ -2,7 +2,7 @@ ghost use Rattle.std.specs.Prelude.{map};
 ghost use Rattle.pawn_tree.specs.Expressions.{links};
 ghost use Rattle.pawn_tree.specs.View.{expr_view, link_view};
 ghost use Rattle.pawn_scopes.specs.Worth as spec;
-ghost use Rattle.pawn_sight.specs.Answers.{Answers};
+ghost use Rattle.pawn_verdict.specs.Answers.{Answers};
 ghost use Rattle.pawn_sight.specs.Means.{around_view, means_view};
 ghost use Rattle.pawn_constants.specs.ValuedView.{valued_view};
 
@@ -12,12 +12,13 @@ use super::constants::{
 };
 use pawn_base::List;
 use pawn_cells::Place;
-use pawn_sight::{CheckFault, Context, Fault, UNTAGGED};
+use pawn_sight::{Context, Fault, UNTAGGED};
 use pawn_tree::{Expr, Link};
+use pawn_verdict::CheckFault;
 
 /// What a constant expression is worth, and its tag, where a node at a place wants it.
 #[cycle(worth)]
-#[tactic(auto, using(pawn_sight::proofs::VerdictLaws::verdicts))]
+#[tactic(auto, using(pawn_verdict::proofs::VerdictLaws::verdicts))]
 pub fn worth(cx: &Context, place: Place, x: &Expr) -> Result<Valued, CheckFault>
     ensures { Answers valued_view (spec.worth (around_view cx.now) place (means_view cx.now)
         (expr_view x.now)) result }

@@ -1,7 +1,7 @@
 ghost use Rattle.std.specs.Prelude.{ℤ, List as ListOf, [], ◌∷◌, ◌++◌, map, option_map, IfOk};
 ghost use Rattle.pawn_tree.specs.View.{expr_view, dim_view, init_view};
 ghost use Rattle.pawn_scopes.specs.Sizes as spec;
-ghost use Rattle.pawn_sight.specs.Answers.{Answers};
+ghost use Rattle.pawn_verdict.specs.Answers.{Answers};
 ghost use Rattle.pawn_sight.specs.Means.{around_view, means_view};
 ghost use Rattle.pawn_scopes.specs.Around.{Around as PlainAround};
 ghost use Rattle.pawn_constants.specs.Counted.{counted};
@@ -13,8 +13,9 @@ use super::constants::{cell_count, text_cells};
 use super::expression::worth;
 use pawn_base::{List, Memory};
 use pawn_cells::Place;
-use pawn_sight::{CheckFault, Context, Fault, Size};
+use pawn_sight::{Context, Fault, Size};
 use pawn_tree::{Dim, Expr, Init};
+use pawn_verdict::CheckFault;
 use std::alloc::Global;
 
 /// What a constant expression is worth, without its tag, where a node at a place wants it.
@@ -22,7 +23,7 @@ use std::alloc::Global;
 /// # Errors
 ///
 /// As those of `worth`.
-#[tactic(auto, using(pawn_sight::proofs::VerdictLaws::verdicts))]
+#[tactic(auto, using(pawn_verdict::proofs::VerdictLaws::verdicts))]
 pub fn constant_value(cx: &Context, place: Place, x: &Expr) -> Result<i32, CheckFault>
     ensures { Answers (λ value. value) (spec.constant_size (around_view cx.now) place
         (means_view cx.now) (expr_view x.now)) result }
@@ -31,7 +32,7 @@ pub fn constant_value(cx: &Context, place: Place, x: &Expr) -> Result<i32, Check
 }
 
 /// A size in characters is that of the cells that hold them.
-#[tactic(auto, using(pawn_sight::proofs::VerdictLaws::verdicts))]
+#[tactic(auto, using(pawn_verdict::proofs::VerdictLaws::verdicts))]
 fn character_size(cx: &Context, place: Place, x: &Expr) -> Result<i32, CheckFault>
     ensures { Answers (λ size. size) (spec.character_size (around_view cx.now) place
         (means_view cx.now) (expr_view x.now)) result }

@@ -4,7 +4,8 @@ use Rattle.pawn_lex.specs.declared.token.Token.{Token}
 use Rattle.pawn_grammar.specs.ReadExpressions.{expr, whole}
 use Rattle.pawn_expressions.proofs.Turns.{deeper}
 
-pub expr_of_none : (ts : List Token) (d : ℕ) (tags : Bool) (level i : ℕ) → d ≡ 0 → expr ts d tags level i ≡ None
+pub expr_of_none : (ts : List Token) (d : ℕ) (tags : Bool) (level i : ℕ) → d ≡ 0
+    → expr ts d tags level i ≡ None
 unfolding expr
 expr_of_none ts d tags level i none = ap (λ n. expr ts n tags level i) none
 

@@ -9,6 +9,7 @@ pub word_absent : (ts : List Token) (i : ℕ) → length ts ≤ i → word ts i 
 unfolding word
 word_absent ts i past = ap word_at (slice_get_past ts i past)
 
-pub word_there : (ts : List Token) (i : ℕ) (t : Token) → t ≡ get_or ts i t → i < length ts → word ts i ≡ word_of t.kind
+pub word_there : (ts : List Token) (i : ℕ) (t : Token) → t ≡ get_or ts i t → i < length ts
+    → word ts i ≡ word_of t.kind
 unfolding word
 word_there ts i t e l = ap word_at (slice_get_read ts (length ts) i t refl l e)

@@ -1,5 +1,6 @@
 -- What the code gives, seen as what the definitions give.
-use Rattle.std.specs.Prelude.{◌≡◌, ℕ, suc, ◌≤◌, ◌<◌, true, false, List, length, Option, Some, None, Result, Ok, Err}
+use Rattle.std.specs.Prelude.{◌≡◌, ℕ, suc, ◌≤◌, ◌<◌, true, false, List, length, Option, Some, None}
+use Rattle.std.specs.Prelude.{Result, Ok, Err}
 use Rattle.pawn_token.specs.declared.sign.Sign.{Sign}
 use Rattle.pawn_lex.specs.declared.token.Token.{Token}
 use Rattle.std.specs.declared.boxed.Box.{Box}
@@ -27,7 +28,8 @@ Answers ts view outcome (Err Memory) = Unit
 
 -- an expression without its box
 abbrev pub part_view : held_part.Part → Part
-part_view x = record { tree = expr_view x.tree.value; level = x.level; height = x.height; stop = x.stop }
+part_view x =
+    record { tree = expr_view x.tree.value; level = x.level; height = x.height; stop = x.stop }
 
 -- what was read, as the view has it
 abbrev pub got_view : {A B : Type 0} → (A → B) → held.Got A → plain.Got B
@@ -41,6 +43,7 @@ as_is = got_view (λ x. x)
 abbrev pub arg_view_in : Box held_arg.Arg Global → Arg
 arg_view_in b = arg_view b.value
 
+-- a comparison of a chain in its box
 abbrev pub link_view_in : Box held_link.Link Global → Link
 link_view_in b = link_view b.value
 

@@ -11,5 +11,6 @@ use Rattle.pawn_expressions.specs.Answers.{Answers, part_view}
 pub record Nests (ts : List Token) (d : ℕ) (pre : Parser → ℕ → Bool → ℕ → ℕ → Type 0)
     (post : Parser → ℕ → Bool → ℕ → ℕ → Result Part ReadFault → Type 0) : Type 0 where
   pub callable : (p : Parser) (tags : Bool) (level i : ℕ) → pre p d tags level i
-  pub reads : (p : Parser) (tags : Bool) (level i : ℕ) (r : Result Part ReadFault) → p.tokens.now ≡ ts → post p d tags level i r
+  pub reads : (p : Parser) (tags : Bool) (level i : ℕ) (r : Result Part ReadFault)
+      → p.tokens.now ≡ ts → post p d tags level i r
       → Answers ts part_view (expr ts d tags level i) r

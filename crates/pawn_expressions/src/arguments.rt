@@ -199,7 +199,7 @@ impl<'a, F: Fn(Parser<'a>, u16, bool, usize, usize) -> Result<Part, ReadFault>> 
         let stop = self.parser.expect(Sign::CloseParenthesis, arguments.stop)?;
         let name = self.parser.spelling(start)?;
         let tree = call_node(self.parser.at(start), name, arguments.tree, false);
-        self.operation(start, tree, 1, arguments.height, stop)
+        self.operation(tree, 1, arguments.height, stop)
     }
 
     /// A call.

@@ -118,7 +118,7 @@ impl<'a, F: Fn(Parser<'a>, u16, bool, usize, usize) -> Result<Part, ReadFault>> 
     {
         let tree = chain_node(self.parser.at(start), left.tree, links.tree);
         let under = left.height.max(links.height);
-        self.operation(left.stop, tree, 9, under, links.stop)
+        self.operation(tree, 9, under, links.stop)
     }
 
     /// Comparisons, one behind another: one node.

@@ -4,6 +4,7 @@
 
 mod arguments;
 mod chain;
+mod deepest;
 mod fault;
 mod levels;
 mod looks;

@@ -99,7 +99,7 @@ impl<'a, F: Fn(Parser<'a>, u16, bool, usize, usize) -> Result<Part, ReadFault>> 
         let x = self.sub(true, 15, start + 1)?;
         let stop = self.parser.expect(Sign::CloseParenthesis, x.stop)?;
         let tree = Expr::Paren(self.parser.at(start), x.tree);
-        self.operation(start, tree, 1, x.height, stop)
+        self.operation(tree, 1, x.height, stop)
     }
 
     /// `sizeof`, with what it takes in parentheses or not.
@@ -147,7 +147,7 @@ impl<'a, F: Fn(Parser<'a>, u16, bool, usize, usize) -> Result<Part, ReadFault>> 
     {
         let x = self.sub(tags, 2, start + 1)?;
         let tree = Expr::Prefix(self.parser.at(start), sign, x.tree);
-        self.operation(start, tree, 2, x.height, x.stop)
+        self.operation(tree, 2, x.height, x.stop)
     }
 
     /// A tag before its operand.
@@ -162,7 +162,7 @@ impl<'a, F: Fn(Parser<'a>, u16, bool, usize, usize) -> Result<Part, ReadFault>> 
         let x = self.sub(tags, 2, start + 2)?;
         let tag = self.parser.spelling(start)?;
         let tree = Expr::Tagged(self.parser.at(start), tag, x.tree);
-        self.operation(start, tree, 2, x.height, x.stop)
+        self.operation(tree, 2, x.height, x.stop)
     }
 
     /// A number.

@@ -28,7 +28,7 @@ impl<'a, F: Fn(Parser<'a>, u16, bool, usize, usize) -> Result<Part, ReadFault>> 
             return Err(self.parser.stuck(left.stop));
         }
         let tree = Expr::Postfix(self.parser.at(start), sign, left.tree);
-        self.operation(left.stop, tree, 1, left.height, left.stop + 1)
+        self.operation(tree, 1, left.height, left.stop + 1)
     }
 
     /// That no element stands behind this operand. Behind a `sizeof` without parentheses the
@@ -60,7 +60,7 @@ impl<'a, F: Fn(Parser<'a>, u16, bool, usize, usize) -> Result<Part, ReadFault>> 
         let y = self.sub(true, 15, left.stop + 1)?;
         let stop = self.parser.expect(Sign::CloseBracket, y.stop)?;
         let tree = Expr::Index(self.parser.at(start), left.tree, y.tree);
-        self.operation(left.stop, tree, 1, left.height.max(y.height), stop)
+        self.operation(tree, 1, left.height.max(y.height), stop)
     }
 
     /// A character in `{}`.
@@ -79,7 +79,7 @@ impl<'a, F: Fn(Parser<'a>, u16, bool, usize, usize) -> Result<Part, ReadFault>> 
         let y = self.sub(true, 15, left.stop + 1)?;
         let stop = self.parser.expect(Sign::CloseBrace, y.stop)?;
         let tree = Expr::Character(self.parser.at(start), left.tree, y.tree);
-        self.operation(left.stop, tree, 1, left.height.max(y.height), stop)
+        self.operation(tree, 1, left.height.max(y.height), stop)
     }
 
     /// An operator that groups to the left.
@@ -104,7 +104,7 @@ impl<'a, F: Fn(Parser<'a>, u16, bool, usize, usize) -> Result<Part, ReadFault>> 
         }
         let y = self.sub(tags, level.saturating_sub(1), left.stop + 1)?;
         let tree = Expr::Binary(self.parser.at(start), sign, left.tree, y.tree);
-        self.operation(left.stop, tree, level, left.height.max(y.height), y.stop)
+        self.operation(tree, level, left.height.max(y.height), y.stop)
     }
 
     /// `? :`
@@ -125,7 +125,7 @@ impl<'a, F: Fn(Parser<'a>, u16, bool, usize, usize) -> Result<Part, ReadFault>> 
         let y = self.sub(tags, 13, next)?;
         let tree = Expr::Choice(self.parser.at(start), test.tree, x.tree, y.tree);
         let under = test.height.max(x.height.max(y.height));
-        self.operation(test.stop, tree, 13, under, y.stop)
+        self.operation(tree, 13, under, y.stop)
     }
 
     /// `=`, or an operator with `=`.
@@ -143,7 +143,7 @@ impl<'a, F: Fn(Parser<'a>, u16, bool, usize, usize) -> Result<Part, ReadFault>> 
         }
         let y = self.sub(tags, 14, left.stop + 1)?;
         let tree = Expr::Assign(self.parser.at(start), sign, left.tree, y.tree);
-        self.operation(left.stop, tree, 14, left.height.max(y.height), y.stop)
+        self.operation(tree, 14, left.height.max(y.height), y.stop)
     }
 
     /// What this sign makes of it.

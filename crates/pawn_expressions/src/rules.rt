@@ -4,6 +4,7 @@ ghost use Rattle.pawn_grammar.specs.ReadExpressions as spec;
 ghost use Rattle.pawn_expressions.specs.Answers.{Answers, part_view};
 ghost use Rattle.pawn_expressions.specs.Nests.{Nests};
 
+use super::deepest::deepest_token;
 use super::fault::ReadFault;
 use super::parser::Parser;
 use super::part::Part;
@@ -30,11 +31,10 @@ impl<'a, F: Fn(Parser<'a>, u16, bool, usize, usize) -> Result<Part, ReadFault>> 
         (self.nested)(self.parser, self.height, tags, level, start)
     }
 
-    /// A node of a level, if no more than so many levels stand below it. Else no tree goes on at
-    /// token `at`.
+    /// A node of a level, if no more than so many levels stand below it. Else the first of its
+    /// lowest nodes is the first one that stands too deep.
     pub(crate) fn operation(
         &self,
-        at: usize,
         tree: Expr,
         level: usize,
         under: usize,
@@ -45,7 +45,7 @@ impl<'a, F: Fn(Parser<'a>, u16, bool, usize, usize) -> Result<Part, ReadFault>> 
             (spec.operation d (expr_view tree) level under stop) result }
     {
         if under > usize::from(self.height) {
-            return Err(self.parser.stuck(at));
+            return Err(self.parser.stuck(deepest_token(&tree)));
         }
         Ok(Part {
             tree: Box::new(self.parser.alloc, tree)?,

@@ -1,5 +1,7 @@
 -- What a token is, and what follows from it.
-use Rattle.std.proofs.Common.{◌≡◌, ◌≢◌, ℕ, suc, ◌≤◌, ◌<◌, Bool, true, false, ◌&&◌, ◌||◌, ◌==◌, ◌⊎◌, inl, inr, List, length, Option, Some, None, refl, sym, ◌∙◌, ap, subst, arith}
+use Rattle.std.proofs.Common.{◌≡◌, ◌≢◌, ℕ, suc, ◌≤◌, ◌<◌, Bool, true, false, ◌&&◌, ◌||◌, ◌==◌, ◌⊎◌}
+use Rattle.std.proofs.Common.{inl, inr, List, length, Option, Some, None, refl, sym, ◌∙◌, ap, subst}
+use Rattle.std.proofs.Common.{arith}
 use Rattle.std.specs.Prelude.{slice_get, if◌then◌else◌}
 use Rattle.std.proofs.lemmas.Bool.Decides.{nat_tests}
 use denote.Enum.Bare.{same_true, true_same}
@@ -14,7 +16,8 @@ use Rattle.pawn_grammar.specs.declared.word.Word.{Word}
 use Rattle.pawn_grammar.specs.declared.word.Word.TheVariants as w
 use Rattle.pawn_grammar.specs.declared.joint.Joint.{Joint}
 use Rattle.pawn_grammar.specs.declared.joint.Joint.TheVariants as joint
-use Rattle.pawn_grammar.specs.Tokens.{word, word_at, is_sign, sees, is_key, sees_key, is_first, is_name, is_label, is_tag, touches}
+use Rattle.pawn_grammar.specs.Tokens.{word, word_at, is_sign, sees, is_key, sees_key, is_first}
+use Rattle.pawn_grammar.specs.Tokens.{is_name, is_label, is_tag, touches}
 use Rattle.pawn_grammar.specs.Levels.{joint_of, joint_at, level_of, binds}
 use Rattle.pawn_grammar.specs.Ends.{ending}
 use Rattle.pawn_grammar.proofs.Steps.{none_some, some_inj, false_true}
@@ -36,7 +39,8 @@ pub true_sees : (ts : List Token) (c : Sign) (i : ℕ) → word ts i ≡ w.Sign 
 unfolding sees
 true_sees ts c i e = ap (is_sign c) e ∙ same_sign c
 
-pub sees_other : (ts : List Token) (c : Sign) (i : ℕ) (v : Word) → word ts i ≡ v → is_sign c v ≡ false → sees ts c i ≡ false
+pub sees_other : (ts : List Token) (c : Sign) (i : ℕ) (v : Word) → word ts i ≡ v
+    → is_sign c v ≡ false → sees ts c i ≡ false
 unfolding sees
 sees_other ts c i v e f = ap (is_sign c) e ∙ f
 
@@ -44,18 +48,21 @@ pub key_true : (k : Key) (v : Word) → is_key k v ≡ true → v ≡ w.Key k
 key_true k (w.Key s) e = ap (λ c. w.Key c) (sym (same_true keys.the_type tt k s e))
 key_true k _ e = absurd (false_true e)
 
-pub sees_key_true : (ts : List Token) (k : Key) (i : ℕ) → sees_key ts k i ≡ true → word ts i ≡ w.Key k
+pub sees_key_true : (ts : List Token) (k : Key) (i : ℕ) → sees_key ts k i ≡ true
+    → word ts i ≡ w.Key k
 unfolding sees_key
 sees_key_true ts k i e = key_true k (word ts i) e
 
 pub same_key : (k : Key) → is_key k (w.Key k) ≡ true
 same_key k = true_same keys.the_type k k refl
 
-pub true_sees_key : (ts : List Token) (k : Key) (i : ℕ) → word ts i ≡ w.Key k → sees_key ts k i ≡ true
+pub true_sees_key : (ts : List Token) (k : Key) (i : ℕ) → word ts i ≡ w.Key k
+    → sees_key ts k i ≡ true
 unfolding sees_key
 true_sees_key ts k i e = ap (is_key k) e ∙ same_key k
 
-pub sees_other_key : (ts : List Token) (k : Key) (i : ℕ) (v : Word) → word ts i ≡ v → is_key k v ≡ false → sees_key ts k i ≡ false
+pub sees_other_key : (ts : List Token) (k : Key) (i : ℕ) (v : Word) → word ts i ≡ v
+    → is_key k v ≡ false → sees_key ts k i ≡ false
 unfolding sees_key
 sees_other_key ts k i v e f = ap (is_key k) e ∙ f
 
@@ -91,16 +98,20 @@ pub tag_label : (ts : List Token) (i : ℕ) → is_tag ts i ≡ true → is_labe
 unfolding is_tag
 tag_label ts i e = and_true _ _ e
 
-no_tag_by : (b first l t : Bool) (v : Word) → 1 ≤ level_of b first (joint_at v) → (b && (l && (is_sign sign.Colon v && t))) ≡ false
+no_tag_by : (b first l t : Bool) (v : Word) → 1 ≤ level_of b first (joint_at v)
+    → (b && (l && (is_sign sign.Colon v && t))) ≡ false
 no_tag_by false first l t v low = refl
 no_tag_by true first false t v low = refl
 no_tag_by true first true t (w.Sign sign.Colon) low = absurd (omega arith)
 no_tag_by true first true t _ low = refl
 
 -- a name whose next token an expression may have behind it is no tag
-pub no_tag : (ts : List Token) (b : Bool) (i : ℕ) → 1 ≤ binds ts b (suc i) → (b && is_tag ts i) ≡ false
+pub no_tag : (ts : List Token) (b : Bool) (i : ℕ) → 1 ≤ binds ts b (suc i)
+    → (b && is_tag ts i) ≡ false
 unfolding binds is_tag sees
-no_tag ts b i low = no_tag_by b (is_first ts (suc i)) (is_label (word ts i)) (touches ts (suc i)) (word ts (suc i)) low
+no_tag ts b i low =
+    no_tag_by b (is_first ts (suc i)) (is_label (word ts i)) (touches ts (suc i))
+    (word ts (suc i)) low
 
 no_tag_word_by : (b l s t : Bool) → s ≡ false → (b && (l && (s && t))) ≡ false
 no_tag_word_by false l s t e = refl
@@ -108,17 +119,20 @@ no_tag_word_by true false s t e = refl
 no_tag_word_by true true false t e = refl
 no_tag_word_by true true true t e = absurd (false_true (sym e))
 
-pub no_tag_word : (ts : List Token) (b : Bool) (i : ℕ) (v : Word) → word ts (suc i) ≡ v → is_sign sign.Colon v ≡ false → (b && is_tag ts i) ≡ false
+pub no_tag_word : (ts : List Token) (b : Bool) (i : ℕ) (v : Word) → word ts (suc i) ≡ v
+    → is_sign sign.Colon v ≡ false → (b && is_tag ts i) ≡ false
 unfolding is_tag
 no_tag_word ts b i v e f = no_tag_word_by b _ _ _ (sees_other ts sign.Colon (suc i) v e f)
 
 -- ---- levels
 
-pub binds_at : (ts : List Token) (b : Bool) (i : ℕ) (v : Word) → word ts i ≡ v → binds ts b i ≡ level_of b (is_first ts i) (joint_at v)
+pub binds_at : (ts : List Token) (b : Bool) (i : ℕ) (v : Word) → word ts i ≡ v
+    → binds ts b i ≡ level_of b (is_first ts i) (joint_at v)
 unfolding binds
 binds_at ts b i v e = ap (λ x. level_of b (is_first ts i) (joint_at x)) e
 
-pub binds_joint : (ts : List Token) (b : Bool) (i : ℕ) (c : Sign) (j : Joint) → word ts i ≡ w.Sign c → joint_of c ≡ j → binds ts b i ≡ level_of b (is_first ts i) j
+pub binds_joint : (ts : List Token) (b : Bool) (i : ℕ) (c : Sign) (j : Joint) → word ts i ≡ w.Sign c
+    → joint_of c ≡ j → binds ts b i ≡ level_of b (is_first ts i) j
 binds_joint ts b i c j e f = binds_at ts b i _ e ∙ ap (level_of b (is_first ts i)) f
 
 -- the levels of operators that group to the left
@@ -129,14 +143,21 @@ pub record IsLeft (p : ℕ) : Type 0 where
   pub no_assign : p ≢ 14
 
 is_left : (p : ℕ) → 3 ≤ p → p ≤ 12 → IsLeft p
-is_left p l m = record { least = l; most = omega arith; no_choice = omega arith; no_assign = omega arith }
+is_left p l m =
+    record { least = l; most = omega arith; no_choice = omega arith; no_assign = omega arith }
 
 abbrev left_of : Joint → ℕ
 left_of (joint.Left p) = p
 left_of _ = 3
 
 left_by : (c : Sign) → IsLeft (left_of (joint_of c))
-left_by sign.Comma = record { least = omega arith; most = omega arith; no_choice = omega arith; no_assign = omega arith }
+left_by sign.Comma =
+    record {
+      least = omega arith;
+      most = omega arith;
+      no_choice = omega arith;
+      no_assign = omega arith;
+    }
 left_by sign.Star = is_left 3 (omega arith) (omega arith)
 left_by sign.Slash = is_left 3 (omega arith) (omega arith)
 left_by sign.Percent = is_left 3 (omega arith) (omega arith)
@@ -165,7 +186,9 @@ pub edge_next : (p : ℕ) → edge p ≤ suc p
 edge_next p = grind (arith, nat_tests)
 
 pub edge_left : (s p : ℕ) → IsLeft p → s ≤ p → edge s ≤ p
-edge_left s p l u = let a = l.least in let b = l.most in let c = l.no_choice in let d = l.no_assign in grind (arith, nat_tests)
+edge_left s p l u =
+    let a = l.least in let b = l.most in
+    let c = l.no_choice in let d = l.no_assign in grind (arith, nat_tests)
 
 pub edge_over : (s p : ℕ) → s ≤ p → edge s ≤ suc p
 edge_over s p u = grind (arith, nat_tests)
@@ -179,7 +202,8 @@ abbrev pub is_real : Word → Bool
 is_real w.Absent = false
 is_real _ = true
 
-inside_by : (ts : List Token) (i : ℕ) (o : Option Token) → slice_get ts i ≡ o → is_real (word_at o) ≡ true → i < length ts
+inside_by : (ts : List Token) (i : ℕ) (o : Option Token) → slice_get ts i ≡ o
+    → is_real (word_at o) ≡ true → i < length ts
 inside_by ts i None e real = absurd (false_true real)
 inside_by ts i (Some token) e real = slice_get_within ts i token e
 
@@ -192,7 +216,8 @@ there ts i v e real = inside ts i (ap is_real e ∙ real)
 
 -- ---- ends
 
-ending_by : (ts : List Token) (i k : ℕ) (semi over : Bool) → (if semi then Some (suc i) else (if over then Some i else None)) ≡ Some k → i ≤ k
+ending_by : (ts : List Token) (i k : ℕ) (semi over : Bool)
+    → (if semi then Some (suc i) else (if over then Some i else None)) ≡ Some k → i ≤ k
 ending_by ts i k true over e = let p = some_inj _ _ e in omega arith
 ending_by ts i k false true e = let p = some_inj _ _ e in omega arith
 ending_by ts i k false false e = absurd (none_some e)

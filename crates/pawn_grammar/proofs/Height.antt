@@ -4,41 +4,77 @@ use Rattle.pawn_lex.specs.declared.token.Token.{Token}
 use Rattle.pawn_token.specs.declared.sign.Sign.{Sign}
 use Rattle.pawn_tree.specs.Expressions.{Expr, Arg, Link, args, links}
 use Rattle.pawn_tree.specs.Variables.{Dim, Init, Var, Variables, inits}
-use Rattle.pawn_tree.specs.Statements.{First, Range, Stmt, Case, stmts, maybe_stmt, cases, ConstantOf}
+use Rattle.pawn_tree.specs.Statements.{First, Range, Stmt, Case, stmts, maybe_stmt, cases}
+use Rattle.pawn_tree.specs.Statements.{ConstantOf}
 use Rattle.pawn_tree.specs.Declarations.{Item, Param, Head, Decl, Tree}
-use Rattle.pawn_tree.specs.Height.{highest, height_of, expr_height, arg_height, args_height, link_height, links_height, dim_height, init_height, inits_height, var_height, first_height, range_height, stmt_height, stmts_height, case_height, cases_height, other_height, item_height, param_height, head_height, decl_height, depth}
-use Rattle.pawn_grammar.specs.Lists.{Part, Many, no_more, one_more, Behind, Several, several, Listed, UpTo, none_up_to, some_up_to, Led, left_out, led}
-use Rattle.pawn_grammar.specs.Expressions.{IsExpr, number, text, name, paren, call, index, character, postfix, prefix, tagged, sizeof, sizeof_in, tagof, tagof_in, binary, chain, choice, assign, IsLink, link, AreLinks, no_links, one_link, IsValue, value_arg, default_arg, IsNamed, named_arg, AreArgs, no_args, first_value, first_named, AreMore, no_more_args, more_value, more_named, Whole, Condition, condition}
-use Rattle.pawn_grammar.specs.Variables.{IsDim, open_dim, cells_dim, chars_dim, AreDims, IsInit, init_value, braces, braces_rest, AreInits, first_init, MoreInits, no_inits, one_init, IsVar, var, AreVariables, variables, IsConstant, constant}
-use Rattle.pawn_grammar.specs.Statements.{IsResult, no_result, one_result, IsBefore, none_before, one_before, IsFirst, first_nothing, first_new, first_value, IsRange, range, IsStateName, IsStateCondition, always, only_if, IsStmt, empty_stmt, does_stmt, bare_stmt, block_stmt, if_stmt, while_stmt, do_while_stmt, for_stmt, switch_stmt, return_stmt, exit_stmt, sleep_stmt, assert_stmt, break_stmt, continue_stmt, state_stmt, local_stmt, constant_stmt, AreStmts, no_stmts, one_stmt, IsOther, no_else, one_else, AreCases, no_cases, one_case, IsCase, case_of, IsDefault, no_default, one_default}
+use Rattle.pawn_tree.specs.Height.{highest, height_of, expr_height, arg_height, args_height}
+use Rattle.pawn_tree.specs.Height.{link_height, links_height, dim_height, init_height, inits_height}
+use Rattle.pawn_tree.specs.Height.{var_height, first_height, range_height, stmt_height}
+use Rattle.pawn_tree.specs.Height.{stmts_height, case_height, cases_height, other_height}
+use Rattle.pawn_tree.specs.Height.{item_height, param_height, head_height, decl_height, depth}
+use Rattle.pawn_grammar.specs.Lists.{Part, Many, no_more, one_more, Behind, Several, several}
+use Rattle.pawn_grammar.specs.Lists.{Listed, UpTo, none_up_to, some_up_to, Led, left_out, led}
+use Rattle.pawn_grammar.specs.Expressions.{IsExpr, number, text, name, paren, call, index}
+use Rattle.pawn_grammar.specs.Expressions.{character, postfix, prefix, tagged, sizeof, sizeof_in}
+use Rattle.pawn_grammar.specs.Expressions.{tagof, tagof_in, binary, chain, choice, assign, IsLink}
+use Rattle.pawn_grammar.specs.Expressions.{link, AreLinks, no_links, one_link, IsValue, value_arg}
+use Rattle.pawn_grammar.specs.Expressions.{default_arg, IsNamed, named_arg, AreArgs, no_args}
+use Rattle.pawn_grammar.specs.Expressions.{first_value, first_named, AreMore, no_more_args}
+use Rattle.pawn_grammar.specs.Expressions.{more_value, more_named, Whole, Condition, condition}
+use Rattle.pawn_grammar.specs.Variables.{IsDim, open_dim, cells_dim, chars_dim, AreDims, IsInit}
+use Rattle.pawn_grammar.specs.Variables.{init_value, braces, braces_rest, AreInits, first_init}
+use Rattle.pawn_grammar.specs.Variables.{MoreInits, no_inits, one_init, IsVar, var, AreVariables}
+use Rattle.pawn_grammar.specs.Variables.{variables, IsConstant, constant}
+use Rattle.pawn_grammar.specs.Statements.{IsResult, no_result, one_result, IsBefore, none_before}
+use Rattle.pawn_grammar.specs.Statements.{one_before, IsFirst, first_nothing, first_new}
+use Rattle.pawn_grammar.specs.Statements.{first_value, IsRange, range, IsStateName}
+use Rattle.pawn_grammar.specs.Statements.{IsStateCondition, always, only_if, IsStmt, empty_stmt}
+use Rattle.pawn_grammar.specs.Statements.{does_stmt, bare_stmt, block_stmt, if_stmt, while_stmt}
+use Rattle.pawn_grammar.specs.Statements.{do_while_stmt, for_stmt, switch_stmt, return_stmt}
+use Rattle.pawn_grammar.specs.Statements.{exit_stmt, sleep_stmt, assert_stmt, break_stmt}
+use Rattle.pawn_grammar.specs.Statements.{continue_stmt, state_stmt, local_stmt, constant_stmt}
+use Rattle.pawn_grammar.specs.Statements.{AreStmts, no_stmts, one_stmt, IsOther, no_else, one_else}
+use Rattle.pawn_grammar.specs.Statements.{AreCases, no_cases, one_case, IsCase, case_of, IsDefault}
+use Rattle.pawn_grammar.specs.Statements.{no_default, one_default}
 use Rattle.pawn_grammar.specs.Statements as s
-use Rattle.pawn_grammar.specs.Declarations.{IsItem, item_of, IsEnum, enum_of, IsParam, plain_param, rest_param, IsHead, head_of, IsDecl, variables_decl, constant_decl, enum_decl, native_decl, forward_decl, function_decl}
+use Rattle.pawn_grammar.specs.Declarations.{IsItem, item_of, IsEnum, enum_of, IsParam, plain_param}
+use Rattle.pawn_grammar.specs.Declarations.{rest_param, IsHead, head_of, IsDecl, variables_decl}
+use Rattle.pawn_grammar.specs.Declarations.{constant_decl, enum_decl, native_decl, forward_decl}
+use Rattle.pawn_grammar.specs.Declarations.{function_decl}
 use Rattle.pawn_grammar.specs.Spells.{Spells}
 
 -- the height of a part is what a function says of it
 pub record HasHeight {A : Type 0} (part : Part A) (height : A → ℕ) : Type 0 where
   pub is : {h i j : ℕ} {x : A} → part h x i j → h ≡ height x
 
-many_height : {A : Type 0} {more : ℕ → Bool} {part : Part A} {height : A → ℕ} {h i j : ℕ} {xs : List A} → HasHeight part height → Many more part h xs i j → h ≡ highest height xs
+many_height : {A : Type 0} {more : ℕ → Bool} {part : Part A} {height : A → ℕ} {h i j : ℕ}
+    {xs : List A} → HasHeight part height → Many more part h xs i j → h ≡ highest height xs
 many_height p (no_more f) = refl
 many_height p (one_more t x m) = rw (p.is x, many_height p m) refl
 
-behind_height : {A : Type 0} {part : Part A} {height : A → ℕ} → HasHeight part height → HasHeight (Behind part) height
+behind_height : {A : Type 0} {part : Part A} {height : A → ℕ} → HasHeight part height
+    → HasHeight (Behind part) height
 behind_height p = record { is = λ x. p.is x }
 
-several_height : {A : Type 0} {more : ℕ → Bool} {part : Part A} {height : A → ℕ} {h i j : ℕ} {xs : List A} → HasHeight part height → Several more part (Behind part) h xs i j → h ≡ highest height xs
+several_height : {A : Type 0} {more : ℕ → Bool} {part : Part A} {height : A → ℕ} {h i j : ℕ}
+    {xs : List A} → HasHeight part height → Several more part (Behind part) h xs i j
+    → h ≡ highest height xs
 several_height p (several x m) = rw (p.is x, many_height (behind_height p) m) refl
 
-led_height : {A : Type 0} {ts : List Token} {c : Sign} {part : Part A} {height : A → ℕ} {h i j : ℕ} {x : Option A} → HasHeight part height → Led ts c part h x i j → h ≡ height_of height x
+led_height : {A : Type 0} {ts : List Token} {c : Sign} {part : Part A} {height : A → ℕ} {h i j : ℕ}
+    {x : Option A} → HasHeight part height → Led ts c part h x i j → h ≡ height_of height x
 led_height p (left_out f) = refl
 led_height p (led c x) = p.is x
 
-up_to_height : {A : Type 0} {ts : List Token} {c : Sign} {part : Part A} {height : A → ℕ} {h i j : ℕ} {xs : List A} → HasHeight part height → UpTo ts c part h xs i j → h ≡ highest height xs
+up_to_height : {A : Type 0} {ts : List Token} {c : Sign} {part : Part A} {height : A → ℕ}
+    {h i j : ℕ} {xs : List A} → HasHeight part height → UpTo ts c part h xs i j
+    → h ≡ highest height xs
 up_to_height p (none_up_to e) = refl
 up_to_height p (some_up_to f m e) = several_height p m
 
 mutual
-  expr_is : {ts : List Token} {b : Bool} {q h i j : ℕ} {x : Expr} → IsExpr ts b q h x i j → h ≡ expr_height x
+  expr_is : {ts : List Token} {b : Bool} {q h i j : ℕ} {x : Expr} → IsExpr ts b q h x i j
+      → h ≡ expr_height x
   expr_is (number c) = refl
   expr_is (text c) = refl
   expr_is (name c) = refl
@@ -58,10 +94,12 @@ mutual
   expr_is (choice s l c y l2 c2 z l3) = rw (expr_is s, expr_is y, expr_is z) refl
   expr_is (assign s l c j y l2) = rw (expr_is s, expr_is y) refl
 
-  link_is : {ts : List Token} {b : Bool} {h i j : ℕ} {x : Link} → IsLink ts b h x i j → h ≡ link_height x
+  link_is : {ts : List Token} {b : Bool} {h i j : ℕ} {x : Link} → IsLink ts b h x i j
+      → h ≡ link_height x
   link_is (link c j y l e) = expr_is y
 
-  links_are : {ts : List Token} {b : Bool} {h i j : ℕ} {xs : List Link} → AreLinks ts b h xs i j → h ≡ links_height (links xs)
+  links_are : {ts : List Token} {b : Bool} {h i j : ℕ} {xs : List Link} → AreLinks ts b h xs i j
+      → h ≡ links_height (links xs)
   links_are (no_links f) = refl
   links_are (one_link t l m) = rw (link_is l, links_are m) refl
 
@@ -72,12 +110,14 @@ mutual
   named_is : {ts : List Token} {h i j : ℕ} {x : Arg} → IsNamed ts h x i j → h ≡ arg_height x
   named_is (named_arg c c2 c3 s l e) = expr_is s
 
-  args_are : {ts : List Token} {h i j : ℕ} {xs : List Arg} → AreArgs ts h xs i j → h ≡ args_height (args xs)
+  args_are : {ts : List Token} {h i j : ℕ} {xs : List Arg} → AreArgs ts h xs i j
+      → h ≡ args_height (args xs)
   args_are (no_args c) = refl
   args_are (first_value v m) = rw (value_is v, more_are m) refl
   args_are (first_named v m) = rw (named_is v, more_are m) refl
 
-  more_are : {ts : List Token} {named : Bool} {h i j : ℕ} {xs : List Arg} → AreMore ts named h xs i j → h ≡ args_height (args xs)
+  more_are : {ts : List Token} {named : Bool} {h i j : ℕ} {xs : List Arg}
+      → AreMore ts named h xs i j → h ≡ args_height (args xs)
   more_are (no_more_args f) = refl
   more_are (more_value c v m) = rw (value_is v, more_are m) refl
   more_are (more_named c v m) = rw (named_is v, more_are m) refl
@@ -93,7 +133,8 @@ dim_is (open_dim c c2) = refl
 dim_is (cells_dim c x c2) = expr_is x.is_expr
 dim_is (chars_dim c x c2 c3) = expr_is x.is_expr
 
-dims_are : {ts : List Token} {h i j : ℕ} {xs : List Dim} → AreDims ts h xs i j → h ≡ highest dim_height xs
+dims_are : {ts : List Token} {h i j : ℕ} {xs : List Dim} → AreDims ts h xs i j
+    → h ≡ highest dim_height xs
 dims_are m = many_height (record { is = λ x. dim_is x }) m
 
 mutual
@@ -102,30 +143,37 @@ mutual
   init_is (braces c xs c2) = ap (λ n. suc n) (inits_are xs)
   init_is (braces_rest c xs c2 c3 c4) = ap (λ n. suc n) (inits_are xs)
 
-  inits_are : {ts : List Token} {h i j : ℕ} {xs : List Init} → AreInits ts h xs i j → h ≡ inits_height (inits xs)
+  inits_are : {ts : List Token} {h i j : ℕ} {xs : List Init} → AreInits ts h xs i j
+      → h ≡ inits_height (inits xs)
   inits_are (first_init x m) = rw (init_is x, more_inits_are m) refl
 
-  more_inits_are : {ts : List Token} {h i j : ℕ} {xs : List Init} → MoreInits ts h xs i j → h ≡ inits_height (inits xs)
+  more_inits_are : {ts : List Token} {h i j : ℕ} {xs : List Init} → MoreInits ts h xs i j
+      → h ≡ inits_height (inits xs)
   more_inits_are (no_inits f) = refl
   more_inits_are (one_init t x m) = rw (init_is x, more_inits_are m) refl
 
 var_is : {ts : List Token} {h i j : ℕ} {x : Var} → IsVar ts h x i j → h ≡ var_height x
 var_is (var c ds x) = rw (dims_are ds, led_height (record { is = λ y. init_is y }) x) refl
 
-vars_are : {ts : List Token} {h i j : ℕ} {xs : List Var} → Listed ts (IsVar ts) h xs i j → h ≡ highest var_height xs
+vars_are : {ts : List Token} {h i j : ℕ} {xs : List Var} → Listed ts (IsVar ts) h xs i j
+    → h ≡ highest var_height xs
 vars_are m = several_height (record { is = λ x. var_is x }) m
 
-variables_are : {ts : List Token} {st : _} {h i j : ℕ} {x : Variables} → AreVariables ts st h x i j → h ≡ highest var_height x.vars
+variables_are : {ts : List Token} {st : _} {h i j : ℕ} {x : Variables} → AreVariables ts st h x i j
+    → h ≡ highest var_height x.vars
 variables_are (variables m e) = vars_are m
 
-constant_is : {ts : List Token} {h i j : ℕ} {x : ConstantOf} → IsConstant ts h x i j → h ≡ expr_height x.value
+constant_is : {ts : List Token} {h i j : ℕ} {x : ConstantOf} → IsConstant ts h x i j
+    → h ≡ expr_height x.value
 constant_is (constant c c2 x e) = expr_is x.is_expr
 
-result_is : {ts : List Token} {h i j : ℕ} {x : Option Expr} → IsResult ts h x i j → h ≡ height_of expr_height x
+result_is : {ts : List Token} {h i j : ℕ} {x : Option Expr} → IsResult ts h x i j
+    → h ≡ height_of expr_height x
 result_is (no_result e) = refl
 result_is (one_result f x e) = expr_is x.is_expr
 
-before_is : {ts : List Token} {c : Sign} {h i j : ℕ} {x : Option Expr} → IsBefore ts c h x i j → h ≡ height_of expr_height x
+before_is : {ts : List Token} {c : Sign} {h i j : ℕ} {x : Option Expr} → IsBefore ts c h x i j
+    → h ≡ height_of expr_height x
 before_is (none_before e) = refl
 before_is (one_before f x e) = expr_is x.is_expr
 
@@ -137,12 +185,14 @@ first_is (s.first_value x) = expr_is x.is_expr
 range_is : {ts : List Token} {h i j : ℕ} {x : Range} → IsRange ts h x i j → h ≡ range_height x
 range_is (range x y) = rw (expr_is x.is_expr, led_height whole_is y) refl
 
-state_condition_is : {ts : List Token} {h i j : ℕ} {x : Option Expr} → IsStateCondition ts h x i j → h ≡ height_of expr_height x
+state_condition_is : {ts : List Token} {h i j : ℕ} {x : Option Expr} → IsStateCondition ts h x i j
+    → h ≡ height_of expr_height x
 state_condition_is (always f) = refl
 state_condition_is (only_if c) = condition_is c
 
 mutual
-  stmt_is : {ts : List Token} {b : Bool} {h i j : ℕ} {x : Stmt} → IsStmt ts b h x i j → h ≡ stmt_height x
+  stmt_is : {ts : List Token} {b : Bool} {h i j : ℕ} {x : Stmt} → IsStmt ts b h x i j
+      → h ≡ stmt_height x
   stmt_is (empty_stmt c) = refl
   stmt_is (does_stmt x e) = ap (λ n. suc n) (expr_is x.is_expr)
   stmt_is (bare_stmt c t v a e) = rw (value_is v, more_are a) refl
@@ -162,36 +212,44 @@ mutual
   stmt_is (local_stmt c s v) = ap (λ n. suc n) (variables_are v)
   stmt_is (constant_stmt c x) = ap (λ n. suc n) (constant_is x)
 
-  stmts_are : {ts : List Token} {h i j : ℕ} {xs : List Stmt} → AreStmts ts h xs i j → h ≡ stmts_height (stmts xs)
+  stmts_are : {ts : List Token} {h i j : ℕ} {xs : List Stmt} → AreStmts ts h xs i j
+      → h ≡ stmts_height (stmts xs)
   stmts_are (no_stmts f) = refl
   stmts_are (one_stmt f s m) = rw (stmt_is s, stmts_are m) refl
 
-  other_is : {ts : List Token} {h i j : ℕ} {x : Option Stmt} → IsOther ts h x i j → h ≡ other_height (maybe_stmt x)
+  other_is : {ts : List Token} {h i j : ℕ} {x : Option Stmt} → IsOther ts h x i j
+      → h ≡ other_height (maybe_stmt x)
   other_is (no_else f) = refl
   other_is (one_else c s) = stmt_is s
 
-  cases_are : {ts : List Token} {h i j : ℕ} {xs : List Case} → AreCases ts h xs i j → h ≡ cases_height (cases xs)
+  cases_are : {ts : List Token} {h i j : ℕ} {xs : List Case} → AreCases ts h xs i j
+      → h ≡ cases_height (cases xs)
   cases_are (no_cases f) = refl
   cases_are (one_case t x m) = rw (case_is x, cases_are m) refl
 
   case_is : {ts : List Token} {h i j : ℕ} {x : Case} → IsCase ts h x i j → h ≡ case_height x
-  case_is (case_of c r c2 s) = rw (several_height (record { is = λ x. range_is x }) r, stmt_is s) refl
+  case_is (case_of c r c2 s) =
+      rw (several_height (record { is = λ x. range_is x }) r, stmt_is s) refl
 
-  default_is : {ts : List Token} {h i j : ℕ} {x : Option Stmt} → IsDefault ts h x i j → h ≡ other_height (maybe_stmt x)
+  default_is : {ts : List Token} {h i j : ℕ} {x : Option Stmt} → IsDefault ts h x i j
+      → h ≡ other_height (maybe_stmt x)
   default_is (no_default f) = refl
   default_is (one_default c c2 s) = stmt_is s
 
 item_is : {ts : List Token} {h i j : ℕ} {x : Item} → IsItem ts h x i j → h ≡ item_height x
 item_is (item_of c x) = led_height whole_is x
 
-enum_is : {ts : List Token} {h i j : ℕ} {name : _} {xs : List Item} → IsEnum ts h name xs i j → h ≡ highest item_height xs
+enum_is : {ts : List Token} {h i j : ℕ} {name : _} {xs : List Item} → IsEnum ts h name xs i j
+    → h ≡ highest item_height xs
 enum_is (enum_of c m c2) = several_height (record { is = λ x. item_is x }) m
 
-param_is : {ts : List Token} {native : Bool} {h i j : ℕ} {x : Param} → IsParam ts native h x i j → h ≡ param_height x
+param_is : {ts : List Token} {native : Bool} {h i j : ℕ} {x : Param} → IsParam ts native h x i j
+    → h ≡ param_height x
 param_is (plain_param t c ds v) = rw (dims_are ds, led_height whole_is v) refl
 param_is (rest_param same t c c2) = refl
 
-head_is : {ts : List Token} {native : Bool} {h i j : ℕ} {x : Head} → IsHead ts native h x i j → h ≡ head_height x
+head_is : {ts : List Token} {native : Bool} {h i j : ℕ} {x : Head} → IsHead ts native h x i j
+    → h ≡ head_height x
 head_is (head_of n c ps) = up_to_height (record { is = λ x. param_is x }) ps
 
 decl_is : {ts : List Token} {h i j : ℕ} {x : Decl} → IsDecl ts h x i j → h ≡ decl_height x
@@ -202,5 +260,6 @@ decl_is (native_decl c x e) = ap (λ n. suc n) (head_is x)
 decl_is (forward_decl c x e) = ap (λ n. suc n) (head_is x)
 decl_is (function_decl m x c s) = rw (head_is x, stmt_is s) refl
 
-pub spells_height : {ts : List Token} {tree : Tree} (spells : Spells ts tree) → spells.height ≡ depth tree
+pub spells_height : {ts : List Token} {tree : Tree} (spells : Spells ts tree)
+    → spells.height ≡ depth tree
 spells_height spells = many_height (record { is = λ x. decl_is x }) spells.decls

@@ -1,5 +1,6 @@
 -- The steps that every rule of the parser is made of.
-use Rattle.std.proofs.Common.{◌≡◌, Bool, true, false, ◌⊎◌, inl, inr, Option, Some, None, refl, ap, unwrap_or}
+use Rattle.std.proofs.Common.{◌≡◌, Bool, true, false, ◌⊎◌, inl, inr, Option, Some, None, refl, ap}
+use Rattle.std.proofs.Common.{unwrap_or}
 use Rattle.std.specs.Prelude.{if◌then◌else◌}
 use Rattle.pawn_grammar.specs.Readers.{◌>>=◌, guard}
 
@@ -17,14 +18,17 @@ pub record Bound {A B : Type 0} (o : Option A) (f : A → Option B) (y : B) : Ty
   pub is : o ≡ Some first
   pub next : f first ≡ Some y
 
-pub bind_some : {A B : Type 0} (o : Option A) (f : A → Option B) (y : B) → (o >>= f) ≡ Some y → Bound o f y
+pub bind_some : {A B : Type 0} (o : Option A) (f : A → Option B) (y : B) → (o >>= f) ≡ Some y
+    → Bound o f y
 bind_some None f y e = absurd (none_some e)
 bind_some (Some x) f y e = record { first = x; is = refl; next = e }
 
-pub guard_some : {A : Type 0} (b : Bool) (o : Option A) (y : A) → guard b o ≡ Some y → (b ≡ true) × (o ≡ Some y)
+pub guard_some : {A : Type 0} (b : Bool) (o : Option A) (y : A) → guard b o ≡ Some y
+    → (b ≡ true) × (o ≡ Some y)
 guard_some true o y e = (refl, e)
 guard_some false o y e = absurd (none_some e)
 
-pub if_cases : {A : Type 0} (b : Bool) (x z : Option A) (y : A) → (if b then x else z) ≡ Some y → ((b ≡ true) × (x ≡ Some y)) ⊎ ((b ≡ false) × (z ≡ Some y))
+pub if_cases : {A : Type 0} (b : Bool) (x z : Option A) (y : A) → (if b then x else z) ≡ Some y
+    → ((b ≡ true) × (x ≡ Some y)) ⊎ ((b ≡ false) × (z ≡ Some y))
 if_cases true x z y e = inl (refl, e)
 if_cases false x z y e = inr (refl, e)

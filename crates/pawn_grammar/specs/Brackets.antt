@@ -1,5 +1,5 @@
--- How many brackets are open. Each `(`, `[` and `{` adds one, and each `)`, `]` and `}` takes one away
--- where the count isn't 0.
+-- How many brackets are open. Each `(`, `[` and `{` adds one, and each `)`, `]` and `}` takes one
+-- away where the count isn't 0.
 use Rattle.std.specs.Prelude.{ℕ, suc, ◌-◌, ◌<◌, ◌≤◌, List, [], ◌∷◌, length, take}
 use Rattle.pawn_token.specs.declared.kind.TokenKind.{TokenKind}
 use Rattle.pawn_token.specs.declared.kind.TokenKind.TheVariants as kind

@@ -1,5 +1,7 @@
--- The grammar of what stands at the level of the file (Language Guide, "Declarations", "Functions").
-use Rattle.std.specs.Prelude.{◌≡◌, ℕ, suc, max, Bool, true, false, not, ◌&&◌, ◌||◌, if◌then◌else◌, List, [], ◌∷◌, Option, Some, None}
+-- The grammar of what stands at the level of the file (Language Guide, "Declarations",
+-- "Functions").
+use Rattle.std.specs.Prelude.{◌≡◌, ℕ, suc, max, Bool, true, false, not, ◌&&◌, ◌||◌, if◌then◌else◌}
+use Rattle.std.specs.Prelude.{List, [], ◌∷◌, Option, Some, None}
 use Rattle.pawn_token.specs.declared.sign.Sign.{Sign}
 use Rattle.pawn_token.specs.declared.sign.Sign.TheVariants as sign
 use Rattle.pawn_token.specs.declared.key.Key.{Key}
@@ -18,7 +20,8 @@ use Rattle.pawn_tree.specs.Declarations as d
 use Rattle.pawn_grammar.specs.declared.modifiers.Modifiers.{Modifiers}
 use Rattle.pawn_grammar.specs.declared.word.Word.{Word}
 use Rattle.pawn_grammar.specs.declared.word.Word.TheVariants as w
-use Rattle.pawn_grammar.specs.Tokens.{word, sees, sees_key, at, name_at, is_name, is_label, is_tag, tag_at, behind_tag, behind_key, behind_sign}
+use Rattle.pawn_grammar.specs.Tokens.{word, sees, sees_key, at, name_at, is_name, is_label, is_tag}
+use Rattle.pawn_grammar.specs.Tokens.{tag_at, behind_tag, behind_key, behind_sign}
 use Rattle.pawn_grammar.specs.Ends.{ending}
 use Rattle.pawn_grammar.specs.Lists.{Several, Listed, Behind, UpTo, Led}
 use Rattle.pawn_grammar.specs.Expressions.{Whole}
@@ -117,7 +120,8 @@ is_modifier _ = false
 unfoldable pub is_function : List Token → ℕ → Bool
 is_function ts i = is_modifier (word ts i) || begins_head ts (behind_tag ts i)
 
--- The words from i up to j, behind those in `before`. They stand in any order, and each at most once.
+-- The words from i up to j, behind those in `before`. They stand in any order, and each at most
+-- once.
 pub data AreModifiers (ts : List Token) : Modifiers → Modifiers → ℕ → ℕ → Type 0 where
   no_modifier : {m : Modifiers} {i : ℕ} → is_modifier (word ts i) ≡ false → AreModifiers ts m m i i
   static_word : {before all : Modifiers} {i j : ℕ} → word ts i ≡ w.Key key.Static

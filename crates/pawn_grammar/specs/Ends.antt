@@ -1,6 +1,7 @@
 -- How a statement ends: with a semicolon where the next token is one. Else with nothing; then the
 -- token before isn't strict, and the next one is first on its line, is `}` or is absent.
-use Rattle.std.specs.Prelude.{ℕ, suc, ◌-◌, Bool, true, not, ◌&&◌, if◌then◌else◌, List, Option, Some, None}
+use Rattle.std.specs.Prelude.{ℕ, suc, ◌-◌, Bool, true, not, ◌&&◌, if◌then◌else◌, List, Option, Some}
+use Rattle.std.specs.Prelude.{None}
 use Rattle.pawn_token.specs.declared.sign.Sign.TheVariants as sign
 use Rattle.pawn_lex.specs.declared.token.Token.{Token}
 use Rattle.pawn_grammar.specs.declared.word.Word.{Word}

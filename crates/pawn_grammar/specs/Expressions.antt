@@ -1,6 +1,7 @@
 -- The grammar of expressions: which one stands on the tokens from i up to j (Language Guide,
 -- "Operators and expressions"). Nothing is said of how it is read.
-use Rattle.std.specs.Prelude.{◌≡◌, ℕ, zero, suc, ◌≤◌, ◌<◌, max, Bool, true, false, ◌&&◌, List, [], ◌∷◌}
+use Rattle.std.specs.Prelude.{◌≡◌, ℕ, zero, suc, ◌≤◌, ◌<◌, max, Bool, true, false, ◌&&◌, List, []}
+use Rattle.std.specs.Prelude.{◌∷◌}
 use Rattle.pawn_token.specs.declared.sign.Sign.{Sign}
 use Rattle.pawn_token.specs.declared.sign.Sign.TheVariants as sign
 use Rattle.pawn_token.specs.declared.key.Key.TheVariants as key
@@ -13,7 +14,8 @@ use Rattle.pawn_tree.specs.declared.expression.TagofOperand.{TagofOperand}
 use Rattle.pawn_tree.specs.declared.expression.TagofOperand.TheVariants as tagof_operand
 use Rattle.pawn_grammar.specs.declared.word.Word.TheVariants as w
 use Rattle.pawn_grammar.specs.declared.joint.Joint.TheVariants as joint
-use Rattle.pawn_grammar.specs.Tokens.{word, sees, spelling, is_packed, value, at, name_at, text_at, is_first, is_tag}
+use Rattle.pawn_grammar.specs.Tokens.{word, sees, spelling, is_packed, value, at, name_at, text_at}
+use Rattle.pawn_grammar.specs.Tokens.{is_first, is_tag}
 use Rattle.pawn_grammar.specs.Levels.{joint_of, is_prefix, binds, calls, compares}
 
 -- so many `[]` one behind another

@@ -1,5 +1,5 @@
--- The operators by levels (Language Guide, "Operator precedence"): 1 postfix, 2 prefix, 3 to 8 and 10
--- to 12 grouping to the left, 9 the chain of comparisons, 13 `? :`, 14 assignment, 15 the comma.
+-- The operators by levels (Language Guide, "Operator precedence"): 1 postfix, 2 prefix, 3 to 8 and
+-- 10 to 12 grouping to the left, 9 the chain of comparisons, 13 `? :`, 14 assignment, 15 the comma.
 use Rattle.std.specs.Prelude.{ℕ, Bool, true, false, not, ◌&&◌, if◌then◌else◌, List}
 use Rattle.pawn_token.specs.declared.sign.Sign.{Sign}
 use Rattle.pawn_token.specs.declared.sign.Sign.TheVariants as sign
@@ -63,8 +63,8 @@ is_prefix sign.Decrement = true
 is_prefix _ = false
 
 -- At which level a sign goes on with an expression that ends before it. No expression ends before a
--- sign of level 0, and one of level 16 doesn't go on with it. What stands behind its operand stands on
--- its line.
+-- sign of level 0, and one of level 16 doesn't go on with it. What stands behind its operand stands
+-- on its line.
 abbrev pub level_of : Bool → Bool → Joint → ℕ
 level_of tags first (joint.Left level) = level
 level_of tags first joint.Compare = 9

@@ -1,6 +1,7 @@
 -- Lists of parts, and parts that may be left out. A part is a relation: its height, what it is, and
 -- the tokens from which and up to which it stands.
-use Rattle.std.specs.Prelude.{◌≡◌, ℕ, suc, max, Bool, true, false, List, [], ◌∷◌, Option, Some, None}
+use Rattle.std.specs.Prelude.{◌≡◌, ℕ, suc, max, Bool, true, false, List, [], ◌∷◌, Option, Some}
+use Rattle.std.specs.Prelude.{None}
 use Rattle.pawn_token.specs.declared.sign.Sign.{Sign}
 use Rattle.pawn_token.specs.declared.sign.Sign.TheVariants as sign
 use Rattle.pawn_lex.specs.declared.token.Token.{Token}

@@ -1,5 +1,6 @@
 -- The parser of what stands at the level of the file, as definitions.
-use Rattle.std.specs.Prelude.{ℕ, zero, suc, ◌==◌, max, Bool, true, false, not, ◌&&◌, if◌then◌else◌, List, [], ◌∷◌, length, Option, Some, None}
+use Rattle.std.specs.Prelude.{ℕ, zero, suc, ◌==◌, max, Bool, true, false, not, ◌&&◌, if◌then◌else◌}
+use Rattle.std.specs.Prelude.{List, [], ◌∷◌, length, Option, Some, None}
 use Rattle.pawn_token.specs.declared.sign.Sign.TheVariants as sign
 use Rattle.pawn_token.specs.declared.key.Key.TheVariants as key
 use Rattle.pawn_lex.specs.declared.token.Token.{Token}
@@ -14,11 +15,14 @@ use Rattle.pawn_tree.specs.Declarations as decls
 use Rattle.pawn_grammar.specs.declared.modifiers.Modifiers.{Modifiers}
 use Rattle.pawn_grammar.specs.declared.word.Word.{Word}
 use Rattle.pawn_grammar.specs.declared.word.Word.TheVariants as w
-use Rattle.pawn_grammar.specs.Tokens.{word, sees, sees_key, at, name_at, is_name, is_label, is_tag, tag_at, behind_tag, behind_key, behind_sign}
+use Rattle.pawn_grammar.specs.Tokens.{word, sees, sees_key, at, name_at, is_name, is_label, is_tag}
+use Rattle.pawn_grammar.specs.Tokens.{tag_at, behind_tag, behind_key, behind_sign}
 use Rattle.pawn_grammar.specs.Ends.{ending}
-use Rattle.pawn_grammar.specs.Declarations.{further_item, maybe_name, behind_name, behind_reference, is_function, none_yet}
+use Rattle.pawn_grammar.specs.Declarations.{further_item, maybe_name, behind_name, behind_reference}
+use Rattle.pawn_grammar.specs.Declarations.{is_function, none_yet}
 use Rattle.pawn_grammar.specs.Spells.{are_left}
-use Rattle.pawn_grammar.specs.Readers.{Got, got, Reader, ◌>>=◌, guard, node, many, behind, several, listed, up_to, led}
+use Rattle.pawn_grammar.specs.Readers.{Got, got, Reader, ◌>>=◌, guard, node, many, behind, several}
+use Rattle.pawn_grammar.specs.Readers.{listed, up_to, led}
 use Rattle.pawn_grammar.specs.ReadExpressions.{expr}
 use Rattle.pawn_grammar.specs.ReadVariables.{expression, dims, constant, variables}
 use Rattle.pawn_grammar.specs.ReadStatements.{state_name, statement}

@@ -1,5 +1,6 @@
 -- The parser of expressions, as definitions.
-use Rattle.std.specs.Prelude.{ℕ, zero, suc, ◌-◌, max, Bool, true, false, not, ◌&&◌, nat_le, nat_lt, if◌then◌else◌, List, [], ◌∷◌, ◌++◌, length, Option, Some, None}
+use Rattle.std.specs.Prelude.{ℕ, zero, suc, ◌-◌, max, Bool, true, false, not, ◌&&◌, nat_le, nat_lt}
+use Rattle.std.specs.Prelude.{if◌then◌else◌, List, [], ◌∷◌, ◌++◌, length, Option, Some, None}
 use denote.Enum.Bare.{sameb}
 use Rattle.pawn_token.specs.declared.sign.Sign.{Sign}
 use Rattle.pawn_token.specs.declared.sign.Sign.TheVariants as sign
@@ -16,7 +17,8 @@ use Rattle.pawn_grammar.specs.declared.word.Word.{Word}
 use Rattle.pawn_grammar.specs.declared.word.Word.TheVariants as w
 use Rattle.pawn_grammar.specs.declared.joint.Joint.{Joint}
 use Rattle.pawn_grammar.specs.declared.joint.Joint.TheVariants as joint
-use Rattle.pawn_grammar.specs.Tokens.{word, sees, spelling, is_packed, value, at, name_at, text_at, is_first, is_name, is_blank_word, is_tag}
+use Rattle.pawn_grammar.specs.Tokens.{word, sees, spelling, is_packed, value, at, name_at, text_at}
+use Rattle.pawn_grammar.specs.Tokens.{is_first, is_name, is_blank_word, is_tag}
 use Rattle.pawn_grammar.specs.Levels.{joint_of, is_prefix, binds, calls, compares}
 use Rattle.pawn_grammar.specs.Expressions.{behind_brackets}
 use Rattle.pawn_grammar.specs.Readers.{Got, got, Reader, ◌>>=◌, guard, many}

@@ -1,5 +1,6 @@
 -- The parser of statements, as definitions.
-use Rattle.std.specs.Prelude.{ℕ, zero, suc, max, Bool, true, false, not, if◌then◌else◌, List, [], ◌∷◌, length, Option, Some, None}
+use Rattle.std.specs.Prelude.{ℕ, zero, suc, max, Bool, true, false, not, if◌then◌else◌, List, []}
+use Rattle.std.specs.Prelude.{◌∷◌, length, Option, Some, None}
 use Rattle.pawn_token.specs.declared.sign.Sign.{Sign}
 use Rattle.pawn_token.specs.declared.sign.Sign.TheVariants as sign
 use Rattle.pawn_token.specs.declared.key.Key.{Key}
@@ -15,7 +16,8 @@ use Rattle.pawn_tree.specs.Statements.{First, Range, Stmt, Case, stmts, maybe_st
 use Rattle.pawn_tree.specs.Statements as s
 use Rattle.pawn_grammar.specs.declared.word.Word.{Word}
 use Rattle.pawn_grammar.specs.declared.word.Word.TheVariants as w
-use Rattle.pawn_grammar.specs.Tokens.{word, sees, sees_key, spelling, at, name_at, is_name, is_first}
+use Rattle.pawn_grammar.specs.Tokens.{word, sees, sees_key, spelling, at, name_at, is_name}
+use Rattle.pawn_grammar.specs.Tokens.{is_first}
 use Rattle.pawn_grammar.specs.Ends.{ending}
 use Rattle.pawn_grammar.specs.Statements.{is_bare}
 use Rattle.pawn_grammar.specs.Readers.{Got, got, Reader, ◌>>=◌, guard, node, many, listed, led}

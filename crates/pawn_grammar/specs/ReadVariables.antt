@@ -1,5 +1,6 @@
 -- The parser of variables and constants, as definitions.
-use Rattle.std.specs.Prelude.{ℕ, zero, suc, max, Bool, true, false, if◌then◌else◌, List, [], length, Option, Some, None}
+use Rattle.std.specs.Prelude.{ℕ, zero, suc, max, Bool, true, false, if◌then◌else◌, List, [], length}
+use Rattle.std.specs.Prelude.{Option, Some, None}
 use Rattle.pawn_token.specs.declared.sign.Sign.TheVariants as sign
 use Rattle.pawn_token.specs.declared.key.Key.TheVariants as key
 use Rattle.pawn_lex.specs.declared.token.Token.{Token}
@@ -8,10 +9,12 @@ use Rattle.pawn_tree.specs.Expressions.{Expr}
 use Rattle.pawn_tree.specs.Variables.{Dim, Init, Var, Variables, inits}
 use Rattle.pawn_tree.specs.Variables as v
 use Rattle.pawn_tree.specs.Statements.{ConstantOf}
-use Rattle.pawn_grammar.specs.Tokens.{word, sees, sees_key, at, name_at, is_name, tag_at, behind_tag, behind_key}
+use Rattle.pawn_grammar.specs.Tokens.{word, sees, sees_key, at, name_at, is_name, tag_at}
+use Rattle.pawn_grammar.specs.Tokens.{behind_tag, behind_key}
 use Rattle.pawn_grammar.specs.Ends.{ending}
 use Rattle.pawn_grammar.specs.Variables.{further_init}
-use Rattle.pawn_grammar.specs.Readers.{Got, got, Reader, ◌>>=◌, guard, node, many, behind, several, listed, led}
+use Rattle.pawn_grammar.specs.Readers.{Got, got, Reader, ◌>>=◌, guard, node, many, behind, several}
+use Rattle.pawn_grammar.specs.Readers.{listed, led}
 use Rattle.pawn_grammar.specs.ReadExpressions.{Sub, expr}
 
 module _ (ts : List Token) (sub : Sub) where

@@ -1,5 +1,6 @@
 -- The parts of the parser, as definitions: what each reads from a token on, or none.
-use Rattle.std.specs.Prelude.{ℕ, zero, suc, max, Bool, nat_le, if◌then◌else◌, List, [], ◌∷◌, ◌++◌, length, Option, Some, None}
+use Rattle.std.specs.Prelude.{ℕ, zero, suc, max, Bool, nat_le, if◌then◌else◌, List, [], ◌∷◌, ◌++◌}
+use Rattle.std.specs.Prelude.{length, Option, Some, None}
 use Rattle.pawn_token.specs.declared.sign.Sign.{Sign}
 use Rattle.pawn_token.specs.declared.sign.Sign.TheVariants as sign
 use Rattle.pawn_lex.specs.declared.token.Token.{Token}

@@ -1,6 +1,7 @@
--- The grammar of statements (Language Guide, "Statements"): which one stands on the tokens from i up
--- to j.
-use Rattle.std.specs.Prelude.{◌≡◌, ℕ, suc, max, Bool, true, false, not, ◌&&◌, List, [], ◌∷◌, Option, Some, None}
+-- The grammar of statements (Language Guide, "Statements"): which one stands on the tokens from i
+-- up to j.
+use Rattle.std.specs.Prelude.{◌≡◌, ℕ, suc, max, Bool, true, false, not, ◌&&◌, List, [], ◌∷◌, Option}
+use Rattle.std.specs.Prelude.{Some, None}
 use Rattle.pawn_token.specs.declared.sign.Sign.{Sign}
 use Rattle.pawn_token.specs.declared.sign.Sign.TheVariants as sign
 use Rattle.pawn_token.specs.declared.key.Key.{Key}
@@ -11,7 +12,8 @@ use Rattle.pawn_tree.specs.declared.variable.Storage.{Storage}
 use Rattle.pawn_tree.specs.Expressions.{Expr, Arg, args}
 use Rattle.pawn_tree.specs.Expressions as e
 use Rattle.pawn_tree.specs.Variables.{Var, Variables}
-use Rattle.pawn_tree.specs.Statements.{ConstantOf, First, Range, Stmt, Case, stmts, maybe_stmt, cases}
+use Rattle.pawn_tree.specs.Statements.{ConstantOf, First, Range, Stmt, Case, stmts, maybe_stmt}
+use Rattle.pawn_tree.specs.Statements.{cases}
 use Rattle.pawn_tree.specs.Statements as s
 use Rattle.pawn_grammar.specs.declared.word.Word.{Word}
 use Rattle.pawn_grammar.specs.declared.word.Word.TheVariants as w
@@ -33,7 +35,8 @@ opens_bare _ = false
 unfoldable pub is_bare : List Token → ℕ → Bool
 is_bare ts i = opens_bare (word ts i) && not (is_first ts i)
 
--- what stands behind `return`, `exit` or `sleep`: an expression that begins on the same line, or none
+-- what stands behind `return`, `exit` or `sleep`: an expression that begins on the same line, or
+-- none
 pub data IsResult (ts : List Token) : ℕ → Option Expr → ℕ → ℕ → Type 0 where
   no_result : {i k : ℕ} → ending ts i ≡ Some k → IsResult ts 0 None i k
   one_result : {h i j k : ℕ} {x : Expr} → is_first ts i ≡ false → Whole ts true 15 h x i j

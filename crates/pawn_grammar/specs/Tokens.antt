@@ -1,5 +1,6 @@
 -- What the grammar asks of a token, by its number.
-use Rattle.std.specs.Prelude.{ℕ, suc, ◌==◌, ℤ, pos, Bool, true, false, ◌&&◌, if◌then◌else◌, List, [], ◌∷◌, Option, Some, None, slice_get}
+use Rattle.std.specs.Prelude.{ℕ, suc, ◌==◌, ℤ, pos, Bool, true, false, ◌&&◌, if◌then◌else◌, List}
+use Rattle.std.specs.Prelude.{[], ◌∷◌, Option, Some, None, slice_get}
 use denote.Enum.Bare.{sameb}
 use Rattle.pawn_cells.specs.declared.place.Place.{Place}
 use Rattle.pawn_token.specs.declared.sign.Sign.{Sign}

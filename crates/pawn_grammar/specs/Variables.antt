@@ -1,5 +1,6 @@
 -- The grammar of variables and constants (Language Guide, "Declarations").
-use Rattle.std.specs.Prelude.{◌≡◌, ℕ, suc, max, Bool, true, false, not, ◌&&◌, List, [], ◌∷◌, Option, Some, None}
+use Rattle.std.specs.Prelude.{◌≡◌, ℕ, suc, max, Bool, true, false, not, ◌&&◌, List, [], ◌∷◌, Option}
+use Rattle.std.specs.Prelude.{Some, None}
 use Rattle.pawn_token.specs.declared.sign.Sign.TheVariants as sign
 use Rattle.pawn_token.specs.declared.key.Key.{Key}
 use Rattle.pawn_token.specs.declared.key.Key.TheVariants as key
@@ -11,7 +12,8 @@ use Rattle.pawn_tree.specs.Variables.{Dim, Init, Var, Variables, inits}
 use Rattle.pawn_tree.specs.Variables as v
 use Rattle.pawn_tree.specs.Statements.{ConstantOf}
 use Rattle.pawn_grammar.specs.declared.word.Word.TheVariants as w
-use Rattle.pawn_grammar.specs.Tokens.{word, sees, sees_key, at, name_at, tag_at, behind_tag, behind_key}
+use Rattle.pawn_grammar.specs.Tokens.{word, sees, sees_key, at, name_at, tag_at, behind_tag}
+use Rattle.pawn_grammar.specs.Tokens.{behind_key}
 use Rattle.pawn_grammar.specs.Ends.{ending}
 use Rattle.pawn_grammar.specs.Lists.{Many, Listed, Led}
 use Rattle.pawn_grammar.specs.Expressions.{Whole}

@@ -10,17 +10,21 @@ use Rattle.pawn_marks.specs.declared.mark.Declaration as held_declaration
 use Rattle.pawn_marks.specs.declared.mark.Mark as held
 use Rattle.pawn_marks.specs.declared.mark.Mark.TheVariants as mark
 
+-- an occurrence of a name
 abbrev pub use_view : held_use.Use → plain.Use
 use_view x = record { name = x.name.now; token = x.token; place = x.place }
 
+-- what a declaration declares
 abbrev pub sort_view : held_sort.Sort → plain.Sort
-sort_view (sort.Variable dims init) = plain.Variable (map dim_view dims.now) (option_map init_view init.now)
+sort_view (sort.Variable dims init) =
+    plain.Variable (map dim_view dims.now) (option_map init_view init.now)
 sort_view (sort.Parameter dims) = plain.Parameter (map dim_view dims.now)
 sort_view (sort.Constant value) = plain.Constant (expr_view value.now)
 sort_view sort.First = plain.First
 sort_view (sort.Next last) = plain.Next last.now
 sort_view (sort.Label last count) = plain.Label last.now count
 
+-- the name with its tag and sort, and whether it stands outside all functions
 abbrev pub declaration_view : held_declaration.Declaration → plain.Declaration
 declaration_view x = record {
   name = x.name.now;
@@ -30,6 +34,7 @@ declaration_view x = record {
   sort = sort_view x.sort;
 }
 
+-- where blocks begin and end, and tags, occurrences and declarations
 abbrev pub mark_view : held.Mark → Mark
 mark_view mark.Opens = plain.Opens
 mark_view mark.Closes = plain.Closes

@@ -5,11 +5,11 @@ use Rattle.pawn_scopes.specs.Known.{Kind, Cells, Worth, Function}
 use Rattle.pawn_scopes.specs.Mark.{Declaration}
 use Rattle.pawn_scopes.specs.Faults.{again_faults, value_faults}
 use Rattle.pawn_scopes.specs.Values.{with_kind, with_worth}
-use Rattle.pawn_sight.specs.declared.fault.CheckFault.{CheckFault}
-use Rattle.pawn_sight.specs.declared.fault.CheckFault.TheVariants.{Source, Memory}
+use Rattle.pawn_verdict.specs.declared.fault.CheckFault.{CheckFault}
+use Rattle.pawn_verdict.specs.declared.fault.CheckFault.TheVariants.{Source, Memory}
 use Rattle.pawn_sight.specs.declared.known.Kind as held
 use Rattle.pawn_sight.specs.declared.known.Kind.TheVariants as kept
-use Rattle.pawn_sight.specs.Answers.{Fails}
+use Rattle.pawn_verdict.specs.Answers.{Fails}
 use Rattle.pawn_constants.specs.Narrower.{Narrower, AreNarrower, NarrowerKind}
 use Rattle.pawn_sight.specs.Views.{kind_view}
 
@@ -21,9 +21,11 @@ narrower_twice u v w h k = record {
   faults = λ fault c. k.faults fault (h.faults fault c);
 }
 
-sizes_twice : (us vs ws : List (Verdict ℤ)) → AreNarrower us vs → AreNarrower vs ws → AreNarrower us ws
+sizes_twice : (us vs ws : List (Verdict ℤ)) → AreNarrower us vs → AreNarrower vs ws
+    → AreNarrower us ws
 sizes_twice [] [] [] h k = tt
-sizes_twice (u ∷ us) (v ∷ vs) (w ∷ ws) h k = (narrower_twice u v w h.0 k.0, sizes_twice us vs ws h.1 k.1)
+sizes_twice (u ∷ us) (v ∷ vs) (w ∷ ws) h k =
+    (narrower_twice u v w h.0 k.0, sizes_twice us vs ws h.1 k.1)
 sizes_twice [] (v ∷ vs) ws h k = absurd h
 sizes_twice (u ∷ us) [] ws h k = absurd h
 sizes_twice [] [] (w ∷ ws) h k = absurd k
@@ -48,12 +50,14 @@ kind_twice Function Function (Worth w) h k = absurd k
 
 -- ---- faults and values
 
-worth_fails : (v w : Verdict ℤ) (fault : CheckFault) → Narrower v w → Fails (faults_of v) fault → Fails (faults_of w) fault
+worth_fails : (v w : Verdict ℤ) (fault : CheckFault) → Narrower v w → Fails (faults_of v) fault
+    → Fails (faults_of w) fault
 worth_fails v w (Source kind place) h k = record { cause = h.faults _ k.cause }
 worth_fails v w Memory h k = record { cause = tt }
 
 -- a fault of what is narrower is one of what is declared
-pub value_fails : (u v : Kind) (fault : CheckFault) → NarrowerKind u v → Fails (value_faults u) fault → Fails (value_faults v) fault
+pub value_fails : (u v : Kind) (fault : CheckFault) → NarrowerKind u v
+    → Fails (value_faults u) fault → Fails (value_faults v) fault
 value_fails (Cells us) (Cells vs) fault h k = k
 value_fails (Worth u) (Worth v) fault h k = worth_fails u v fault h k
 value_fails Function Function fault h k = k
@@ -65,23 +69,28 @@ value_fails Function (Cells vs) fault h k = absurd h
 value_fails Function (Worth v) fault h k = absurd h
 
 -- what code keeps has a value or needs none
-pub kept_whole : (kind : held.Kind) (v : Kind) → NarrowerKind (kind_view kind) v → value_faults v ≡ []
+pub kept_whole : (kind : held.Kind) (v : Kind) → NarrowerKind (kind_view kind) v
+    → value_faults v ≡ []
 kept_whole (kept.Cells sizes) (Cells vs) h = refl
-kept_whole (kept.Worth value) (Worth v) h = let e : v ≡ Stands value = h.stands value refl in rw e refl
+kept_whole (kept.Worth value) (Worth v) h =
+    let e : v ≡ Stands value = h.stands value refl in rw e refl
 kept_whole (kept.Cells sizes) (Worth v) h = absurd h
 kept_whole (kept.Cells sizes) Function h = absurd h
 kept_whole (kept.Worth value) (Cells vs) h = absurd h
 kept_whole (kept.Worth value) Function h = absurd h
 
-pub kept_values : (it : Declaration) (kind : held.Kind) (v : Kind) (values : List (ℕ × ℤ)) → NarrowerKind (kind_view kind) v
+pub kept_values : (it : Declaration) (kind : held.Kind) (v : Kind) (values : List (ℕ × ℤ))
+    → NarrowerKind (kind_view kind) v
     → with_kind it v values ≡ with_kind it (kind_view kind) values
 kept_values it (kept.Cells sizes) (Cells vs) values h = refl
-kept_values it (kept.Worth value) (Worth v) values h = ap (λ w. with_worth it w values) (h.stands value refl)
+kept_values it (kept.Worth value) (Worth v) values h =
+    ap (λ w. with_worth it w values) (h.stands value refl)
 kept_values it (kept.Cells sizes) (Worth v) values h = absurd h
 kept_values it (kept.Cells sizes) Function values h = absurd h
 kept_values it (kept.Worth value) (Cells vs) values h = absurd h
 kept_values it (kept.Worth value) Function values h = absurd h
 
 -- a declaration that stands first in its block, or outside all functions
-pub again_none : (it : Declaration) (is_there : Bool) → it.outside ≡ true → again_faults it is_there ≡ []
+pub again_none : (it : Declaration) (is_there : Bool) → it.outside ≡ true
+    → again_faults it is_there ≡ []
 again_none it is_there h = rw h refl

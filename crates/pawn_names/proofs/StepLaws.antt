@@ -1,5 +1,6 @@
 -- One mark more: what code finds out of it by what it keeps is what the definitions say.
-use Rattle.std.proofs.Common.{◌≡◌, ℕ, ℤ, List, [], ◌∷◌, Option, Some, None, refl, sym, ap, ◌∙◌, subst}
+use Rattle.std.proofs.Common.{◌≡◌, ℕ, ℤ, List, [], ◌∷◌, Option, Some, None, refl, sym, ap, ◌∙◌}
+use Rattle.std.proofs.Common.{subst}
 use Rattle.pawn_scopes.specs.Verdict.{Verdict}
 use Rattle.pawn_scopes.specs.Known.{Known, Kind, Cells, Worth, Function}
 use Rattle.pawn_scopes.specs.Mark.{Mark, Use, Declaration}
@@ -35,25 +36,35 @@ same_meant (Some known) = record { token = refl; tag = refl; kind = same_kind kn
 
 -- ---- behind some marks
 
-module _ (around : Around) (marks : List Mark) (cx : Context) (knows : Knows around cx) (path : IsPath cx.known cx.scopes (path_of around marks)) where
+module _ (around : Around) (marks : List Mark) (cx : Context) (knows : Knows around cx)
+    (path : IsPath cx.known cx.scopes (path_of around marks)) where
   -- what code knows of a name is narrower
-  pub means_narrower : (name : List ℕ) → NarrowerMeant (means_view cx name) (meaning around marks name)
+  pub means_narrower : (name : List ℕ)
+      → NarrowerMeant (means_view cx name) (meaning around marks name)
   means_narrower name =
       let k : NarrowerMeant (elsewhere_view cx name) (everywhere around name) =
-      subst (λ known. NarrowerMeant known (everywhere around name)) (sym (knows.elsewhere name)) (same_meant (everywhere around name)) in
-      subst (λ known. NarrowerMeant (means_view cx name) known) (sym (scopes.path_finds around marks name))
-      (path_means around cx.known (elsewhere_view cx name) cx.scopes (path_of around marks) name path k)
+      subst (λ known. NarrowerMeant known (everywhere around name)) (sym (knows.elsewhere name))
+      (same_meant (everywhere around name)) in
+      subst (λ known. NarrowerMeant (means_view cx name) known)
+      (sym (scopes.path_finds around marks name))
+      (path_means around cx.known (elsewhere_view cx name) cx.scopes
+      (path_of around marks) name path k)
 
   pub here_is : (name : List ℕ) → innermost_has cx.scopes name ≡ is_here marks name
-  here_is name = path_has_name cx.known cx.scopes (path_of around marks) name path ∙ sym (scopes.path_has around marks name)
+  here_is name =
+      path_has_name cx.known cx.scopes (path_of around marks) name path
+      ∙ sym (scopes.path_has around marks name)
 
   pub around_is : around_view cx ≡ bare around
   around_is = rw (knows.tags, knows.overloads) refl
 
   -- what a declaration declares
-  pub declared_narrower : (it : Declaration) → NarrowerKind (kind_of (around_view cx) (means_view cx) it.place it.sort) (declared around marks it).kind
+  pub declared_narrower : (it : Declaration)
+      → NarrowerKind (kind_of (around_view cx) (means_view cx) it.place it.sort)
+      (declared around marks it).kind
   declared_narrower it =
-      subst (λ a. NarrowerKind (kind_of a (means_view cx) it.place it.sort) (declared around marks it).kind) (sym around_is)
+      subst (λ a. NarrowerKind (kind_of a (means_view cx) it.place it.sort)
+      (declared around marks it).kind) (sym around_is)
       (sort_narrower around it.place (means_view cx) (meaning around marks) means_narrower it.sort)
 
 -- ---- occurrences
@@ -61,6 +72,7 @@ module _ (around : Around) (marks : List Mark) (cx : Context) (knows : Knows aro
 pub use_is : (it : Use) (kept known : Option Known) → NarrowerMeant kept known
     → (use_faults it known ≡ use_faults it kept) × (pair_of it known ≡ pair_of it kept)
 use_is it None None h = (refl, refl)
-use_is it (Some kept) (Some known) h = (refl, ap (λ token. declared_at it.token token) (sym h.token))
+use_is it (Some kept) (Some known) h =
+    (refl, ap (λ token. declared_at it.token token) (sym h.token))
 use_is it None (Some known) h = absurd h
 use_is it (Some kept) None h = absurd h

@@ -10,12 +10,12 @@ use Rattle.pawn_scopes.specs.Overloads.{overloads_of}
 use Rattle.pawn_scopes.specs.Around.{Around, around_of, constant, function, function_named, tags_of}
 use Rattle.pawn_scopes.specs.Faults.{faults}
 use Rattle.pawn_scopes.proofs.FaultLaws.{no_faults}
-use Rattle.pawn_sight.specs.declared.fault.CheckFault.{CheckFault}
+use Rattle.pawn_verdict.specs.declared.fault.CheckFault.{CheckFault}
 use Rattle.pawn_sight.specs.declared.context.Context.{Context}
-use Rattle.pawn_sight.specs.Answers.{Fails}
+use Rattle.pawn_verdict.specs.Answers.{Fails}
 use Rattle.pawn_sight.specs.Steps.{IsWhole}
 use Rattle.pawn_sight.proofs.FileLaws.{functions_are}
-use Rattle.pawn_sight.proofs.VerdictLaws.{fails_left, fails_right}
+use Rattle.pawn_verdict.proofs.VerdictLaws.{fails_left, fails_right}
 use Rattle.pawn_names.specs.declared.names.Names.{Names}
 use Rattle.pawn_names.specs.declared.resolver.Resolver.{Resolver}
 use Rattle.pawn_names.specs.Behind.{IsBehind}
@@ -23,7 +23,8 @@ use Rattle.pawn_names.specs.Whole.{Begins, IsOnce, IsResolved, ArePairs, AreReso
 
 -- ---- before any mark
 
-pub once_is : (tree : Tree) (cx : Context) → cx.tags ≡ tags_of (tree_marks tree) → cx.operators ≡ overloads_of cx.tags tree []
+pub once_is : (tree : Tree) (cx : Context) → cx.tags ≡ tags_of (tree_marks tree)
+    → cx.operators ≡ overloads_of cx.tags tree []
     → IsWhole cx.tags (file_names tree) cx.names → cx.scopes ≡ [] → cx.known ≡ [] → IsOnce tree cx
 once_is tree cx tags operators names scopes known = record {
   begins = record {
@@ -40,7 +41,8 @@ once_is tree cx tags operators names scopes known = record {
   once = names.once;
 }
 
-pub nothing_behind : (around : Around) (cx : Context) (x : Resolver) → Begins around cx → x.context ≡ cx → x.uses ≡ [] → x.values.items ≡ []
+pub nothing_behind : (around : Around) (cx : Context) (x : Resolver) → Begins around cx
+    → x.context ≡ cx → x.uses ≡ [] → x.values.items ≡ []
     → IsBehind around [] x
 nothing_behind around cx x b c e v = record {
   knows = rw c b.knows;
@@ -54,12 +56,16 @@ nothing_behind around cx x b c e v = record {
 
 pub resolved : (tree : Tree) (cx : Context) (result : Result Names CheckFault) → IsOnce tree cx
     → AreResolved (around_of tree) (tree_marks tree) result → IsResolved tree result
-resolved tree cx (Ok names) once h = record { whole = no_faults tree once.once h.whole; uses = h.uses; values = h.values }
+resolved tree cx (Ok names) once h =
+    record { whole = no_faults tree once.once h.whole; uses = h.uses; values = h.values }
 resolved tree cx (Err fault) once h = fails_right (twice_faults (file_names tree)) _ fault h
 
-pub twice_fails : (tree : Tree) (fault : CheckFault) → Fails (twice_faults (file_names tree)) fault → Fails (faults tree) fault
+pub twice_fails : (tree : Tree) (fault : CheckFault) → Fails (twice_faults (file_names tree)) fault
+    → Fails (faults tree) fault
 twice_fails tree fault h = fails_left (twice_faults (file_names tree)) _ fault h
 
-pub all_pairs : (around : Around) (taken marks : List Mark) (x : Resolver) (names : Names) → taken ≡ marks → IsBehind around taken x
+pub all_pairs : (around : Around) (taken marks : List Mark) (x : Resolver) (names : Names)
+    → taken ≡ marks → IsBehind around taken x
     → names.uses ≡ x.uses → names.values ≡ x.values.items → ArePairs around marks names
-all_pairs around taken marks x names e h u v = rw (← e) (record { whole = h.whole; uses = u ∙ h.uses; values = v ∙ h.values })
+all_pairs around taken marks x names e h u v =
+    rw (← e) (record { whole = h.whole; uses = u ∙ h.uses; values = v ∙ h.values })

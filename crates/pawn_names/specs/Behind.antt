@@ -9,8 +9,8 @@ use Rattle.pawn_scopes.specs.Values as v
 use Rattle.pawn_sight.specs.declared.known.Known.{Known}
 use Rattle.pawn_sight.specs.declared.context.Context.{Context}
 use Rattle.pawn_names.specs.declared.resolver.Resolver.{Resolver}
-use Rattle.pawn_sight.specs.declared.fault.CheckFault.{CheckFault}
-use Rattle.pawn_sight.specs.Answers.{Fails}
+use Rattle.pawn_verdict.specs.declared.fault.CheckFault.{CheckFault}
+use Rattle.pawn_verdict.specs.Answers.{Fails}
 use Rattle.pawn_sight.specs.Scopes.{Numbered}
 use Rattle.pawn_sight.specs.Means.{elsewhere_view}
 use Rattle.pawn_constants.specs.Narrower.{NarrowerMeant}
@@ -21,22 +21,28 @@ use Rattle.pawn_sight.specs.Views.{known_view}
 -- a name with the number of its declaration, of which this is known
 pub record IsEntry (known : List Known) (numbered : List ℕ × ℕ) (entry : Entry) : Type 0 where
   pub name : numbered.0 ≡ entry.name
-  pub narrower : NarrowerMeant (option_map known_view (slice_get known numbered.1)) (Some entry.known)
+  pub narrower : NarrowerMeant (option_map known_view (slice_get known numbered.1))
+      (Some entry.known)
 
+-- one entry each, in one order
 abbrev pub IsBlock : List Known → List (List ℕ × ℕ) → List Entry → Type 0
 IsBlock known [] [] = Unit {0}
 IsBlock known [] (entry ∷ entries) = ⊥
 IsBlock known (numbered ∷ more) [] = ⊥
-IsBlock known (numbered ∷ more) (entry ∷ entries) = IsEntry known numbered entry × IsBlock known more entries
+IsBlock known (numbered ∷ more) (entry ∷ entries) =
+    IsEntry known numbered entry × IsBlock known more entries
 
+-- one block each, the innermost first
 abbrev pub IsPath : List Known → Numbered → Path → Type 0
 IsPath known [] [] = Unit {0}
 IsPath known [] (block ∷ outer) = ⊥
 IsPath known (numbered ∷ more) [] = ⊥
-IsPath known (numbered ∷ more) (block ∷ outer) = IsBlock known numbered block × IsPath known more outer
+IsPath known (numbered ∷ more) (block ∷ outer) =
+    IsBlock known numbered block × IsPath known more outer
 
 -- ---- what is known everywhere
 
+-- code holds the same tags and operators, and gives each name outside blocks the same meaning
 pub record Knows (around : Around) (cx : Context) : Type 0 where
   pub tags : cx.tags ≡ around.tags
   pub overloads : cx.operators ≡ around.overloads
@@ -44,6 +50,7 @@ pub record Knows (around : Around) (cx : Context) : Type 0 where
 
 -- ---- all
 
+-- all that code holds is that of these marks, which have no fault
 pub record IsBehind (around : Around) (marks : List Mark) (x : Resolver) : Type 0 where
   pub knows : Knows around x.context
   pub path : IsPath x.context.known x.context.scopes (path_of around marks)

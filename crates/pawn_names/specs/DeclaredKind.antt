@@ -4,11 +4,12 @@ use Rattle.std.specs.Prelude.{Result, Ok, Err}
 use Rattle.pawn_scopes.specs.Known.{Kind}
 use Rattle.pawn_scopes.specs.Faults.{value_faults}
 use Rattle.pawn_sight.specs.declared.known.Kind as held
-use Rattle.pawn_sight.specs.declared.fault.CheckFault.{CheckFault}
-use Rattle.pawn_sight.specs.Answers.{Fails}
+use Rattle.pawn_verdict.specs.declared.fault.CheckFault.{CheckFault}
+use Rattle.pawn_verdict.specs.Answers.{Fails}
 use Rattle.pawn_constants.specs.Narrower.{NarrowerKind}
 use Rattle.pawn_sight.specs.Views.{kind_view}
 
+-- an answer agrees with what is declared
 abbrev pub AnswersKind : Kind → Result held.Kind CheckFault → Type 0
 AnswersKind kind (Ok found) = NarrowerKind (kind_view found) kind
 AnswersKind kind (Err fault) = Fails (value_faults kind) fault

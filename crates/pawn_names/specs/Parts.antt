@@ -4,8 +4,8 @@ use Rattle.pawn_scopes.specs.Verdict.{Fault}
 use Rattle.pawn_scopes.specs.Known.{Known}
 use Rattle.pawn_scopes.specs.Mark.{Use}
 use Rattle.pawn_scopes.specs.Faults.{use_faults}
-use Rattle.pawn_sight.specs.declared.fault.CheckFault.{CheckFault}
-use Rattle.pawn_sight.specs.Answers.{Fails}
+use Rattle.pawn_verdict.specs.declared.fault.CheckFault.{CheckFault}
+use Rattle.pawn_verdict.specs.Answers.{Fails}
 
 -- a test is passed where there are no faults, and else one of them is answered
 abbrev pub Passes : {A : Type 0} → List Fault → Result A CheckFault → Type 0
@@ -17,6 +17,7 @@ abbrev pub IsTokenOf : Option Known → Option ℕ → Type 0
 IsTokenOf None token = ⊥
 IsTokenOf (Some known) token = known.token ≡ token
 
+-- the token of the declaration that an occurrence means, or its fault
 abbrev pub AnswersToken : Use → Option Known → Result (Option ℕ) CheckFault → Type 0
 AnswersToken it known (Ok token) = IsTokenOf known token
 AnswersToken it known (Err fault) = Fails (use_faults it known) fault

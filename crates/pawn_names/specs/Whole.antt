@@ -11,10 +11,11 @@ use Rattle.pawn_scopes.specs.Uses as u
 use Rattle.pawn_scopes.specs.Values as v
 use Rattle.pawn_sight.specs.declared.context.Context.{Context}
 use Rattle.pawn_names.specs.declared.names.Names.{Names}
-use Rattle.pawn_sight.specs.declared.fault.CheckFault.{CheckFault}
-use Rattle.pawn_sight.specs.Answers.{Fails}
+use Rattle.pawn_verdict.specs.declared.fault.CheckFault.{CheckFault}
+use Rattle.pawn_verdict.specs.Answers.{Fails}
 use Rattle.pawn_names.specs.Behind.{Knows}
 
+-- the pairs that code answers, seen as those defined
 abbrev pub names_view : Names → plain.Names
 names_view x = record { uses = x.uses; values = x.values }
 
@@ -32,10 +33,12 @@ pub record Begins (around : Around) (cx : Context) : Type 0 where
   pub scopes : cx.scopes ≡ []
   pub known : cx.known ≡ []
 
+-- what is known everywhere in a tree whose names outside functions don't clash
 pub record IsOnce (tree : Tree) (cx : Context) : Type 0 where
   pub begins : Begins (around_of tree) cx
   pub once : twice_faults (file_names tree) ≡ []
 
+-- that, or a fault of a name that clashes
 abbrev pub IsContext : Tree → Result Context CheckFault → Type 0
 IsContext tree (Ok cx) = IsOnce tree cx
 IsContext tree (Err fault) = Fails (twice_faults (file_names tree)) fault
@@ -46,6 +49,7 @@ pub record ArePairs (around : Around) (marks : List Mark) (names : Names) : Type
   pub uses : names.uses ≡ u.uses around marks
   pub values : names.values ≡ v.values around marks
 
+-- the pairs of all marks, or one of their faults
 abbrev pub AreResolved : Around → List Mark → Result Names CheckFault → Type 0
 AreResolved around marks (Ok names) = ArePairs around marks names
 AreResolved around marks (Err fault) = Fails (marks_faults around marks) fault

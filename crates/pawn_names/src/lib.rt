@@ -6,5 +6,5 @@ mod resolver;
 mod tags;
 
 pub use names::{Names, resolve};
-pub use pawn_sight::CheckFault;
+pub use pawn_verdict::CheckFault;
 pub use tags::tags_of;

@@ -9,8 +9,9 @@ use super::resolver::Resolver;
 use super::tags::tags_of;
 use pawn_base::List;
 use pawn_marks::{Mark, tree_marks};
-use pawn_sight::{CheckFault, Context, Scopes, file_names, operators_of};
+use pawn_sight::{Context, Scopes, file_names, operators_of};
 use pawn_tree::Tree;
+use pawn_verdict::CheckFault;
 use std::alloc::Global;
 
 /// The names of a tree, as pairs of numbers of tokens.

@@ -10,7 +10,7 @@ ghost use Rattle.pawn_scopes.specs.Uses as spec_uses;
 ghost use Rattle.pawn_scopes.specs.Values as spec_values;
 ghost use Rattle.pawn_scopes.specs.Verdict.{Verdict};
 ghost use Rattle.pawn_marks.specs.MarkView.{declaration_view, mark_view, sort_view, use_view};
-ghost use Rattle.pawn_sight.specs.Answers.{Answers};
+ghost use Rattle.pawn_verdict.specs.Answers.{Answers};
 ghost use Rattle.pawn_sight.specs.Means.{around_view, means_view};
 ghost use Rattle.pawn_sight.specs.Scopes as scopes;
 ghost use Rattle.pawn_sight.specs.Views.{kind_view, size_view};
@@ -23,7 +23,8 @@ use pawn_base::{Bytes, List, Memory};
 use pawn_cells::{Cell, Place};
 use pawn_constants::{constant_value, name_worth, parameter_sizes, variable_sizes};
 use pawn_marks::{Declaration, Mark, Sort, Use};
-use pawn_sight::{CheckFault, Context, Kind, Known, Size, TWICE, UNKNOWN, broken, tag_number};
+use pawn_sight::{Context, Kind, Known, Size, TWICE, UNKNOWN, tag_number};
+use pawn_verdict::{CheckFault, broken};
 use std::alloc::Global;
 
 /// What is found out behind some marks.
@@ -73,7 +74,7 @@ fn push_use(
 // ---- declarations
 
 /// One more than the constant of a name.
-#[tactic(auto, using(pawn_sight::proofs::VerdictLaws::verdicts))]
+#[tactic(auto, using(pawn_verdict::proofs::VerdictLaws::verdicts))]
 fn next_after(cx: &Context, place: Place, last: &Bytes) -> Result<i32, CheckFault>
     ensures { Answers (λ value. value) (found.next_after (around_view cx.now) place
         (means_view cx.now last.now)) result }

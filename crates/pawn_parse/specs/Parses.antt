@@ -1,4 +1,5 @@
--- What `parse` answers. The four cases exclude one another, but for want of memory, which says nothing.
+-- What `parse` answers. The four cases exclude one another, but for want of memory, which says
+-- nothing.
 use Rattle.std.specs.Prelude.{◌≡◌, ◌≤◌, List, length, Result, Ok, Err}
 use Rattle.pawn_lex.specs.declared.token.Token.{Token}
 use Rattle.pawn_tree.specs.Declarations.{Tree}

@@ -12,30 +12,43 @@ use Rattle.pawn_scopes.specs.Faults.{mark_faults, marks_faults, faults}
 
 -- ---- one of them
 
-pub twice_is_fault : (tree : Tree) (fault : Fault) → Contains (twice_faults (file_names tree)) fault → Contains (faults tree) fault
-twice_is_fault tree fault x = Contains-append_left (twice_faults (file_names tree)) (marks_faults (around_of tree) (tree_marks tree)) fault x
+pub twice_is_fault : (tree : Tree) (fault : Fault) → Contains (twice_faults (file_names tree)) fault
+    → Contains (faults tree) fault
+twice_is_fault tree fault x =
+    Contains-append_left (twice_faults (file_names tree))
+    (marks_faults (around_of tree) (tree_marks tree)) fault x
 
-pub mark_is_fault : (tree : Tree) (fault : Fault) → Contains (marks_faults (around_of tree) (tree_marks tree)) fault → Contains (faults tree) fault
-mark_is_fault tree fault x = Contains-append_right (twice_faults (file_names tree)) (marks_faults (around_of tree) (tree_marks tree)) fault x
+pub mark_is_fault : (tree : Tree) (fault : Fault)
+    → Contains (marks_faults (around_of tree) (tree_marks tree)) fault
+    → Contains (faults tree) fault
+mark_is_fault tree fault x =
+    Contains-append_right (twice_faults (file_names tree))
+    (marks_faults (around_of tree) (tree_marks tree)) fault x
 
 -- that of the latest mark
 pub latest_is_fault : (around : Around) (before : List Mark) (mark : Mark) (fault : Fault)
-    → Contains (mark_faults around before mark) fault → Contains (marks_faults around (mark ∷ before)) fault
-latest_is_fault around before mark fault x = Contains-append_right (marks_faults around before) (mark_faults around before mark) fault x
+    → Contains (mark_faults around before mark) fault
+    → Contains (marks_faults around (mark ∷ before)) fault
+latest_is_fault around before mark fault x =
+    Contains-append_right (marks_faults around before) (mark_faults around before mark) fault x
 
 -- names that follow keep the faults of those before them
-pub twice_stays : (more before : List FileName) (fault : Fault) → Contains (twice_faults before) fault → Contains (twice_faults (more ++ before)) fault
+pub twice_stays : (more before : List FileName) (fault : Fault)
+    → Contains (twice_faults before) fault → Contains (twice_faults (more ++ before)) fault
 twice_stays [] before fault x = x
-twice_stays (name ∷ more) before fault x = Contains-append_left (twice_faults (more ++ before)) _ fault (twice_stays more before fault x)
+twice_stays (name ∷ more) before fault x =
+    Contains-append_left (twice_faults (more ++ before)) _ fault (twice_stays more before fault x)
 
 -- ---- none
 
 none_of_two : (xs ys : List Fault) → xs ≡ [] → ys ≡ [] → xs ++ ys ≡ []
 none_of_two xs ys x y = rw (x, y) refl
 
-pub no_mark_faults : (around : Around) (before : List Mark) (mark : Mark) → marks_faults around before ≡ [] → mark_faults around before mark ≡ []
+pub no_mark_faults : (around : Around) (before : List Mark) (mark : Mark)
+    → marks_faults around before ≡ [] → mark_faults around before mark ≡ []
     → marks_faults around (mark ∷ before) ≡ []
 no_mark_faults around before mark x y = none_of_two _ _ x y
 
-pub no_faults : (tree : Tree) → twice_faults (file_names tree) ≡ [] → marks_faults (around_of tree) (tree_marks tree) ≡ [] → faults tree ≡ []
+pub no_faults : (tree : Tree) → twice_faults (file_names tree) ≡ []
+    → marks_faults (around_of tree) (tree_marks tree) ≡ [] → faults tree ≡ []
 no_faults tree x y = none_of_two _ _ x y

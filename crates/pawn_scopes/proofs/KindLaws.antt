@@ -1,5 +1,7 @@
 -- Each fault has the number of one of four rules.
-use Rattle.std.proofs.Common.{◌≡◌, ℕ, zero, suc, ℤ, Bool, true, false, ◌&&◌, not, if◌then◌else◌, List, [], ◌∷◌, ◌++◌, Option, Some, None, map, slice_get, option_map, refl}
+use Rattle.std.proofs.Common.{◌≡◌, ℕ, zero, suc, ℤ, Bool, true, false, ◌&&◌, not, if◌then◌else◌}
+use Rattle.std.proofs.Common.{List, [], ◌∷◌, ◌++◌, Option, Some, None, map, slice_get, option_map}
+use Rattle.std.proofs.Common.{refl}
 use Rattle.std.specs.Str.{bytes_eq}
 use Rattle.pawn_cells.specs.declared.place.Place.{Place}
 use Rattle.pawn_cells.specs.Constants.{predefined}
@@ -14,25 +16,33 @@ use Rattle.pawn_tree.specs.Variables.{Dim, Init}
 use Rattle.pawn_tree.specs.Declarations.{Tree}
 use Rattle.pawn_tags.specs.declared.op.Op.{Op}
 use Rattle.pawn_scopes.specs.Verdict.{Fault, Verdict, Stands, Breaks, faults_of, after, both}
-use Rattle.pawn_scopes.specs.Mark.{Mark, Opens, Closes, Mentions, Uses, Declares, Use, Declaration, Sort, Variable, Parameter, Constant, First, Next, Label}
+use Rattle.pawn_scopes.specs.Mark.{Mark, Opens, Closes, Mentions, Uses, Declares, Use, Declaration}
+use Rattle.pawn_scopes.specs.Mark.{Sort, Variable, Parameter, Constant, First, Next, Label}
 use Rattle.pawn_scopes.specs.TreeMarks.{tree_marks}
 use Rattle.pawn_scopes.specs.FileNames.{FileName, file_names, is_twice, twice_faults}
-use Rattle.pawn_scopes.specs.Signs.{Before, Applies, Steps, before_of, Between, Operates, Decides, Takes, Nothing, between_of, Link, Compares, No_link, link_of}
+use Rattle.pawn_scopes.specs.Signs.{Before, Applies, Steps, before_of, Between, Operates, Decides}
+use Rattle.pawn_scopes.specs.Signs.{Takes, Nothing, between_of, Link, Compares, No_link, link_of}
 use Rattle.pawn_scopes.specs.Known.{Known, Kind, Cells, Worth, Function}
 use Rattle.pawn_cells.specs.declared.constant.Constant as p
 use Rattle.std.specs.Option.{option_or}
 use Rattle.pawn_scopes.specs.Around as a
 use Rattle.pawn_scopes.specs.Around.{Around, around_of, function_named, everywhere}
-use Rattle.pawn_scopes.specs.Worth.{Valued, worth, link_worth, link_sign, links_hold, not_constant, known_value, name_worth, kind_size, one_cell, size_at, name_size, name_tag, sizeof_worth, tagof_worth, is_chosen, unless_chosen, prefix_worth, between_worth, operated, linked}
-use Rattle.pawn_scopes.specs.Sizes.{constant_size, character_size, dim_size, expr_gives, given_size, first_size, variable_sizes, open_size, parameter_sizes}
+use Rattle.pawn_scopes.specs.Worth.{Valued, worth, link_worth, link_sign, links_hold, not_constant}
+use Rattle.pawn_scopes.specs.Worth.{known_value, name_worth, kind_size, one_cell, size_at}
+use Rattle.pawn_scopes.specs.Worth.{name_size, name_tag, sizeof_worth, tagof_worth, is_chosen}
+use Rattle.pawn_scopes.specs.Worth.{unless_chosen, prefix_worth, between_worth, operated, linked}
+use Rattle.pawn_scopes.specs.Sizes.{constant_size, character_size, dim_size, expr_gives, given_size}
+use Rattle.pawn_scopes.specs.Sizes.{first_size, variable_sizes, open_size, parameter_sizes}
 use Rattle.pawn_scopes.specs.Found.{found, meaning, declared, kind_of, known_of, next_after}
 use Rattle.pawn_scopes.specs.Here.{is_here}
-use Rattle.pawn_scopes.specs.Faults.{use_faults, again_faults, value_faults, mark_faults, marks_faults, faults}
+use Rattle.pawn_scopes.specs.Faults.{use_faults, again_faults, value_faults, mark_faults}
+use Rattle.pawn_scopes.specs.Faults.{marks_faults, faults}
 use Rattle.pawn_scopes.specs.FaultKinds.{is_rule, AreRules}
 
 -- ---- verdicts
 
-both_hold : (here rest all : Bool) → (here && rest) ≡ true → (rest ≡ true → all ≡ true) → (here && all) ≡ true
+both_hold : (here rest all : Bool) → (here && rest) ≡ true → (rest ≡ true → all ≡ true)
+    → (here && all) ≡ true
 both_hold true rest all h f = f h
 both_hold false rest all h f = h
 
@@ -54,12 +64,14 @@ pub record Fine {A : Type 0} (w : Verdict A) : Type 0 where
 stands : {A : Type 0} (x : A) → Fine (Stands x)
 stands x = record { fine = refl; told = tt }
 
-after_fine : {A B : Type 0} {w : Verdict A} {rule : A → Verdict B} → Fine w → ((x : A) → Fine (rule x)) → Fine (after w rule)
+after_fine : {A B : Type 0} {w : Verdict A} {rule : A → Verdict B} → Fine w
+    → ((x : A) → Fine (rule x)) → Fine (after w rule)
 after_fine {w = Stands x} w_fine f = f x
 after_fine {w = Breaks []} w_fine f = absurd w_fine.told
 after_fine {w = Breaks (fault ∷ more)} w_fine f = record { fine = w_fine.fine; told = tt }
 
-both_fine : {A B C : Type 0} {v : Verdict A} {w : Verdict B} {rule : A → B → Verdict C} → Fine v → Fine w → ((x : A) (y : B) → Fine (rule x y)) → Fine (both v w rule)
+both_fine : {A B C : Type 0} {v : Verdict A} {w : Verdict B} {rule : A → B → Verdict C} → Fine v
+    → Fine w → ((x : A) (y : B) → Fine (rule x y)) → Fine (both v w rule)
 both_fine {v = Stands x} v_fine w_fine f = after_fine w_fine (f x)
 both_fine {v = Breaks []} v_fine w_fine f = absurd v_fine.told
 both_fine {v = Breaks (fault ∷ more)} {w = w} v_fine w_fine f =
@@ -69,7 +81,8 @@ if_fine : {A : Type 0} (b : Bool) {x y : Verdict A} → Fine x → Fine y → Fi
 if_fine true x y = x
 if_fine false x y = y
 
-one_twice_fine : (place : Place) (b : Bool) → AreRules (if b then record { kind = 51; place = place } ∷ [] else [])
+one_twice_fine : (place : Place) (b : Bool)
+    → AreRules (if b then record { kind = 51; place = place } ∷ [] else [])
 one_twice_fine place true = refl
 one_twice_fine place false = refl
 
@@ -98,7 +111,8 @@ module _ (around : Around) (place : Place) where
   none : {A : Type 0} → Fine (not_constant around place {A = A})
   none = record { fine = refl; told = tt }
 
-  size_at_fine : (ws : List (Verdict ℤ)) (i : ℕ) → AllFine ws → Fine (size_at around place (slice_get ws i))
+  size_at_fine : (ws : List (Verdict ℤ)) (i : ℕ) → AllFine ws
+      → Fine (size_at around place (slice_get ws i))
   size_at_fine [] zero h = none
   size_at_fine [] (suc i) h = none
   size_at_fine (w ∷ ws) zero (one_fine h hs) = after_fine h (λ x. stands _)
@@ -108,22 +122,26 @@ module _ (around : Around) (place : Place) where
   one_cell_fine zero = stands _
   one_cell_fine (suc brackets) = none
 
-  kind_size_fine : (brackets : ℕ) (kind : Kind) → KindFine kind → Fine (kind_size around place brackets kind)
+  kind_size_fine : (brackets : ℕ) (kind : Kind) → KindFine kind
+      → Fine (kind_size around place brackets kind)
   kind_size_fine brackets (Cells []) h = one_cell_fine brackets
   kind_size_fine brackets (Cells (w ∷ ws)) h = size_at_fine (w ∷ ws) brackets h
   kind_size_fine brackets (Worth w) h = one_cell_fine brackets
   kind_size_fine brackets Function h = none
 
-  known_value_fine : (tag : ℕ) (kind : Kind) → KindFine kind → Fine (known_value around place tag kind)
+  known_value_fine : (tag : ℕ) (kind : Kind) → KindFine kind
+      → Fine (known_value around place tag kind)
   known_value_fine tag (Cells sizes) h = none
   known_value_fine tag (Worth w) h = after_fine h (λ x. stands _)
   known_value_fine tag Function h = none
 
-  name_worth_fine : (at : Place) (known : Option Known) → KnownFine known → Fine (name_worth around place at known)
+  name_worth_fine : (at : Place) (known : Option Known) → KnownFine known
+      → Fine (name_worth around place at known)
   name_worth_fine at None h = record { fine = refl; told = tt }
   name_worth_fine at (Some known) h = known_value_fine known.tag known.kind h
 
-  name_size_fine : (at : Place) (brackets : ℕ) (known : Option Known) → KnownFine known → Fine (name_size around place at brackets known)
+  name_size_fine : (at : Place) (brackets : ℕ) (known : Option Known) → KnownFine known
+      → Fine (name_size around place at brackets known)
   name_size_fine at brackets None h = record { fine = refl; told = tt }
   name_size_fine at brackets (Some known) h = kind_size_fine brackets known.kind h
 
@@ -131,18 +149,21 @@ module _ (around : Around) (place : Place) where
   name_tag_fine at None = record { fine = refl; told = tt }
   name_tag_fine at (Some known) = stands _
 
-  unless_fine : {A : Type 0} (op : Option Op) (left right : ℕ) {x : Verdict A} → Fine x → Fine (unless_chosen around place op left right x)
+  unless_fine : {A : Type 0} (op : Option Op) (left right : ℕ) {x : Verdict A} → Fine x
+      → Fine (unless_chosen around place op left right x)
   unless_fine op left right h = if_fine (is_chosen around place op left right) none h
 
   prefix_fine : (before : Before) (x : Valued) → Fine (prefix_worth around place before x)
   prefix_fine Steps x = none
   prefix_fine (Applies sign op) x = unless_fine op _ _ (stands _)
 
-  operated_fine : (at : Place) (tag : ℕ) (value : Option ℤ) → Fine (operated around place at tag value)
+  operated_fine : (at : Place) (tag : ℕ) (value : Option ℤ)
+      → Fine (operated around place at tag value)
   operated_fine at tag None = record { fine = refl; told = tt }
   operated_fine at tag (Some value) = stands _
 
-  between_fine : (at : Place) (between : Between) (x y : Valued) → Fine (between_worth around place at between x y)
+  between_fine : (at : Place) (between : Between) (x y : Valued)
+      → Fine (between_worth around place at between x y)
   between_fine at (Operates operator op) x y = unless_fine op _ _ (operated_fine at _ _)
   between_fine at (Decides operator) x y = stands _
   between_fine at Takes x y = stands _
@@ -154,7 +175,8 @@ module _ (around : Around) (place : Place) where
 
   module _ (means : List ℕ → Option Known) (h : MeansFine means) where
     sizeof_fine : (at : Place) (x : SizeofOperand) → Fine (sizeof_worth around place means at x)
-    sizeof_fine at (sized.Name name brackets) = name_size_fine at brackets (means name.bytes) (h.fine name.bytes)
+    sizeof_fine at (sized.Name name brackets) =
+        name_size_fine at brackets (means name.bytes) (h.fine name.bytes)
     sizeof_fine at (sized.Text text zero) = stands _
     sizeof_fine at (sized.Text text (suc brackets)) = none
 
@@ -175,16 +197,23 @@ module _ (around : Around) (place : Place) where
       worth_fine (e.Postfix at sign x) = none
       worth_fine (e.Index at x y) = none
       worth_fine (e.Character at x y) = none
-      worth_fine (e.Binary at sign x y) = both_fine (worth_fine x) (worth_fine y) (between_fine at.place (between_of sign))
-      worth_fine (e.Chain at x links) = after_fine (worth_fine x) (λ first. after_fine (links_fine first links) (λ holds. stands _))
-      worth_fine (e.Choice at x y z) = after_fine (worth_fine x) (λ test. both_fine (worth_fine y) (worth_fine z) (λ a b. stands _))
+      worth_fine (e.Binary at sign x y) =
+          both_fine (worth_fine x) (worth_fine y) (between_fine at.place (between_of sign))
+      worth_fine (e.Chain at x links) =
+          after_fine (worth_fine x) (λ first. after_fine (links_fine first links)
+          (λ holds. stands _))
+      worth_fine (e.Choice at x y z) =
+          after_fine (worth_fine x) (λ test. both_fine (worth_fine y) (worth_fine z)
+          (λ a b. stands _))
       worth_fine (e.Assign at sign x y) = none
       worth_fine (e.Call at name args bare) = none
 
       links_fine : (left : Valued) (xs : Links) → Fine (links_hold around place means left xs)
       links_fine left e.no_links = stands _
       links_fine left (e.then_link x xs) =
-          after_fine (link_fine x) (λ right. both_fine (linked_fine (link_of (link_sign around place x)) left right) (links_fine right xs) (λ a b. stands _))
+          after_fine (link_fine x) (λ right. both_fine
+          (linked_fine (link_of (link_sign around place x)) left right) (links_fine right xs)
+          (λ a b. stands _))
 
       link_fine : (x : e.Link) → Fine (link_worth around place means x)
       link_fine (e.Compare sign x) = worth_fine x
@@ -235,7 +264,8 @@ module _ (around : Around) (place : Place) where
     first_fine (v.Cells x) init = constant_fine x
     first_fine (v.Chars x) init = character_fine x
 
-    variable_fine : (dims : List Dim) (init : Option Init) → AllFine (variable_sizes around place means dims init)
+    variable_fine : (dims : List Dim) (init : Option Init)
+        → AllFine (variable_sizes around place means dims init)
     variable_fine [] init = all_fine
     variable_fine (x ∷ xs) init = one_fine (first_fine x init) (dims_fine xs)
 
@@ -265,7 +295,8 @@ module _ (around : Around) (place : Place) where
 
 module _ (around : Around) where
   either_fine : (function : Option FileName) (constant : Option p.Constant)
-      → KnownFine (option_or (option_map (a.function around.tags) function) (option_map a.constant constant))
+      → KnownFine (option_or (option_map (a.function around.tags) function)
+      (option_map a.constant constant))
   either_fine None None = tt
   either_fine None (Some x) = stands _
   either_fine (Some x) constant = tt
@@ -273,14 +304,16 @@ module _ (around : Around) where
   everywhere_fine : (name : List ℕ) → KnownFine (everywhere around name)
   everywhere_fine name = either_fine (function_named around.names name) (predefined name)
 
-  chosen_fine : (b : Bool) (x y : Option Known) → KnownFine x → KnownFine y → KnownFine (if b then x else y)
+  chosen_fine : (b : Bool) (x y : Option Known) → KnownFine x → KnownFine y
+      → KnownFine (if b then x else y)
   chosen_fine true x y h k = h
   chosen_fine false x y h k = k
 
   some_fine : (known : Known) → KindFine known.kind → KnownFine (Some known)
   some_fine known h = h
 
-  found_fine : (before : List Mark) (closed : ℕ) (name : List ℕ) → KnownFine (found around before closed name)
+  found_fine : (before : List Mark) (closed : ℕ) (name : List ℕ)
+      → KnownFine (found around before closed name)
   found_fine [] closed name = everywhere_fine name
   found_fine (Opens ∷ before) zero name = found_fine before zero name
   found_fine (Opens ∷ before) (suc closed) name = found_fine before closed name
@@ -288,13 +321,19 @@ module _ (around : Around) where
   found_fine (Mentions tag ∷ before) closed name = found_fine before closed name
   found_fine (Uses it ∷ before) closed name = found_fine before closed name
   found_fine (Declares it ∷ before) zero name =
-      chosen_fine (bytes_eq it.name.bytes name) (Some (known_of around (found around before zero) it)) (found around before zero name)
-      (some_fine (known_of around (found around before zero) it) (kind_fine around it.place (found around before zero) (record { fine = λ other. found_fine before zero other }) it.sort))
+      chosen_fine (bytes_eq it.name.bytes name)
+      (Some (known_of around (found around before zero) it)) (found around before zero name)
+      (some_fine (known_of around (found around before zero) it)
+      (kind_fine around it.place (found around before zero)
+      (record { fine = λ other. found_fine before zero other }) it.sort))
       (found_fine before zero name)
   found_fine (Declares it ∷ before) (suc closed) name = found_fine before (suc closed) name
 
-  pub declared_fine : (before : List Mark) (it : Declaration) → KindFine (declared around before it).kind
-  declared_fine before it = kind_fine around it.place (meaning around before) (record { fine = λ name. found_fine before zero name }) it.sort
+  pub declared_fine : (before : List Mark) (it : Declaration)
+      → KindFine (declared around before it).kind
+  declared_fine before it =
+      kind_fine around it.place (meaning around before)
+      (record { fine = λ name. found_fine before zero name }) it.sort
 
   use_fine : (it : Use) (known : Option Known) → AreRules (use_faults it known)
   use_fine it None = refl
@@ -314,21 +353,27 @@ module _ (around : Around) where
   mark_fine before (Mentions tag) = refl
   mark_fine before (Uses it) = use_fine it (meaning around before it.name)
   mark_fine before (Declares it) =
-      joined (again_faults it (is_here before it.name.bytes)) (value_faults (declared around before it).kind)
-      (again_fine it (is_here before it.name.bytes)) (value_fine (declared around before it).kind (declared_fine before it))
+      joined (again_faults it (is_here before it.name.bytes))
+      (value_faults (declared around before it).kind)
+      (again_fine it (is_here before it.name.bytes))
+      (value_fine (declared around before it).kind (declared_fine before it))
 
   marks_fine : (marks : List Mark) → AreRules (marks_faults around marks)
   marks_fine [] = refl
-  marks_fine (mark ∷ before) = joined (marks_faults around before) (mark_faults around before mark) (marks_fine before) (mark_fine before mark)
+  marks_fine (mark ∷ before) =
+      joined (marks_faults around before) (mark_faults around before mark) (marks_fine before)
+      (mark_fine before mark)
 
 -- ---- the whole
 
 twice_fine : (names : List FileName) → AreRules (twice_faults names)
 twice_fine [] = refl
 twice_fine (x ∷ before) =
-    joined (twice_faults before) (if is_twice x before then record { kind = 51; place = x.place } ∷ [] else [])
+    joined (twice_faults before) (if is_twice x before
+    then record { kind = 51; place = x.place } ∷ [] else [])
     (twice_fine before) (one_twice_fine x.place (is_twice x before))
 
 pub fault_kinds : (tree : Tree) → AreRules (faults tree)
 fault_kinds tree =
-    joined (twice_faults (file_names tree)) (marks_faults (around_of tree) (tree_marks tree)) (twice_fine (file_names tree)) (marks_fine (around_of tree) (tree_marks tree))
+    joined (twice_faults (file_names tree)) (marks_faults (around_of tree) (tree_marks tree))
+    (twice_fine (file_names tree)) (marks_fine (around_of tree) (tree_marks tree))

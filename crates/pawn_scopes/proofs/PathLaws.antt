@@ -1,11 +1,13 @@
 -- Going back from an occurrence finds what the path's tables hold.
-use Rattle.std.proofs.Common.{◌≡◌, ℕ, zero, suc, List, [], ◌∷◌, ◌||◌, Some, if◌then◌else◌, refl, ap, ◌∙◌, sym}
+use Rattle.std.proofs.Common.{◌≡◌, ℕ, zero, suc, List, [], ◌∷◌, ◌||◌, Some, if◌then◌else◌, refl, ap}
+use Rattle.std.proofs.Common.{◌∙◌, sym}
 use Rattle.std.specs.Str.{bytes_eq}
 use Rattle.pawn_scopes.specs.Mark.{Mark, Opens, Closes, Mentions, Uses, Declares}
 use Rattle.pawn_scopes.specs.Around.{Around}
 use Rattle.pawn_scopes.specs.Found.{found, meaning, declared}
 use Rattle.pawn_scopes.specs.Here.{stands_here, is_here}
-use Rattle.pawn_scopes.specs.Path.{Entry, Path, with_entry, outer_of, path_of, on_path, innermost_has}
+use Rattle.pawn_scopes.specs.Path.{Entry, Path, with_entry, outer_of, path_of, on_path}
+use Rattle.pawn_scopes.specs.Path.{innermost_has}
 
 -- the path outside so many blocks
 abbrev outside : ℕ → Path → Path
@@ -17,12 +19,14 @@ outer_with entry [] = refl
 outer_with entry (block ∷ outer) = refl
 
 on_with : (around : Around) (entry : Entry) (path : Path) (name : List ℕ)
-    → on_path around (with_entry entry path) name ≡ if bytes_eq entry.name name then Some entry.known else on_path around path name
+    → on_path around (with_entry entry path) name ≡ if bytes_eq entry.name name
+    then Some entry.known else on_path around path name
 on_with around entry [] name = refl
 on_with around entry (block ∷ outer) name = refl
 
 has_with : (entry : Entry) (path : Path) (name : List ℕ)
-    → innermost_has (with_entry entry path) name ≡ (bytes_eq entry.name name || innermost_has path name)
+    → innermost_has (with_entry entry path) name
+    ≡ (bytes_eq entry.name name || innermost_has path name)
 has_with entry [] name = refl
 has_with entry (block ∷ outer) name = refl
 
@@ -36,11 +40,13 @@ found_outside around (Closes ∷ before) closed name = found_outside around befo
 found_outside around (Mentions tag ∷ before) closed name = found_outside around before closed name
 found_outside around (Uses it ∷ before) closed name = found_outside around before closed name
 found_outside around (Declares it ∷ before) zero name =
-    ap (λ other. if bytes_eq it.name.bytes name then Some (declared around before it) else other) (found_outside around before zero name)
+    ap (λ other. if bytes_eq it.name.bytes name then Some (declared around before it) else other)
+    (found_outside around before zero name)
     ∙ sym (on_with around _ (path_of around before) name)
 found_outside around (Declares it ∷ before) (suc closed) name =
     found_outside around before (suc closed) name
-    ∙ sym (ap (λ path. on_path around (outside closed path) name) (outer_with _ (path_of around before)))
+    ∙ sym (ap (λ path. on_path around (outside closed path) name)
+    (outer_with _ (path_of around before)))
 
 here_outside : (around : Around) (before : List Mark) (closed : ℕ) (name : List ℕ)
     → stands_here before closed name ≡ innermost_has (outside closed (path_of around before)) name
@@ -56,7 +62,8 @@ here_outside around (Declares it ∷ before) zero name =
     ∙ sym (has_with _ (path_of around before) name)
 here_outside around (Declares it ∷ before) (suc closed) name =
     here_outside around before (suc closed) name
-    ∙ sym (ap (λ path. innermost_has (outside closed path) name) (outer_with _ (path_of around before)))
+    ∙ sym (ap (λ path. innermost_has (outside closed path) name)
+    (outer_with _ (path_of around before)))
 
 pub path_finds : (around : Around) (before : List Mark) (name : List ℕ)
     → meaning around before name ≡ on_path around (path_of around before) name

@@ -1,5 +1,6 @@
 -- What holds of each mark of a tree that breaks no rule.
-use Rattle.std.proofs.Common.{◌≡◌, Bool, true, false, not, ◌&&◌, if◌then◌else◌, List, [], ◌∷◌, ◌++◌, Option, Some, None, refl, sym, ap, ◌∙◌, arith}
+use Rattle.std.proofs.Common.{◌≡◌, Bool, true, false, not, ◌&&◌, if◌then◌else◌, List, [], ◌∷◌, ◌++◌}
+use Rattle.std.proofs.Common.{Option, Some, None, refl, sym, ap, ◌∙◌, arith}
 use Rattle.pawn_cells.specs.declared.place.Place.{Place}
 use Rattle.pawn_tree.specs.Declarations.{Tree}
 use Rattle.pawn_scopes.specs.Verdict.{Fault, Stands, Breaks}
@@ -10,7 +11,8 @@ use Rattle.pawn_scopes.specs.Known.{Known, Kind, Cells, Worth, Function}
 use Rattle.pawn_scopes.specs.Around.{Around, around_of}
 use Rattle.pawn_scopes.specs.Found.{meaning, declared}
 use Rattle.pawn_scopes.specs.Here.{is_here}
-use Rattle.pawn_scopes.specs.Faults.{use_faults, again_faults, value_faults, mark_faults, marks_faults}
+use Rattle.pawn_scopes.specs.Faults.{use_faults, again_faults, value_faults, mark_faults}
+use Rattle.pawn_scopes.specs.Faults.{marks_faults}
 use Rattle.pawn_scopes.specs.Resolves.{Names, Resolves}
 use Rattle.pawn_scopes.specs.ResolvedMeans.{StandsIn, HasValue, IsResolved}
 use Rattle.pawn_scopes.proofs.KindLaws.{KindFine, declared_fine}
@@ -27,7 +29,8 @@ right_empty (x ∷ xs) ys e = absurd (grind (arith, e))
 
 -- ---- one mark
 
-no_use_fault : (it : Use) (known : Option Known) → use_faults it known ≡ [] → (found : Known) × (known ≡ Some found)
+no_use_fault : (it : Use) (known : Option Known) → use_faults it known ≡ []
+    → (found : Known) × (known ≡ Some found)
 no_use_fault it None e = absurd (grind (arith, e))
 no_use_fault it (Some known) e = (known, refl)
 
@@ -52,26 +55,37 @@ value_stands Function h e = tt
 -- ---- the mark of a tree
 
 module _ (around : Around) where
-  no_fault_before : (more before : List Mark) (mark : Mark) → marks_faults around (more ++ mark ∷ before) ≡ [] → mark_faults around before mark ≡ []
-  no_fault_before [] before mark e = right_empty (marks_faults around before) (mark_faults around before mark) e
+  no_fault_before : (more before : List Mark) (mark : Mark)
+      → marks_faults around (more ++ mark ∷ before) ≡ [] → mark_faults around before mark ≡ []
+  no_fault_before [] before mark e =
+      right_empty (marks_faults around before) (mark_faults around before mark) e
   no_fault_before (later ∷ more) before mark e =
-      no_fault_before more before mark (left_empty (marks_faults around (more ++ mark ∷ before)) (mark_faults around (more ++ mark ∷ before) later) e)
+      no_fault_before more before mark
+      (left_empty (marks_faults around (more ++ mark ∷ before))
+      (mark_faults around (more ++ mark ∷ before) later) e)
 
 module _ (tree : Tree) (names : Names) (resolves : Resolves tree names) where
   no_marks_faults : marks_faults (around_of tree) (tree_marks tree) ≡ []
   no_marks_faults = right_empty (twice_faults (file_names tree)) _ resolves.whole
 
-  no_mark_faults : (before : List Mark) (mark : Mark) → StandsIn tree before mark → mark_faults (around_of tree) before mark ≡ []
+  no_mark_faults : (before : List Mark) (mark : Mark) → StandsIn tree before mark
+      → mark_faults (around_of tree) before mark ≡ []
   no_mark_faults before mark x =
-      no_fault_before (around_of tree) x.more before mark (ap (marks_faults (around_of tree)) (sym x.same) ∙ no_marks_faults)
+      no_fault_before (around_of tree) x.more before mark
+      (ap (marks_faults (around_of tree)) (sym x.same) ∙ no_marks_faults)
 
   pub is_resolved : IsResolved tree
   is_resolved = record {
-    found = λ before it x. no_use_fault it (meaning (around_of tree) before it.name) (no_mark_faults before (Uses it) x);
+    found =
+        λ before it x. no_use_fault it (meaning (around_of tree) before it.name)
+        (no_mark_faults before (Uses it) x);
     once = λ before it x e.
         inside it.outside (is_here before it.name.bytes) e (not_again it.place _
-        (left_empty (again_faults it (is_here before it.name.bytes)) _ (no_mark_faults before (Declares it) x)));
+        (left_empty (again_faults it (is_here before it.name.bytes)) _
+        (no_mark_faults before (Declares it) x)));
     valued = λ before it x.
-        value_stands (declared (around_of tree) before it).kind (declared_fine (around_of tree) before it)
-        (right_empty (again_faults it (is_here before it.name.bytes)) _ (no_mark_faults before (Declares it) x));
+        value_stands (declared (around_of tree) before it).kind
+        (declared_fine (around_of tree) before it)
+        (right_empty (again_faults it (is_here before it.name.bytes)) _
+        (no_mark_faults before (Declares it) x));
   }

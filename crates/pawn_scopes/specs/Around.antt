@@ -1,6 +1,7 @@
 -- What is known everywhere in a tree: its tags, the operators that it defines, its functions, and
 -- the predefined constants.
-use Rattle.std.specs.Prelude.{ℕ, Bool, true, false, ◌&&◌, if◌then◌else◌, List, [], ◌∷◌, Option, Some, None, option_map}
+use Rattle.std.specs.Prelude.{ℕ, Bool, true, false, ◌&&◌, if◌then◌else◌, List, [], ◌∷◌, Option}
+use Rattle.std.specs.Prelude.{Some, None, option_map}
 use Rattle.std.specs.Option.{option_or}
 use Rattle.std.specs.List.{list_any}
 use Rattle.std.specs.Str.{bytes_eq}
@@ -18,6 +19,7 @@ use Rattle.pawn_scopes.specs.Overloads.{tag_number, overloads_of}
 use Rattle.pawn_scopes.specs.Known as known
 use Rattle.pawn_scopes.specs.Known.{Known}
 
+-- tags, operators and names that no place of the tree changes
 pub record Around : Type 0 where
   pub tags : List (List ℕ)
   pub overloads : Overloads
@@ -48,6 +50,7 @@ is_defined Native' = true
 is_defined Forward' = false
 is_defined (Body classified) = true
 
+-- the name is a function's
 abbrev pub is_function : Role → Bool
 is_function Value = false
 is_function Native' = true
@@ -69,6 +72,7 @@ first_head (x ∷ before) name =
 abbrev pub function_named : List FileName → List ℕ → Option FileName
 function_named names name = if defines names name then first_head names name else None
 
+-- what is known of a function: its token, and the tag of what it gives
 abbrev pub function : List (List ℕ) → FileName → Known
 function tags x = record {
   token = Some x.name.at.token;
@@ -78,9 +82,11 @@ function tags x = record {
 
 -- ---- predefined constants
 
+-- `bool` for a truth value, else none
 abbrev pub constant_tag : Bool → ℕ
 constant_tag is_bool = if is_bool then truth_tag else untagged
 
+-- what is known of a predefined constant, which no token declares
 abbrev pub constant : Constant → Known
 constant x = record {
   token = None;
@@ -96,6 +102,7 @@ everywhere around name =
     option_or (option_map (function around.tags) (function_named around.names name))
     (option_map constant (predefined name))
 
+-- what is known everywhere in this tree
 abbrev pub around_of : Tree → Around
 around_of tree = record {
   tags = tags_of (tree_marks tree);

@@ -24,6 +24,7 @@ pub record NodesExtend : Type 0 where
   pub stmt : (s : Stmt) (before : List Mark) → Extends before (stmt_marks s before)
   pub decl : (x : Decl) (before : List Mark) → Extends before (decl_marks x before)
 
+-- so a fault of a part is one of the whole
 abbrev pub FaultsStay : Type 0
 FaultsStay = (around : Around) (before now : List Mark) (fault : Fault) → Extends before now
     → Contains (marks_faults around before) fault → Contains (marks_faults around now) fault

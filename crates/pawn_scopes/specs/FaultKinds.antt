@@ -6,11 +6,14 @@ use Rattle.pawn_tree.specs.Declarations.{Tree}
 use Rattle.pawn_scopes.specs.Verdict.{Fault}
 use Rattle.pawn_scopes.specs.Faults.{faults}
 
+-- the number of one of the four
 abbrev pub is_rule : ℕ → Bool
 is_rule kind = nat_eq kind 50 || nat_eq kind 51 || nat_eq kind 57 || nat_eq kind 67
 
+-- each fault is of one of the four
 abbrev pub AreRules : List Fault → Type 0
 AreRules these = list_all (λ fault. is_rule fault.kind) these ≡ true
 
+-- all faults of names in a tree
 abbrev pub FaultKinds : Type 0
 FaultKinds = (tree : Tree) → AreRules (faults tree)

@@ -1,7 +1,8 @@
 -- Which nodes of a tree break a rule of names, each with the number of its rule: 50, an
 -- occurrence without a declaration; 51, a name twice in one block; and of a constant whose value
 -- is wanted, 57, it isn't constant, and 67, it divides by zero.
-use Rattle.std.specs.Prelude.{Bool, not, ◌&&◌, if◌then◌else◌, List, [], ◌∷◌, ◌++◌, Option, Some, None}
+use Rattle.std.specs.Prelude.{Bool, not, ◌&&◌, if◌then◌else◌, List, [], ◌∷◌, ◌++◌, Option, Some}
+use Rattle.std.specs.Prelude.{None}
 use Rattle.pawn_tree.specs.Declarations.{Tree}
 use Rattle.pawn_scopes.specs.Verdict.{Fault, faults_of}
 use Rattle.pawn_scopes.specs.Mark.{Mark, Opens, Closes, Mentions, Uses, Declares, Use, Declaration}
@@ -29,6 +30,7 @@ value_faults (Worth worth) = faults_of worth
 value_faults Function = []
 
 module _ (around : Around) where
+  -- which rules a mark breaks behind those before it
   abbrev pub mark_faults : List Mark → Mark → List Fault
   mark_faults before Opens = []
   mark_faults before Closes = []
@@ -38,9 +40,11 @@ module _ (around : Around) where
       again_faults it (is_here before it.name.bytes)
       ++ value_faults (declared around before it).kind
 
+  -- which rules all these marks break
   abbrev pub marks_faults : List Mark → List Fault
   marks_faults [] = []
   marks_faults (mark ∷ before) = marks_faults before ++ mark_faults before mark
 
+-- which rules of names a tree breaks
 abbrev pub faults : Tree → List Fault
 faults tree = twice_faults (file_names tree) ++ marks_faults (around_of tree) (tree_marks tree)

@@ -8,7 +8,8 @@ use Rattle.std.specs.Str.{bytes_eq}
 use Rattle.pawn_cells.specs.declared.place.Place.{Place}
 use Rattle.pawn_cells.specs.Cells.{add}
 use Rattle.pawn_scopes.specs.Verdict.{Verdict, Stands, after}
-use Rattle.pawn_scopes.specs.Mark.{Mark, Opens, Closes, Mentions, Uses, Declares, Declaration, Sort, Variable, Parameter, Constant, First, Next, Label}
+use Rattle.pawn_scopes.specs.Mark.{Mark, Opens, Closes, Mentions, Uses, Declares, Declaration, Sort}
+use Rattle.pawn_scopes.specs.Mark.{Variable, Parameter, Constant, First, Next, Label}
 use Rattle.pawn_scopes.specs.Known.{Known, Kind, Cells, Worth}
 use Rattle.pawn_scopes.specs.Overloads.{tag_number}
 use Rattle.pawn_scopes.specs.Around.{Around, everywhere}
@@ -27,6 +28,7 @@ module _ (around : Around) where
   next_after place known =
       after (name_worth around place place known) (λ x. Stands (add x.value (pos 1)))
 
+  -- what a declaration makes of its name, by what names mean before it
   abbrev pub kind_of : (List ℕ → Option Known) → Place → Sort → Kind
   kind_of means place (Variable dims init) = Cells (variable_sizes around place means dims init)
   kind_of means place (Parameter dims) = Cells (parameter_sizes around place means dims)
@@ -35,6 +37,7 @@ module _ (around : Around) where
   kind_of means place (Next last) = Worth (next_after place (means last))
   kind_of means place (Label last count) = Worth (next_after place (means last))
 
+  -- what is known of a declared name
   abbrev pub known_of : (List ℕ → Option Known) → Declaration → Known
   known_of means it = record {
     token = Some it.name.at.token;

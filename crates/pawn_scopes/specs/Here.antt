@@ -16,5 +16,6 @@ stands_here (Declares it ∷ before) zero name =
     bytes_eq it.name.bytes name || stands_here before zero name
 stands_here (Declares it ∷ before) (suc closed) name = stands_here before (suc closed) name
 
+-- the innermost block that is open behind these marks declares the name
 abbrev pub is_here : List Mark → List ℕ → Bool
 is_here before name = stands_here before zero name

@@ -2,6 +2,7 @@
 use Rattle.std.specs.Prelude.{ℕ, ℤ, List, Option}
 use Rattle.pawn_scopes.specs.Verdict.{Verdict}
 
+-- what a declared name stands for
 pub data Kind : Type 0 where
   -- a variable or parameter, with the sizes of an array, the outermost first
   Cells : List (Verdict ℤ) → Kind

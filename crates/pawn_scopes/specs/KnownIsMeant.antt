@@ -5,6 +5,7 @@ use Rattle.pawn_scopes.specs.Around.{Around}
 use Rattle.pawn_scopes.specs.Found.{meaning}
 use Rattle.pawn_scopes.specs.Meant.{meant, known_by}
 
+-- what is known is found by the declaration alone
 abbrev pub KnownIsMeant : Type 0
 KnownIsMeant = (around : Around) (before : List Mark) (name : List ℕ)
     → meaning around before name ≡ known_by around name (meant before 0 name)

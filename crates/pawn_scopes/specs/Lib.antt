@@ -27,5 +27,4 @@ pub mod Taken
 pub mod Meant
 pub mod KnownIsMeant
 pub mod FaultKinds
-pub mod Functions
 pub mod ResolvedMeans

@@ -36,6 +36,7 @@ pub record Declaration : Type 0 where
   pub outside : Bool
   pub sort : Sort
 
+-- a step in the source that changes or asks what names mean
 pub data Mark : Type 0 where
   Opens : Mark
   Closes : Mark

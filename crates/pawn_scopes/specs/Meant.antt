@@ -7,6 +7,7 @@ use Rattle.pawn_scopes.specs.Known.{Known}
 use Rattle.pawn_scopes.specs.Around.{Around, everywhere}
 use Rattle.pawn_scopes.specs.Found.{declared}
 
+-- where the declaration stands, if it is one of the marks
 pub data Meant : Type 0 where
   -- a declaration, with the marks before it
   Declared : List Mark → Declaration → Meant

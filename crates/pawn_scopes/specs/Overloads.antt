@@ -1,6 +1,7 @@
 -- The operators that a tree defines (Language Guide, "User-defined operators"): each has a body,
 -- plain parameters, and a tag other than `_`. Each stands with its place among them.
-use Rattle.std.specs.Prelude.{ℕ, false, ◌&&◌, if◌then◌else◌, List, [], ◌∷◌, Option, Some, None, length, unwrap_or, nat_eq}
+use Rattle.std.specs.Prelude.{ℕ, false, ◌&&◌, if◌then◌else◌, List, [], ◌∷◌, Option, Some, None}
+use Rattle.std.specs.Prelude.{length, unwrap_or, nat_eq}
 use Rattle.pawn_token.specs.declared.sign.Sign.{Sign}
 use Rattle.pawn_token.specs.declared.sign.Sign.TheVariants as sign
 use Rattle.pawn_tags.specs.Tags.{number_of, untagged}
@@ -10,7 +11,8 @@ use Rattle.pawn_tags.specs.declared.op.Op.TheVariants as op
 use Rattle.pawn_tree.specs.declared.name.Name as n
 use Rattle.pawn_tree.specs.declared.declaration.HeadName.{HeadName}
 use Rattle.pawn_tree.specs.declared.declaration.HeadName.TheVariants as called
-use Rattle.pawn_tree.specs.Declarations.{Param, Plain, Head, Decl, Variables, Constant, Enum, Native, Forward, Function, Tree}
+use Rattle.pawn_tree.specs.Declarations.{Param, Plain, Head, Decl, Variables, Constant, Enum}
+use Rattle.pawn_tree.specs.Declarations.{Native, Forward, Function, Tree}
 use Rattle.pawn_scopes.specs.TreeMarks.{first_tag}
 
 -- the number of a tag, where one is given
@@ -44,10 +46,12 @@ with_tag (Some tag) (Some tags) = Some (tag ∷ tags)
 with_tag (Some tag) None = None
 with_tag None tags = None
 
+-- the tag of a parameter that an operator may have: by value, one cell, and no default
 abbrev pub plain_tag : List (List ℕ) → Param → Option ℕ
 plain_tag names (Plain constant false tags name [] None) = Some (tag_number names (first_tag tags))
 plain_tag names _ = None
 
+-- the tags of all parameters, where each is such
 abbrev pub plain_tags : List (List ℕ) → List Param → Option (List ℕ)
 plain_tags names [] = Some []
 plain_tags names (x ∷ xs) = with_tag (plain_tag names x) (plain_tags names xs)
@@ -66,12 +70,14 @@ with_operator defined (Some op) result (Some (operand ∷ [])) = between defined
 with_operator defined (Some op) result (Some (left ∷ right ∷ [])) = between defined op left right
 with_operator defined _ result _ = defined
 
+-- with the operator of a head, if it defines one
 abbrev pub with_head : List (List ℕ) → Head → HeadName → Overloads → Overloads
 with_head names head (called.Name name) defined = defined
 with_head names head (called.Operator at sign) defined =
     with_operator defined (op_of sign (length head.params)) (tag_number names head.tag)
     (plain_tags names head.params)
 
+-- with the operator that a declaration defines
 abbrev pub with_decl : List (List ℕ) → Decl → Overloads → Overloads
 with_decl names (Variables at x) defined = defined
 with_decl names (Constant at x) defined = defined
@@ -80,6 +86,7 @@ with_decl names (Native at head) defined = defined
 with_decl names (Forward at is_public head) defined = defined
 with_decl names (Function at x) defined = with_head names x.head x.head.name defined
 
+-- with the operators that these functions define
 abbrev pub overloads_of : List (List ℕ) → Tree → Overloads → Overloads
 overloads_of names [] defined = defined
 overloads_of names (x ∷ xs) defined = overloads_of names xs (with_decl names x defined)

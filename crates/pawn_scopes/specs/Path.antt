@@ -12,6 +12,7 @@ pub record Entry : Type 0 where
   pub name : List ℕ
   pub known : Known
 
+-- a list of declarations for each open block
 abbrev pub Path : Type 0
 Path = List (List Entry)
 

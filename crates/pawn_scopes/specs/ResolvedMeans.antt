@@ -1,5 +1,5 @@
--- What holds of a tree whose names are resolved, mark by mark: each occurrence has its declaration, no
--- name stands twice in one block, and each constant has its value.
+-- What holds of a tree whose names are resolved, mark by mark: each occurrence has its declaration,
+-- no name stands twice in one block, and each constant has its value.
 use Rattle.std.specs.Prelude.{◌≡◌, ℤ, false, List, ◌∷◌, ◌++◌, Some}
 use Rattle.pawn_tree.specs.Declarations.{Tree}
 use Rattle.pawn_scopes.specs.Verdict.{Stands}
@@ -22,6 +22,7 @@ HasValue (Cells sizes) = Unit {0}
 HasValue (Worth worth) = (value : ℤ) × (worth ≡ Stands value)
 HasValue Function = Unit {0}
 
+-- a tree whose marks break no rule
 pub record IsResolved (tree : Tree) : Type 0 where
   pub found : (before : List Mark) (it : Use) → StandsIn tree before (Uses it)
       → (known : Known) × (meaning (around_of tree) before it.name ≡ Some known)
@@ -30,5 +31,6 @@ pub record IsResolved (tree : Tree) : Type 0 where
   pub valued : (before : List Mark) (it : Declaration) → StandsIn tree before (Declares it)
       → HasValue (declared (around_of tree) before it).kind
 
+-- a tree with pairs is one such
 abbrev pub ResolvedMeans : Type 0
 ResolvedMeans = (tree : Tree) (names : Names) → Resolves tree names → IsResolved tree

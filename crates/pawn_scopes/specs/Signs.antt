@@ -16,11 +16,13 @@ use Rattle.pawn_tags.specs.declared.op.Op.TheVariants as op
 
 -- ---- before an operand
 
+-- a sign before an operand: an operator, or one that changes its operand
 pub data Before : Type 0 where
   -- an operator, and the one that a program may define
   Applies : Prefix → Option Op → Before
   Steps : Before
 
+-- which of these a sign before an operand is
 abbrev pub before_of : Sign → Before
 before_of sign.Exclamation = Applies before.Not (Some op.Not)
 before_of sign.Tilde = Applies before.Invert None
@@ -29,6 +31,7 @@ before_of _ = Steps
 
 -- ---- between two operands
 
+-- a sign between operands: an operator on cells, `&&` or `||`, `,`, or none
 pub data Between : Type 0 where
   -- an operator, and the one that a program may define
   Operates : Operator → Option Op → Between
@@ -37,6 +40,7 @@ pub data Between : Type 0 where
   Takes : Between
   Nothing : Between
 
+-- which of these a sign between operands is
 abbrev pub between_of : Sign → Between
 between_of sign.Star = Operates between.Multiply (Some op.Mul)
 between_of sign.Slash = Operates between.Divide (Some op.Div)
@@ -64,10 +68,12 @@ is_test _ = false
 
 -- ---- in a chain
 
+-- a sign in a chain: a comparison with the operator that a program may define, or none
 pub data Link : Type 0 where
   Compares : Comparison → Op → Link
   No_link : Link
 
+-- which comparison a sign is
 abbrev pub link_of : Sign → Link
 link_of sign.Less = Compares comparison.Less op.Less
 link_of sign.LessEqual = Compares comparison.LessEqual op.LessEq

@@ -1,9 +1,11 @@
 -- The sizes of what is declared with dimensions (Language Guide, "Arrays"), the outermost first.
-use Rattle.std.specs.Prelude.{ℕ, suc, ℤ, pos, ◌+ℤ◌, true, false, List, [], ◌∷◌, map, Option, Some, None}
+use Rattle.std.specs.Prelude.{ℕ, suc, ℤ, pos, ◌+ℤ◌, true, false, List, [], ◌∷◌, map, Option, Some}
+use Rattle.std.specs.Prelude.{None}
 use Rattle.pawn_cells.specs.declared.place.Place.{Place}
 use Rattle.pawn_cells.specs.Cells.{floor_quotient}
 use Rattle.pawn_tree.specs.Expressions.{Expr, Text, Paren, Tagged}
-use Rattle.pawn_tree.specs.Variables.{Dim, Open, Cells, Chars, Init, Inits, Value, Braces, no_inits, then_init}
+use Rattle.pawn_tree.specs.Variables.{Dim, Open, Cells, Chars, Init, Inits, Value, Braces, no_inits}
+use Rattle.pawn_tree.specs.Variables.{then_init}
 use Rattle.pawn_scopes.specs.Verdict.{Verdict, Stands, after}
 use Rattle.pawn_scopes.specs.Known.{Known}
 use Rattle.pawn_scopes.specs.Around.{Around}
@@ -15,6 +17,7 @@ init_count no_inits = 0
 init_count (then_init x xs) = suc (init_count xs)
 
 module _ (around : Around) (place : Place) (means : List ℕ → Option Known) where
+  -- a size that a constant expression gives
   abbrev pub constant_size : Expr → Verdict ℤ
   constant_size x = after (worth around place means x) (λ size. Stands size.value)
 
@@ -44,6 +47,7 @@ module _ (around : Around) (place : Place) (means : List ℕ → Option Known) w
   init_gives (Braces at xs true) = not_constant around place
   init_gives (Braces at xs false) = Stands (pos (init_count xs))
 
+  -- a first size that isn't written: that of the first value
   abbrev pub given_size : Option Init → Verdict ℤ
   given_size None = not_constant around place
   given_size (Some init) = init_gives init
@@ -54,6 +58,7 @@ module _ (around : Around) (place : Place) (means : List ℕ → Option Known) w
   first_size (Cells x) init = constant_size x
   first_size (Chars x) init = character_size x
 
+  -- the sizes of a variable, none for one cell
   abbrev pub variable_sizes : List Dim → Option Init → List (Verdict ℤ)
   variable_sizes [] init = []
   variable_sizes (dim ∷ dims) init = first_size dim init ∷ map dim_size dims
@@ -66,6 +71,7 @@ module _ (around : Around) (place : Place) (means : List ℕ → Option Known) w
   open_size (Cells x) = constant_size x
   open_size (Chars x) = character_size x
 
+  -- the sizes of a parameter, of which the first one may be unknown
   abbrev pub parameter_sizes : List Dim → List (Verdict ℤ)
   parameter_sizes [] = []
   parameter_sizes (dim ∷ dims) = open_size dim ∷ map dim_size dims

@@ -3,7 +3,11 @@
 use Rattle.std.specs.Prelude.{Bool, false, List, ◌∷◌}
 use Rattle.pawn_cells.specs.declared.place.Place.{Place}
 use Rattle.pawn_tree.specs.declared.name.At.{At}
-use Rattle.pawn_tree.specs.Statements.{ConstantOf, First, Nothing, New, Value, Range, Stmt, Stmts, MaybeStmt, Case, Cases, Empty, Do, Block, If, While, DoWhile, For, Switch, Return, Exit, Sleep, Assert, Break, Continue, State, Local, Constant, Values, no_stmts, then_stmt, no_stmt, one_stmt, no_cases, then_case}
+use Rattle.pawn_tree.specs.Statements.{ConstantOf, First, Nothing, New, Value, Range, Stmt, Stmts}
+use Rattle.pawn_tree.specs.Statements.{MaybeStmt, Case, Cases, Empty, Do, Block, If, While, DoWhile}
+use Rattle.pawn_tree.specs.Statements.{For, Switch, Return, Exit, Sleep, Assert, Break, Continue}
+use Rattle.pawn_tree.specs.Statements.{State, Local, Constant, Values, no_stmts, then_stmt, no_stmt}
+use Rattle.pawn_tree.specs.Statements.{one_stmt, no_cases, then_case}
 use Rattle.pawn_scopes.specs.Mark as mark
 use Rattle.pawn_scopes.specs.Mark.{Mark, Opens, Closes, Declares}
 use Rattle.pawn_scopes.specs.Lists.{all_marks, maybe_marks}
@@ -22,15 +26,18 @@ constant_marks place outside x before =
     })
     ∷ expr_marks x.value (maybe_marks tag_marks x.tag before)
 
+-- of an expression, or of variables known in the `for` alone
 abbrev pub first_marks : At → First → List Mark → List Mark
 first_marks at Nothing before = before
 first_marks at (New vars) before = all_marks (var_marks at.place false) vars before
 first_marks at (Value x) before = expr_marks x before
 
+-- of a value or range of a case
 abbrev pub range_marks : Range → List Mark → List Mark
 range_marks x before = maybe_marks expr_marks x.last (expr_marks x.first before)
 
 abbrev mutual
+  -- of all parts in order, between the ends of a block where it is one
   pub stmt_marks : Stmt → List Mark → List Mark
   stmt_marks (Empty at) before = before
   stmt_marks (Do at x) before = expr_marks x before
@@ -53,17 +60,21 @@ abbrev mutual
   stmt_marks (Local at x) before = all_marks (var_marks at.place false) x.vars before
   stmt_marks (Constant at x) before = constant_marks at.place false x before
 
+  -- one behind another
   pub stmts_marks : Stmts → List Mark → List Mark
   stmts_marks no_stmts before = before
   stmts_marks (then_stmt s ss) before = stmts_marks ss (stmt_marks s before)
 
+  -- of a case: its values, then its statement
   pub case_marks : Case → List Mark → List Mark
   case_marks (Values at ranges s) before = stmt_marks s (all_marks range_marks ranges before)
 
+  -- one behind another
   pub cases_marks : Cases → List Mark → List Mark
   cases_marks no_cases before = before
   cases_marks (then_case x xs) before = cases_marks xs (case_marks x before)
 
+  -- of what stands behind `else` or `default`
   pub other_marks : MaybeStmt → List Mark → List Mark
   other_marks no_stmt before = before
   other_marks (one_stmt s) before = stmt_marks s before

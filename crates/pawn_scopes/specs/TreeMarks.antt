@@ -4,7 +4,8 @@ use Rattle.std.specs.Prelude.{ℕ, suc, true, false, List, [], ◌∷◌, Option
 use Rattle.pawn_cells.specs.declared.place.Place.{Place}
 use Rattle.pawn_tree.specs.declared.name.Name.{Name}
 use Rattle.pawn_tree.specs.Expressions.{Expr}
-use Rattle.pawn_tree.specs.Declarations.{Item, Param, Plain, Rest, Head, Decl, Variables, Constant, Enum, Native, Forward, Function, Tree}
+use Rattle.pawn_tree.specs.Declarations.{Item, Param, Plain, Rest, Head, Decl, Variables, Constant}
+use Rattle.pawn_tree.specs.Declarations.{Enum, Native, Forward, Function, Tree}
 use Rattle.pawn_scopes.specs.Mark as mark
 use Rattle.pawn_scopes.specs.Mark.{Mark, Opens, Closes, Declares, Sort}
 use Rattle.pawn_scopes.specs.Lists.{all_marks, maybe_marks}
@@ -20,6 +21,7 @@ item_sort (Some value) last = mark.Constant value
 item_sort None None = mark.First
 item_sort None (Some last) = mark.Next last.bytes
 
+-- of a constant of an enumeration, which is declared behind its value
 abbrev pub item_marks : Place → Option Name → Option Name → Item → List Mark → List Mark
 item_marks place tag last x before =
     Declares (record {
@@ -58,6 +60,7 @@ abbrev pub first_tag : List Name → Option Name
 first_tag [] = None
 first_tag (tag ∷ tags) = Some tag
 
+-- of a parameter, which is declared behind its default
 abbrev pub param_marks : Place → Param → List Mark → List Mark
 param_marks place (Plain constant reference tags name dims value) before =
     Declares (record {
@@ -77,6 +80,7 @@ head_marks place x before =
 
 -- ---- the whole
 
+-- of a declaration: a head is a block, which ends behind the body if it has one
 abbrev pub decl_marks : Decl → List Mark → List Mark
 decl_marks (Variables at x) before = all_marks (var_marks at.place true) x.vars before
 decl_marks (Constant at x) before = constant_marks at.place true x before
@@ -86,5 +90,6 @@ decl_marks (Native at x) before = Closes ∷ head_marks at.place x before
 decl_marks (Forward at is_public x) before = Closes ∷ head_marks at.place x before
 decl_marks (Function at x) before = Closes ∷ stmt_marks x.body (head_marks at.place x.head before)
 
+-- of all declarations of a source
 abbrev pub tree_marks : Tree → List Mark
 tree_marks tree = all_marks decl_marks tree []

@@ -10,10 +10,12 @@ abbrev pub declared_at : ℕ → Option ℕ → List (ℕ × ℕ)
 declared_at token None = []
 declared_at token (Some declared) = (token, declared) ∷ []
 
+-- an occurrence with the token of its declaration, if one declares it
 abbrev pub pair_of : Use → Option Known → List (ℕ × ℕ)
 pair_of it None = []
 pair_of it (Some known) = declared_at it.token known.token
 
+-- the pairs of all occurrences among these marks
 abbrev pub uses : Around → List Mark → List (ℕ × ℕ)
 uses around [] = []
 uses around (Opens ∷ before) = uses around before

@@ -2,7 +2,8 @@
 -- these tokens: the name of an enumeration stands before its constants.
 use Rattle.std.specs.Prelude.{ℕ, ◌-◌, ℤ, List, [], ◌∷◌, ◌++◌, length, take, drop}
 use Rattle.pawn_scopes.specs.Verdict.{Verdict, Stands, Breaks}
-use Rattle.pawn_scopes.specs.Mark.{Mark, Opens, Closes, Mentions, Uses, Declares, Declaration, Sort, Variable, Parameter, Constant, First, Next, Label}
+use Rattle.pawn_scopes.specs.Mark.{Mark, Opens, Closes, Mentions, Uses, Declares, Declaration, Sort}
+use Rattle.pawn_scopes.specs.Mark.{Variable, Parameter, Constant, First, Next, Label}
 use Rattle.pawn_scopes.specs.Known.{Kind, Cells, Worth, Function}
 use Rattle.pawn_scopes.specs.Around.{Around}
 use Rattle.pawn_scopes.specs.Found.{declared}
@@ -21,15 +22,18 @@ abbrev pub with_pair : ℕ → (ℕ × ℤ) → List (ℕ × ℤ) → List (ℕ 
 with_pair count pair values =
     take (length values - count) values ++ pair ∷ drop (length values - count) values
 
+-- with the value of a constant, if it has one
 abbrev pub with_worth : Declaration → Verdict ℤ → List (ℕ × ℤ) → List (ℕ × ℤ)
 with_worth it (Stands value) values = with_pair (behind it.sort) (it.name.at.token, value) values
 with_worth it (Breaks faults) values = values
 
+-- with what is declared, if it is a constant
 abbrev pub with_kind : Declaration → Kind → List (ℕ × ℤ) → List (ℕ × ℤ)
 with_kind it (Cells sizes) values = values
 with_kind it (Worth worth) values = with_worth it worth values
 with_kind it Function values = values
 
+-- the values of all constants among these marks
 abbrev pub values : Around → List Mark → List (ℕ × ℤ)
 values around [] = []
 values around (Opens ∷ before) = values around before

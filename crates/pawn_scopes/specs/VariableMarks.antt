@@ -2,24 +2,29 @@
 use Rattle.std.specs.Prelude.{Bool, List, ◌∷◌}
 use Rattle.pawn_cells.specs.declared.place.Place.{Place}
 use Rattle.pawn_tree.specs.declared.name.Name.{Name}
-use Rattle.pawn_tree.specs.Variables.{Dim, Open, Cells, Chars, Init, Inits, Value, Braces, no_inits, then_init, Var}
+use Rattle.pawn_tree.specs.Variables.{Dim, Open, Cells, Chars, Init, Inits, Value, Braces, no_inits}
+use Rattle.pawn_tree.specs.Variables.{then_init, Var}
 use Rattle.pawn_scopes.specs.Mark.{Mark, Mentions, Declares, Variable}
 use Rattle.pawn_scopes.specs.Lists.{all_marks, maybe_marks}
 use Rattle.pawn_scopes.specs.ExpressionMarks.{expr_marks}
 
+-- a tag that is written is mentioned
 abbrev pub tag_marks : Name → List Mark → List Mark
 tag_marks tag before = Mentions tag.bytes ∷ before
 
+-- of a dimension's expression
 abbrev pub dim_marks : Dim → List Mark → List Mark
 dim_marks Open before = before
 dim_marks (Cells x) before = expr_marks x before
 dim_marks (Chars x) before = expr_marks x before
 
 abbrev mutual
+  -- of a first value
   pub init_marks : Init → List Mark → List Mark
   init_marks (Value x) before = expr_marks x before
   init_marks (Braces at xs rest) before = inits_marks xs before
 
+  -- of the values in braces
   pub inits_marks : Inits → List Mark → List Mark
   inits_marks no_inits before = before
   inits_marks (then_init x xs) before = inits_marks xs (init_marks x before)

@@ -7,6 +7,7 @@ pub record Fault : Type 0 where
   pub kind : ℕ
   pub place : Place
 
+-- either it stands or rules are broken
 pub data Verdict (A : Type 0) : Type 0 where
   Stands : A → Verdict A
   Breaks : List Fault → Verdict A

@@ -1,7 +1,9 @@
 -- What a constant expression is worth (Language Guide, "Constants", "Operators and expressions"),
 -- by recursion on it. Every part has to be constant, needed or not, and no operator of the
 -- program may be chosen in it.
-use Rattle.std.specs.Prelude.{ℕ, zero, suc, ◌+◌, ◌/◌, ℤ, pos, Bool, true, false, ◌&&◌, if◌then◌else◌, List, [], ◌∷◌, length, Option, Some, None, is_some, slice_get, unwrap_or}
+use Rattle.std.specs.Prelude.{ℕ, zero, suc, ◌+◌, ◌/◌, ℤ, pos, Bool, true, false, ◌&&◌}
+use Rattle.std.specs.Prelude.{if◌then◌else◌, List, [], ◌∷◌, length, Option, Some, None, is_some}
+use Rattle.std.specs.Prelude.{slice_get, unwrap_or}
 use Rattle.pawn_token.specs.declared.sign.Sign.{Sign}
 use Rattle.pawn_cells.specs.declared.place.Place.{Place}
 use Rattle.pawn_cells.specs.declared.operator.Prefix.{Prefix}
@@ -19,7 +21,9 @@ use Rattle.pawn_tree.specs.declared.expression.TagofOperand.TheVariants as tagge
 use Rattle.pawn_tree.specs.Expressions as tree
 use Rattle.pawn_tree.specs.Expressions.{Expr, Links, no_links, then_link, Compare}
 use Rattle.pawn_scopes.specs.Verdict.{Verdict, Stands, broken, after, both}
-use Rattle.pawn_scopes.specs.Signs.{Before, Applies, Steps, before_of, Between, Operates, Decides, Takes, Nothing, between_of, is_test, Link, Compares, No_link, link_of}
+use Rattle.pawn_scopes.specs.Signs.{Before, Applies, Steps, before_of, Between, Operates, Decides}
+use Rattle.pawn_scopes.specs.Signs.{Takes, Nothing, between_of, is_test, Link, Compares, No_link}
+use Rattle.pawn_scopes.specs.Signs.{link_of}
 use Rattle.pawn_scopes.specs.Known.{Known, Kind, Cells, Worth, Function}
 use Rattle.pawn_scopes.specs.Around.{Around, truth_tag}
 
@@ -28,6 +32,7 @@ pub record Valued : Type 0 where
   pub value : ℤ
   pub tag : ℕ
 
+-- a constant that stands, with its tag's number
 abbrev pub valued : ℤ → ℕ → Verdict Valued
 valued value tag = Stands (record { value = value; tag = tag })
 
@@ -50,12 +55,14 @@ module _ (around : Around) (place : Place) where
   known_value tag (Worth worth) = after worth (λ value. valued value tag)
   known_value tag Function = not_constant
 
+  -- only the name of a constant has one
   abbrev pub name_worth : Place → Option Known → Verdict Valued
   name_worth at None = broken 50 at
   name_worth at (Some known) = known_value known.tag known.kind
 
   -- ---- sizes and tags
 
+  -- of a size that `sizeof` asks for, which has to be known
   abbrev pub size_at : Option (Verdict ℤ) → Verdict Valued
   size_at None = not_constant
   size_at (Some size) = after size (λ value. valued value untagged)
@@ -72,17 +79,21 @@ module _ (around : Around) (place : Place) where
   kind_size brackets (Worth worth) = one_cell brackets
   kind_size brackets Function = not_constant
 
+  -- of `sizeof` of a name with so many pairs of brackets
   abbrev pub name_size : Place → ℕ → Option Known → Verdict Valued
   name_size at brackets None = broken 50 at
   name_size at brackets (Some known) = kind_size brackets known.kind
 
+  -- of `sizeof` of a text, which has one dimension
   abbrev pub text_size : ℕ → t.Text → Verdict Valued
   text_size zero text = valued (pos (text_cells text.bytes text.packed)) untagged
   text_size (suc brackets) text = not_constant
 
+  -- `tagof` gives the number of a tag
   abbrev pub tag_worth : ℕ → Verdict Valued
   tag_worth number = valued (pos number) untagged
 
+  -- `tagof` of a name that is declared
   abbrev pub name_tag : Place → Option Known → Verdict Valued
   name_tag at None = broken 50 at
   name_tag at (Some known) = tag_worth known.tag
@@ -94,6 +105,7 @@ module _ (around : Around) (place : Place) where
   is_chosen None left right = false
   is_chosen (Some op) left right = is_some (choice around.overloads op left right)
 
+  -- the program defines no operator for these tags
   abbrev pub unless_chosen : {A : Type 0} → Option Op → ℕ → ℕ → Verdict A → Verdict A
   unless_chosen op left right x = if is_chosen op left right then not_constant else x
 
@@ -103,6 +115,7 @@ module _ (around : Around) (place : Place) where
   prefix_tag before.Invert tag = tag
   prefix_tag before.Negate tag = tag
 
+  -- of an operator before an operand
   abbrev pub prefix_worth : Before → Valued → Verdict Valued
   prefix_worth Steps x = not_constant
   prefix_worth (Applies sign op) x =
@@ -117,6 +130,7 @@ module _ (around : Around) (place : Place) where
   operated at tag None = broken 67 at
   operated at tag (Some value) = valued value tag
 
+  -- of an operator between two operands
   abbrev pub between_worth : Place → Between → Valued → Valued → Verdict Valued
   between_worth at (Operates operator op) x y =
       unless_chosen op x.tag y.tag
@@ -127,33 +141,40 @@ module _ (around : Around) (place : Place) where
 
   -- ---- comparisons, tags and choices
 
+  -- whether a comparison of a chain holds
   abbrev pub linked : Link → Valued → Valued → Verdict Bool
   linked No_link x y = not_constant
   linked (Compares comparison op) x y =
       unless_chosen (Some op) x.tag y.tag (Stands (compare comparison x.value y.value))
 
+  -- how an operand is compared with the one before it
   abbrev pub link_sign : tree.Link → Sign
   link_sign (Compare sign x) = sign
 
+  -- of an operand with a tag before it
   abbrev pub tagged_worth : List ℕ → Valued → Verdict Valued
   tagged_worth tag x = valued x.value (unwrap_or (number_of around.tags tag) untagged)
 
+  -- of `? :`, with the tag of the first choice
   abbrev pub chosen_worth : Valued → Valued → Valued → Verdict Valued
   chosen_worth x y z = valued (if is_true x.value then y.value else z.value) y.tag
 
   -- ---- expressions
 
   module _ (means : List ℕ → Option Known) where
+    -- the size of a name or of a text
     abbrev pub sizeof_worth : Place → SizeofOperand → Verdict Valued
     sizeof_worth at (sized.Name name brackets) = name_size at brackets (means name.bytes)
     sizeof_worth at (sized.Text text brackets) = text_size brackets text
 
+    -- the tag of a name, or the one that is written
     abbrev pub tagof_worth : Place → TagofOperand → Verdict Valued
     tagof_worth at (tagged.Name name) = name_tag at (means name.bytes)
     tagof_worth at (tagged.Tag name) =
         tag_worth (unwrap_or (number_of around.tags name.bytes) untagged)
 
     abbrev mutual
+      -- any expression; calls and assignments aren't constant
       pub worth : Expr → Verdict Valued
       worth (tree.Number at value) = valued value untagged
       worth (tree.Text at bytes packed) = not_constant

@@ -1,4 +1,3 @@
-pub mod VerdictLaws
 mod IndexLaws
 pub mod FileLaws
 mod AddLaws

@@ -14,6 +14,7 @@ use Rattle.pawn_sight.specs.Views.{known_view, head_view}
 abbrev pub around_view : Context → Around
 around_view cx = record { tags = cx.tags; overloads = cx.operators; names = [] }
 
+-- what a name means outside all blocks: a function, or a predefined constant
 abbrev pub elsewhere_view : Context → List ℕ → Option Known
 elsewhere_view cx name =
     option_or (option_map head_view (function_in cx.names name))
@@ -24,5 +25,6 @@ abbrev pub by_number : List Held → Option Known → Option ℕ → Option Know
 by_number known elsewhere None = elsewhere
 by_number known elsewhere (Some number) = option_map known_view (slice_get known number)
 
+-- what a name means at a place: its declaration in sight, else that outside
 abbrev pub means_view : Context → List ℕ → Option Known
 means_view cx name = by_number cx.known (elsewhere_view cx name) (number_of cx.scopes name)

@@ -4,9 +4,9 @@ use Rattle.std.specs.Prelude.{◌≡◌, ℕ, false, List, [], ◌∷◌, Option
 use Rattle.pawn_cells.specs.declared.place.Place.{Place}
 use Rattle.pawn_tree.specs.declared.name.Name as n
 use Rattle.pawn_scopes.specs.FileNames.{FileName, Role, is_twice, twice_faults}
-use Rattle.pawn_sight.specs.declared.fault.CheckFault.{CheckFault}
+use Rattle.pawn_verdict.specs.declared.fault.CheckFault.{CheckFault}
 use Rattle.pawn_sight.specs.declared.outside.Seen.{Seen}
-use Rattle.pawn_sight.specs.Answers.{Fails}
+use Rattle.pawn_verdict.specs.Answers.{Fails}
 use Rattle.pawn_sight.specs.FileTable.{Table, Holds, seen_in, nothing_seen}
 
 -- a table of names none of which stands twice
@@ -28,17 +28,21 @@ seen_or None = nothing_seen
 seen_or (Some seen) = seen
 
 -- it may stand with those before it, of which this is seen
-pub record IsFree (x : FileName) (before : List FileName) (table : Table) (seen : Seen) : Type 0 where
+pub record IsFree (x : FileName) (before : List FileName) (table : Table)
+    (seen : Seen) : Type 0 where
   pub once : is_twice x before ≡ false
   pub same : seen ≡ seen_or (seen_in table x.name.bytes)
 
+-- what is seen of a name that may stand with those before it, or a fault of it
 abbrev pub AnswersSeen : FileName → List FileName → Table → Result Seen CheckFault → Type 0
 AnswersSeen x before table (Ok seen) = IsFree x before table seen
 AnswersSeen x before table (Err fault) = Fails (twice_faults (x ∷ before)) fault
 
 -- ---- all names
 
-abbrev pub Adds : {A : Type 0} → List (List ℕ) → List FileName → Table → Result A CheckFault → Type 0
+-- a table that holds all names, or a fault of one that clashes
+abbrev pub Adds : {A : Type 0} → List (List ℕ) → List FileName → Table → Result A CheckFault
+    → Type 0
 Adds tags names table (Ok done) = IsWhole tags names table
 Adds tags names table (Err fault) = Fails (twice_faults names) fault
 

@@ -12,7 +12,7 @@ mod scopes;
 mod tags;
 
 pub use context::Context;
-pub use fault::{BY_ZERO, CheckFault, Fault, NOT_CONSTANT, TWICE, UNKNOWN, broken};
+pub use fault::{BY_ZERO, Fault, NOT_CONSTANT, TWICE, UNKNOWN};
 pub use known::{Kind, Known, Meant, MeantKind, Size};
 pub use operators::{op_of, operators_of, plain_tag, right_tag};
 pub use outside::{FileNames, FirstHead, Role, file_names};

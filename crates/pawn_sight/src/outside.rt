@@ -8,12 +8,13 @@ ghost use Rattle.pawn_sight.specs.FileTable as table;
 ghost use Rattle.pawn_sight.specs.FileTable.{role_view, function_in};
 ghost use Rattle.pawn_sight.specs.Steps.{IsWhole, IsNamed, AnswersSeen, Adds, IsAdded};
 
-use super::fault::{CheckFault, TWICE, broken};
+use super::fault::TWICE;
 use super::tags::tag_number;
 use indexmap::IndexMap;
 use pawn_cells::{Place, predefined};
 use pawn_tags::TagTable;
 use pawn_tree::{Decl, Head, HeadName, Item, Name, Tree, Var};
+use pawn_verdict::{CheckFault, broken};
 use std::alloc::Global;
 use std::marker::Model;
 

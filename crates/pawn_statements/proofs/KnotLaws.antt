@@ -10,17 +10,20 @@ pub init_of_none : (ts : List Token) (d i : ℕ) → d ≡ 0 → init ts d i ≡
 unfolding init
 init_of_none ts d i none = ap (λ n. init ts n i) none
 
-pub init_of_more : (ts : List Token) (d i : ℕ) → 0 < d → init ts d i ≡ init_by ts (expr ts d) (init ts (d - 1)) (d - 1) i
+pub init_of_more : (ts : List Token) (d i : ℕ) → 0 < d
+    → init ts d i ≡ init_by ts (expr ts d) (init ts (d - 1)) (d - 1) i
 unfolding init
 init_of_more ts d i some =
     let e : d ≡ suc (d - 1) = omega arith in
     ap (λ n. init ts n i) e ∙ ap (λ n. init_by ts (expr ts n) (init ts (d - 1)) (d - 1) i) (sym e)
 
-pub statement_of_none : (ts : List Token) (d : ℕ) (b : Bool) (i : ℕ) → d ≡ 0 → statement ts d b i ≡ None
+pub statement_of_none : (ts : List Token) (d : ℕ) (b : Bool) (i : ℕ) → d ≡ 0
+    → statement ts d b i ≡ None
 unfolding statement
 statement_of_none ts d b i none = ap (λ n. statement ts n b i) none
 
 pub statement_of_more : (ts : List Token) (d : ℕ) (b : Bool) (i : ℕ) → 0 < d
     → statement ts d b i ≡ stmt_by ts (statement ts (d - 1)) (d - 1) b i (word ts i)
 unfolding statement
-statement_of_more ts d b i some = let e : d ≡ suc (d - 1) = omega arith in ap (λ n. statement ts n b i) e
+statement_of_more ts d b i some =
+    let e : d ≡ suc (d - 1) = omega arith in ap (λ n. statement ts n b i) e

@@ -18,12 +18,15 @@ use Rattle.pawn_statements.specs.Boxed.{boxed_stmt}
 pub record Fills (ts : List Token) (d : ℕ) (pre : Parser → ℕ → ℕ → Type 0)
     (post : Parser → ℕ → ℕ → Result (Got held_init.Init) ReadFault → Type 0) : Type 0 where
   pub callable : (p : Parser) (i : ℕ) → pre p d i
-  pub reads : (p : Parser) (i : ℕ) (r : Result (Got held_init.Init) ReadFault) → p.tokens.now ≡ ts → post p d i r
+  pub reads : (p : Parser) (i : ℕ) (r : Result (Got held_init.Init) ReadFault) → p.tokens.now ≡ ts
+      → post p d i r
       → Answers ts (got_view init_view) (init ts d i) r
 
 -- it may be called, and answers as the parser of statements of height d does
 pub record Follows (ts : List Token) (d : ℕ) (pre : Parser → ℕ → Bool → ℕ → Type 0)
-    (post : Parser → ℕ → Bool → ℕ → Result (Got (Box held_stmt.Stmt Global)) ReadFault → Type 0) : Type 0 where
+    (post : Parser → ℕ → Bool → ℕ → Result (Got (Box held_stmt.Stmt Global)) ReadFault → Type 0)
+    : Type 0 where
   pub callable : (p : Parser) (b : Bool) (i : ℕ) → pre p d b i
-  pub reads : (p : Parser) (b : Bool) (i : ℕ) (r : Result (Got (Box held_stmt.Stmt Global)) ReadFault) → p.tokens.now ≡ ts → post p d b i r
+  pub reads : (p : Parser) (b : Bool) (i : ℕ)
+      (r : Result (Got (Box held_stmt.Stmt Global)) ReadFault) → p.tokens.now ≡ ts → post p d b i r
       → Answers ts (got_view boxed_stmt) (statement ts d b i) r

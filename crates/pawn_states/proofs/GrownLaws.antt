@@ -1,5 +1,7 @@
 -- What clauses name, as they grow by one clause.
-use Rattle.std.proofs.Common.{◌≡◌, ◌+◌, ◌≤◌, List, [], ◌∷◌, ◌++◌, ℕ, suc, Bool, true, false, cond, nat_lt, if◌then◌else◌, None, Some, is_some, map, position, length, refl, sym, ap, ◌∙◌, append-nil, append_assoc, arith, length-append}
+use Rattle.std.proofs.Common.{◌≡◌, ◌+◌, ◌≤◌, List, [], ◌∷◌, ◌++◌, ℕ, suc, Bool, true, false, cond}
+use Rattle.std.proofs.Common.{nat_lt, if◌then◌else◌, None, Some, is_some, map, position, length}
+use Rattle.std.proofs.Common.{refl, sym, ap, ◌∙◌, append-nil, append_assoc, arith, length-append}
 use Rattle.std.specs.List.{list_any, position_or_len}
 use Rattle.std.specs.Option.{option_or}
 use Rattle.std.proofs.lemmas.Bool.Decides.{nat_tests}

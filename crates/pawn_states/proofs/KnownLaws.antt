@@ -1,5 +1,8 @@
 -- What is known of clauses that break no rule, and their first fault.
-use Rattle.std.proofs.Common.{◌≡◌, ◌+◌, List, [], ◌∷◌, ◌++◌, ℕ, Bool, true, false, not, ◌||◌, if◌then◌else◌, Option, None, Some, is_some, map, position, length, Result, Ok, Err, refl, sym, ap, ap₂, ◌∙◌, append-nil, append_assoc, arith, length-append, ◌&&◌, true≢false}
+use Rattle.std.proofs.Common.{◌≡◌, ◌+◌, List, [], ◌∷◌, ◌++◌, ℕ, Bool, true, false, not, ◌||◌}
+use Rattle.std.proofs.Common.{if◌then◌else◌, Option, None, Some, is_some, map, position, length}
+use Rattle.std.proofs.Common.{Result, Ok, Err, refl, sym, ap, ap₂, ◌∙◌, append-nil, append_assoc}
+use Rattle.std.proofs.Common.{arith, length-append, ◌&&◌, true≢false}
 use Rattle.std.specs.List.{list_any}
 use Rattle.std.specs.Option.{option_or}
 use Rattle.std.specs.Str.{bytes_eq}
@@ -8,14 +11,17 @@ use Rattle.std.proofs.lemmas.List.Elements.{filter-append}
 use Rattle.std.proofs.lemmas.List.Folds.{list_any-append}
 use Rattle.name_table.specs.Among.{is_among}
 use Rattle.pawn_states.specs.Classified.{classified, unless_fault}
-use Rattle.pawn_states.specs.Classifier.{is_fallback, naming, states_of, has_twice, fault_at, first_fault, mixes, is_second_fallback, repeats, are_none}
+use Rattle.pawn_states.specs.Classifier.{is_fallback, naming, states_of, has_twice, fault_at}
+use Rattle.pawn_states.specs.Classifier.{first_fault, mixes, is_second_fallback, repeats, are_none}
 use Rattle.pawn_states.specs.Dispatch.{automaton_named, cases_from, dispatch_of}
-use Rattle.pawn_states.specs.Known.{nothing, then_known, beside_automaton, with_states, with_clause, with_clauses, dispatch_from}
+use Rattle.pawn_states.specs.Known.{nothing, then_known, beside_automaton, with_states, with_clause}
+use Rattle.pawn_states.specs.Known.{with_clauses, dispatch_from}
 use Rattle.pawn_states.specs.declared.classifier.Known.{Known}
 use Rattle.pawn_states.specs.declared.clause.Clause.{Clause}
 use Rattle.pawn_states.specs.declared.fault.StateFault.{StateFault}
 use Rattle.pawn_states.specs.declared.fault.StateFault.TheVariants.{Twice, FallbackTwice, Mixed}
-use Rattle.pawn_states.proofs.GrownLaws.{place_among, place_more, automaton_more, states_more, cases_more}
+use Rattle.pawn_states.proofs.GrownLaws.{place_among, place_more, automaton_more, states_more}
+use Rattle.pawn_states.proofs.GrownLaws.{cases_more}
 use Rattle.pawn_states.proofs.TwiceLaws.{repeated, repeated_is}
 
 -- what is known of clauses that break no rule

@@ -5,12 +5,15 @@ use Rattle.pawn_states.specs.Dispatch.{dispatch_of}
 use Rattle.pawn_states.specs.declared.clause.Clause.{Clause}
 use Rattle.pawn_states.specs.declared.dispatch.Dispatch.{Dispatch}
 use Rattle.pawn_states.specs.declared.fault.StateFault.{StateFault}
-use Rattle.pawn_states.specs.declared.fault.StateFault.TheVariants.{Twice, FallbackTwice, Mixed, Memory}
+use Rattle.pawn_states.specs.declared.fault.StateFault.TheVariants.{Twice, FallbackTwice, Mixed}
+use Rattle.pawn_states.specs.declared.fault.StateFault.TheVariants.{Memory}
 
+-- a value where there is no fault
 abbrev pub unless_fault : {A : Type 0} → Option StateFault → A → Result A StateFault
 unless_fault None value = Ok value
 unless_fault (Some fault) value = Err fault
 
+-- the dispatch of a function's clauses
 abbrev pub classified : List Clause → Result Dispatch StateFault
 classified clauses = unless_fault (first_fault [] clauses) (dispatch_of clauses)
 

@@ -1,6 +1,7 @@
 -- The classifiers of a function's bodies (Language Guide, "State classifiers"): each body has a
 -- clause, which names states of an automaton, or names none and is the fallback.
-use Rattle.std.specs.Prelude.{ℕ, List, [], ◌∷◌, ◌++◌, Bool, true, false, not, ◌&&◌, ◌||◌, Option, None, Some, filter, length, if◌then◌else◌}
+use Rattle.std.specs.Prelude.{ℕ, List, [], ◌∷◌, ◌++◌, Bool, true, false, not, ◌&&◌, ◌||◌, Option}
+use Rattle.std.specs.Prelude.{None, Some, filter, length, if◌then◌else◌}
 use Rattle.std.specs.List.{list_any, flat_map}
 use Rattle.std.specs.Option.{option_or}
 use Rattle.std.specs.Str.{bytes_eq}
@@ -14,6 +15,7 @@ abbrev pub are_none : List (List ℕ) → Bool
 are_none [] = true
 are_none (name ∷ more) = false
 
+-- the clause of `<>`, which names no state
 abbrev pub is_fallback : Clause → Bool
 is_fallback clause = are_none clause.states
 

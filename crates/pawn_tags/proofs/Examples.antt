@@ -1,5 +1,6 @@
 -- The tables by computation: the rows of matching, and the choice of an operator.
-use Rattle.std.specs.Prelude.{◌≡◌, ℕ, List, [], ◌∷◌, Bool, true, false, Option, None, Some, map, codes, refl}
+use Rattle.std.specs.Prelude.{◌≡◌, ℕ, List, [], ◌∷◌, Bool, true, false, Option, None, Some, map}
+use Rattle.std.specs.Prelude.{codes, refl}
 use Rattle.pawn_tags.specs.Matching.{takes, matches}
 use Rattle.pawn_tags.specs.Overloads.{Overloads, choice, with_overload}
 use Rattle.pawn_tags.specs.Tags.{first_names, number_of, is_strong}

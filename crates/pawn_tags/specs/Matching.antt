@@ -11,6 +11,7 @@ pub data Actual : Type 0 where
   OtherWeak : Actual
   OtherStrong : Actual
 
+-- two tags compared: the names of all tags tell which are strong
 abbrev pub actual_of : List (List ℕ) → ℕ → ℕ → Actual
 actual_of names formal actual =
     if nat_eq formal actual then Same
@@ -31,6 +32,7 @@ tag_takes Untagged = false
 tag_takes OtherWeak = false
 tag_takes OtherStrong = false
 
+-- a value of one tag may stand where another tag is wanted, without a warning
 abbrev pub takes : List (List ℕ) → ℕ → ℕ → Bool
 takes names formal actual =
     if nat_eq formal untagged then untagged_takes (actual_of names formal actual)

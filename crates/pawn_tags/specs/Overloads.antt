@@ -1,6 +1,7 @@
 -- User operators (Language Guide, "User-defined operators"): which function stands for an
 -- operator between operands of two tags.
-use Rattle.std.specs.Prelude.{ℕ, List, [], ◌∷◌, ◌++◌, Bool, true, false, if◌then◌else◌, Option, None, is_some, option_map, nat_eq, ◌&&◌}
+use Rattle.std.specs.Prelude.{ℕ, List, [], ◌∷◌, ◌++◌, Bool, true, false, if◌then◌else◌, Option}
+use Rattle.std.specs.Prelude.{None, is_some, option_map, nat_eq, ◌&&◌}
 use Rattle.std.specs.Option.{option_or}
 use Rattle.std.specs.Map.{lookup}
 use Rattle.pawn_tags.specs.contracts.op.OpPartialEq.TheImpl as equality

@@ -1,6 +1,7 @@
 -- Tags by name (Language Guide, "Tag names"). The number of a tag is the place of its name among
 -- those mentioned so far.
-use Rattle.std.specs.Prelude.{ℕ, List, [], ◌∷◌, Bool, false, ◌&&◌, Option, position, slice_get, unwrap_or, nat_le, codes}
+use Rattle.std.specs.Prelude.{ℕ, List, [], ◌∷◌, Bool, false, ◌&&◌, Option, position, slice_get}
+use Rattle.std.specs.Prelude.{unwrap_or, nat_le, codes}
 use Rattle.std.specs.Str.{bytes_eq}
 
 -- the names that stand in each table from the start: that of no tag, and that of truth values
@@ -11,6 +12,7 @@ first_names = codes "_" ∷ codes "bool" ∷ []
 abbrev pub untagged : ℕ
 untagged = 0
 
+-- the number of a tag by its name, if it is mentioned
 abbrev pub number_of : List (List ℕ) → List ℕ → Option ℕ
 number_of names name = position (bytes_eq name) names
 

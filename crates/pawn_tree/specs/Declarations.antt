@@ -14,6 +14,7 @@ pub record Item : Type 0 where
   pub name : Name
   pub value : Option Expr
 
+-- a parameter, with `const`, `&`, tags, name, dimensions and default, or `...` with its tags
 pub data Param : Type 0 where
   Plain : Bool → Bool → List Name → Name → List Dim → Option Expr → Param
   Rest : At → List Name → Param
@@ -33,6 +34,7 @@ pub record FunctionOf : Type 0 where
   pub states : Option (List StateName)
   pub body : Stmt
 
+-- a declaration at the level of the file
 pub data Decl : Type 0 where
   Variables : At → v.Variables → Decl
   Constant : At → ConstantOf → Decl

@@ -1,5 +1,5 @@
--- Expressions as plain data (Language Guide, "Operators and expressions"). Each node begins with its
--- first token.
+-- Expressions as plain data (Language Guide, "Operators and expressions"). Each node begins with
+-- its first token.
 use Rattle.std.specs.Prelude.{ℕ, ℤ, Bool, List, [], ◌∷◌}
 use Rattle.pawn_token.specs.declared.sign.Sign.{Sign}
 use Rattle.pawn_tree.specs.declared.name.At.{At}
@@ -8,6 +8,7 @@ use Rattle.pawn_tree.specs.declared.expression.SizeofOperand.{SizeofOperand}
 use Rattle.pawn_tree.specs.declared.expression.TagofOperand.{TagofOperand}
 
 mutual
+  -- numbers, texts and names, and operators and calls with their operands
   pub data Expr : Type 0 where
     Number : At → ℤ → Expr
     Text : At → List ℕ → Bool → Expr
@@ -26,6 +27,7 @@ mutual
     Assign : At → Sign → Expr → Expr → Expr
     Call : At → List ℕ → Args → Bool → Expr
 
+  -- an argument of a call: by position, `_`, or by name
   pub data Arg : Type 0 where
     Value : Expr → Arg
     Default : At → Arg

@@ -24,6 +24,7 @@ pub record Range : Type 0 where
   pub last : Option Expr
 
 mutual
+  -- simple statements, blocks, branches and loops, and what a block declares
   pub data Stmt : Type 0 where
     Empty : At → Stmt
     Do : At → Expr → Stmt
@@ -48,6 +49,7 @@ mutual
     no_stmts : Stmts
     then_stmt : Stmt → Stmts → Stmts
 
+  -- what stands behind `else` or `default`, if there is such
   pub data MaybeStmt : Type 0 where
     no_stmt : MaybeStmt
     one_stmt : Stmt → MaybeStmt

@@ -38,13 +38,16 @@ opens_rise x = record { rises = x.rises }
 pub closes_rise : {marks : List Mark} {m : ℕ} → Rises marks m → Rises (Closes ∷ marks) m
 closes_rise x = record { rises = x.rises }
 
-mention_rises : {marks : List Mark} {m : ℕ} (tag : List ℕ) → Rises marks m → Rises (Mentions tag ∷ marks) m
+mention_rises : {marks : List Mark} {m : ℕ} (tag : List ℕ) → Rises marks m
+    → Rises (Mentions tag ∷ marks) m
 mention_rises tag x = record { rises = x.rises }
 
-pub declares_rise : {marks : List Mark} {m : ℕ} (it : Declaration) → Rises marks m → Rises (Declares it ∷ marks) m
+pub declares_rise : {marks : List Mark} {m : ℕ} (it : Declaration) → Rises marks m
+    → Rises (Declares it ∷ marks) m
 declares_rise it x = record { rises = x.rises }
 
-use_rises : (ts : List Token) (name : List ℕ) (node : At) {marks : List Mark} {i : ℕ} → Rises marks i → Rises (occurs name (at ts i) node ∷ marks) (suc i)
+use_rises : (ts : List Token) (name : List ℕ) (node : At) {marks : List Mark} {i : ℕ}
+    → Rises marks i → Rises (occurs name (at ts i) node ∷ marks) (suc i)
 unfolding at
 use_rises ts name node {i = i} x = record { rises = (omega arith, x.rises) }
 

@@ -13,6 +13,7 @@ abbrev pub AreRising : {A : Type 0} → ℕ → List (ℕ × A) → Type 0
 AreRising least [] = Unit {0}
 AreRising least (pair ∷ more) = (least ≤ pair.0) × AreRising (suc pair.0) more
 
+-- whatever tags and operators are known
 abbrev pub UsesRise : Type 0
 UsesRise = (ts : List Token) (tree : Tree) (around : Around) → Spells ts tree
     → AreRising 0 (uses around (tree_marks tree))

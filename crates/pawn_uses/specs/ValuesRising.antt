@@ -1,6 +1,6 @@
--- In a tree that spells tokens, and whose names are resolved, the pairs of constants and values rise
--- by the tokens of the constants' names. Where a constant had no value, the name of its enumeration
--- would stand before another one.
+-- In a tree that spells tokens, and whose names are resolved, the pairs of constants and values
+-- rise by the tokens of the constants' names. Where a constant had no value, the name of its
+-- enumeration would stand before another one.
 use Rattle.std.specs.Prelude.{List}
 use Rattle.pawn_lex.specs.declared.token.Token.{Token}
 use Rattle.pawn_tree.specs.Declarations.{Tree}
@@ -8,6 +8,7 @@ use Rattle.pawn_grammar.specs.Spells.{Spells}
 use Rattle.pawn_scopes.specs.Resolves.{Names, Resolves}
 use Rattle.pawn_uses.specs.Rising.{AreRising}
 
+-- each constant's name is a token of its own
 abbrev pub ValuesRise : Type 0
 ValuesRise = (ts : List Token) (tree : Tree) (names : Names) → Spells ts tree → Resolves tree names
     → AreRising 0 names.values

@@ -5,6 +5,7 @@ use Rattle.pawn_scopes.specs.Verdict.{Verdict, Stands, Fault, faults_of}
 use Rattle.pawn_verdict.specs.declared.fault.CheckFault.{CheckFault}
 use Rattle.pawn_verdict.specs.declared.fault.CheckFault.TheVariants.{Source, Memory}
 
+-- faults that allow this answer: one of them at its place
 abbrev pub Causes : List Fault → CheckFault → Type 0
 Causes faults (Source kind place) = Contains faults (record { kind = kind; place = place })
 Causes faults Memory = Unit {0}

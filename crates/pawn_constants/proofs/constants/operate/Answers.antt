@@ -13,6 +13,8 @@ returns-in-Some c = λ around place.
     let h = simp to_z-of_z at c.in-Some.ensures in
     let v : FitsSigned w32 c.in-Some.cell.0 = search rules in
     let m = simp to_z-of_z at c.make_valued.ensures in
-    operated_stands around place c.args.at (operator_tag around place c.args.operator c.args.x.tag) c.operator_tag.result
-    (cells.binary c.args.operator c.args.x.value c.args.y.value) c.in-Some.cell.0 (valued_view c.make_valued.result)
+    operated_stands around place c.args.at (operator_tag around place c.args.operator c.args.x.tag)
+    c.operator_tag.result
+    (cells.binary c.args.operator c.args.x.value c.args.y.value) c.in-Some.cell.0
+    (valued_view c.make_valued.result)
     h (c.operator_tag.ensures around place) m

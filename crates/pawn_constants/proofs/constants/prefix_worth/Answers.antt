@@ -10,7 +10,8 @@ use Rattle.pawn_constants.proofs.constants.prefix_worth.Goals as goal
 pub returns-in_err-unless_chosen-in-Applies : goal.returns-in_err-unless_chosen-in-Applies
 returns-in_err-unless_chosen-in-Applies c =
     let p = err_from_is_err_and c.from_residual.result c.from_residual.ensures.1 in
-    rw (p.1, p.2) (prefix_fails (around_view c.args.cx.now) c.args.place (signs.before_of c.args.sign) c.in-Applies.prefix c.in-Applies.op
+    rw (p.1, p.2) (prefix_fails (around_view c.args.cx.now) c.args.place
+    (signs.before_of c.args.sign) c.in-Applies.prefix c.in-Applies.op
     (valued_view c.args.x) _ c.in-Applies.ensures
     c.in_err-unless_chosen-in-Applies.ensures.0 c.in_err-unless_chosen-in-Applies.ensures.1)
 
@@ -20,6 +21,9 @@ returns-in_ok-unless_chosen-in-Applies c =
     let h = simp to_z-of_z at c.apply-value.ensures in
     let v : FitsSigned w32 c.apply-value.result.0 = search rules in
     let m = simp to_z-of_z at c.make_valued.ensures in
-    prefix_stands (around_view c.args.cx.now) c.args.place (signs.before_of c.args.sign) c.in-Applies.prefix c.in-Applies.op
-    (valued_view c.args.x) (valued_view c.make_valued.result) c.apply-value.result.0 c.prefix_tag.result c.in-Applies.ensures
-    c.in_ok-unless_chosen-in-Applies.ensures h (c.prefix_tag.ensures (around_view c.args.cx.now) c.args.place) m
+    prefix_stands (around_view c.args.cx.now) c.args.place
+    (signs.before_of c.args.sign) c.in-Applies.prefix c.in-Applies.op
+    (valued_view c.args.x) (valued_view c.make_valued.result) c.apply-value.result.0
+    c.prefix_tag.result c.in-Applies.ensures
+    c.in_ok-unless_chosen-in-Applies.ensures h
+    (c.prefix_tag.ensures (around_view c.args.cx.now) c.args.place) m

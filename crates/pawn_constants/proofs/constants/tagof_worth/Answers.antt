@@ -10,4 +10,6 @@ returns-in-Some c = λ place.
     rw (c.in-Name.is, known) (c.tag_worth.ensures (around_view c.args.cx.now) place)
 
 pub returns-in-Tag : goal.returns-in-Tag
-returns-in-Tag c = λ place. rw (c.in-Tag.is, ← c.tag_number.ensures) (c.tag_worth-in-Tag.ensures (around_view c.args.cx.now) place)
+returns-in-Tag c =
+    λ place. rw (c.in-Tag.is, ← c.tag_number.ensures)
+    (c.tag_worth-in-Tag.ensures (around_view c.args.cx.now) place)

@@ -5,4 +5,5 @@ use Rattle.pawn_constants.proofs.expression.+worth.Given as goal
 
 abbrev pub invariant-links_hold-loop-i : goal.invariant-links_hold-loop-i
 invariant-links_hold-loop-i l =
-    SoFar (around_view l.cx) l.place (means_view l.cx) (valued_view l.fn.first) l.links l.i (valued_view l.left) l.holds
+    SoFar (around_view l.cx) l.place (means_view l.cx) (valued_view l.fn.first) l.links l.i
+    (valued_view l.left) l.holds

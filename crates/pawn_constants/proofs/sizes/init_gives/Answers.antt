@@ -6,6 +6,7 @@ pub returns-in-Braces : goal.returns-in-Braces
 returns-in-Braces c =
     rw (
       c.in-Braces.is,
-      list_gives (around_view c.args.cx.now) c.args.place (means_view c.args.cx.now) c.in-Braces.field-0 c.in-Braces.list c.in-Braces.goes_on,
+      list_gives (around_view c.args.cx.now) c.args.place
+          (means_view c.args.cx.now) c.in-Braces.field-0 c.in-Braces.list c.in-Braces.goes_on,
       ← c.len.ensures,
     ) (c.list_gives.ensures (around_view c.args.cx.now))

@@ -11,11 +11,16 @@ use Rattle.pawn_constants.proofs.sizes.parameter_sizes.Goals as goal
 
 pub returns-in_ok-sizes-in-len1-up : goal.returns-in_ok-sizes-in-len1-up
 returns-in_ok-sizes-in-len1-up c =
-    let all = c.with_others.ensures (open_size (around_view c.args.cx.now) c.args.place (means_view c.args.cx.now) (dim_view c.first-item.result) ∷ [])
-    (c.in_ok-sizes-in-len1-up.ensures (open_size (around_view c.args.cx.now) c.args.place (means_view c.args.cx.now) (dim_view c.first-item.result)) c.open_size.ensures) in
+    let all =
+    c.with_others.ensures (open_size (around_view c.args.cx.now) c.args.place
+    (means_view c.args.cx.now) (dim_view c.first-item.result) ∷ [])
+    (c.in_ok-sizes-in-len1-up.ensures
+    (open_size (around_view c.args.cx.now) c.args.place (means_view c.args.cx.now)
+    (dim_view c.first-item.result)) c.open_size.ensures) in
     rw (
       ← c.as_slice.ensures,
-      parameter_parts (around_view c.args.cx.now) c.args.place (means_view c.args.cx.now) c.as_slice.result.now c.first-item.result
+      parameter_parts (around_view c.args.cx.now) c.args.place
+          (means_view c.args.cx.now) c.as_slice.result.now c.first-item.result
           c.in-len1-up.len_at_least c.first-item.is,
     )
     (rw (behind_first c.as_slice.result.now) at all)

@@ -11,11 +11,18 @@ use Rattle.pawn_constants.proofs.sizes.variable_sizes.Goals as goal
 
 pub returns-in_ok-sizes-in-len1-up : goal.returns-in_ok-sizes-in-len1-up
 returns-in_ok-sizes-in-len1-up c =
-    let all = c.with_others.ensures (first_size (around_view c.args.cx.now) c.args.place (means_view c.args.cx.now) (dim_view c.first-item.result) (option_map init_view c.args.init.now) ∷ [])
-    (c.in_ok-sizes-in-len1-up.ensures (first_size (around_view c.args.cx.now) c.args.place (means_view c.args.cx.now) (dim_view c.first-item.result) (option_map init_view c.args.init.now)) c.first_size.ensures) in
+    let all =
+    c.with_others.ensures (first_size (around_view c.args.cx.now) c.args.place
+    (means_view c.args.cx.now) (dim_view c.first-item.result)
+    (option_map init_view c.args.init.now) ∷ [])
+    (c.in_ok-sizes-in-len1-up.ensures
+    (first_size (around_view c.args.cx.now) c.args.place (means_view c.args.cx.now)
+    (dim_view c.first-item.result) (option_map init_view c.args.init.now))
+    c.first_size.ensures) in
     rw (
       ← c.as_slice.ensures,
-      variable_parts (around_view c.args.cx.now) c.args.place (means_view c.args.cx.now) (option_map init_view c.args.init.now) c.as_slice.result.now c.first-item.result
+      variable_parts (around_view c.args.cx.now) c.args.place (means_view c.args.cx.now)
+          (option_map init_view c.args.init.now) c.as_slice.result.now c.first-item.result
           c.in-len1-up.len_at_least c.first-item.is,
     )
     (rw (behind_first c.as_slice.result.now) at all)

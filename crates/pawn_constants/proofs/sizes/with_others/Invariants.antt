@@ -10,4 +10,6 @@ use Rattle.pawn_constants.proofs.sizes.with_others.Given as goal
 abbrev pub invariant-loop-i : goal.invariant-loop-i
 invariant-loop-i l =
     (verdicts : List (Verdict ℤ)) → AreNarrower (map size_view l.fn.first.items) verdicts
-    → AreNarrower (map size_view l.sizes.items) (verdicts ++ map (dim_size (around_view l.cx) l.place (means_view l.cx)) (map dim_view (take l.i l.dims)))
+    → AreNarrower (map size_view l.sizes.items)
+    (verdicts ++ map (dim_size (around_view l.cx) l.place (means_view l.cx))
+    (map dim_view (take l.i l.dims)))

@@ -5,7 +5,9 @@ use Rattle.pawn_marks.specs.MarkView.{marks_view}
 use Rattle.pawn_marks.proofs.expression.+expression.Given as goal
 
 abbrev pub invariant-args_marks-loop-i : goal.invariant-args_marks-loop-i
-invariant-args_marks-loop-i l = Passed arg_marks arg_view l.items (marks_view l.initial.out) l.i (marks_view l.out)
+invariant-args_marks-loop-i l =
+    Passed arg_marks arg_view l.items (marks_view l.initial.out) l.i (marks_view l.out)
 
 abbrev pub invariant-links_marks-loop-i : goal.invariant-links_marks-loop-i
-invariant-links_marks-loop-i l = Passed link_marks link_view l.items (marks_view l.initial.out) l.i (marks_view l.out)
+invariant-links_marks-loop-i l =
+    Passed link_marks link_view l.items (marks_view l.initial.out) l.i (marks_view l.out)

@@ -5,7 +5,9 @@ use Rattle.pawn_marks.specs.MarkView.{marks_view}
 use Rattle.pawn_marks.proofs.statement.+statement.Given as goal
 
 abbrev pub invariant-stmts_marks-loop-i : goal.invariant-stmts_marks-loop-i
-invariant-stmts_marks-loop-i l = Passed stmt_marks stmt_view l.items (marks_view l.initial.out) l.i (marks_view l.out)
+invariant-stmts_marks-loop-i l =
+    Passed stmt_marks stmt_view l.items (marks_view l.initial.out) l.i (marks_view l.out)
 
 abbrev pub invariant-cases_marks-loop-i : goal.invariant-cases_marks-loop-i
-invariant-cases_marks-loop-i l = Passed case_marks case_view l.items (marks_view l.initial.out) l.i (marks_view l.out)
+invariant-cases_marks-loop-i l =
+    Passed case_marks case_view l.items (marks_view l.initial.out) l.i (marks_view l.out)

@@ -6,4 +6,6 @@ pub loop-i-init : goal.loop-i-init
 loop-i-init c = items_begin _ _ _ _
 
 pub loop-i-preserved : goal.loop-i-preserved
-loop-i-preserved c = rw c.in_ok-item_marks.ensures (item_goes_on _ _ _ _ _ c.loop-i.invariant (omega arith) c.index-items-i.is)
+loop-i-preserved c =
+    rw c.in_ok-item_marks.ensures (item_goes_on _ _ _ _ _ c.loop-i.invariant
+    (omega arith) c.index-items-i.is)

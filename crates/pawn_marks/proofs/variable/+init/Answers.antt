@@ -7,8 +7,14 @@ use Rattle.pawn_marks.proofs.variable.+init.Goals as goal
 
 pub init_marks-returns-in-Braces : goal.init_marks-returns-in-Braces
 init_marks-returns-in-Braces t c =
-    rw (c.in-Braces.is, braces_marks c.in-Braces.field-0 c.in-Braces.list c.in-Braces.field-2 (marks_view c.args.out.now)) c.inits_marks.ensures
+    rw (
+      c.in-Braces.is,
+      braces_marks c.in-Braces.field-0 c.in-Braces.list c.in-Braces.field-2
+          (marks_view c.args.out.now),
+    ) c.inits_marks.ensures
 
 pub inits_marks-returns : goal.inits_marks-returns
 inits_marks-returns t c =
-    rw (← c.as_slice-items.ensures) (sym (inits_pass (map init_view c.as_slice-items.result.now) (marks_view c.args.out.now) ∙ pass_ends c.loop-i.invariant (omega arith)))
+    rw (← c.as_slice-items.ensures)
+    (sym (inits_pass (map init_view c.as_slice-items.result.now) (marks_view c.args.out.now)
+    ∙ pass_ends c.loop-i.invariant (omega arith)))

@@ -6,5 +6,7 @@ use Rattle.pawn_names.proofs.names.context.Goals as goal
 
 pub returns : goal.returns
 returns c =
-    once_is (tree_view c.args.tree.now) _ (c.in_ok-tags.ensures ∙ ap tags_of c.requires) c.in_ok-operators.ensures c.in_ok-names.ensures
+    once_is (tree_view c.args.tree.now) _
+    (c.in_ok-tags.ensures ∙ ap tags_of c.requires) c.in_ok-operators.ensures
+    c.in_ok-names.ensures
     c.new.ensures c.new-2.ensures

@@ -8,6 +8,9 @@ use Rattle.pawn_names.proofs.names.resolve.Goals as goal
 
 pub returns : goal.returns
 returns c =
-    resolved (tree_view c.args.tree.now) c.in_ok-context.context c.resolve_marks.result c.in_ok-context.ensures
-    (subst (λ m. AreResolved (around_of (tree_view c.args.tree.now)) m c.resolve_marks.result) (ap marks_view c.as_slice-2.ensures ∙ c.in_ok-marks.ensures)
-    (c.resolve_marks.ensures (around_of (tree_view c.args.tree.now)) c.in_ok-context.ensures.begins))
+    resolved (tree_view c.args.tree.now) c.in_ok-context.context c.resolve_marks.result
+    c.in_ok-context.ensures
+    (subst (λ m. AreResolved (around_of (tree_view c.args.tree.now)) m c.resolve_marks.result)
+    (ap marks_view c.as_slice-2.ensures ∙ c.in_ok-marks.ensures)
+    (c.resolve_marks.ensures (around_of (tree_view c.args.tree.now))
+    c.in_ok-context.ensures.begins))

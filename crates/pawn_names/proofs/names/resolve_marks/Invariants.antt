@@ -7,4 +7,5 @@ use Rattle.pawn_names.proofs.names.resolve_marks.Given as goal
 
 abbrev pub invariant-loop-i : goal.invariant-loop-i
 invariant-loop-i l =
-    (around : Around) → Begins around l.fn.context → IsBehind around (marks_view (take l.i l.marks)) l.resolver
+    (around : Around) → Begins around l.fn.context
+    → IsBehind around (marks_view (take l.i l.marks)) l.resolver

@@ -8,4 +8,5 @@ pub returns-clause-answer : goal.returns-clause-answer
 returns-clause-answer c = moved _ c.as_slice-list.ensures c.tree_of.ensures
 
 pub returns-clause-complete : goal.returns-clause-complete
-returns-clause-complete c = finds c.at_most_one_tree.ensures _ c.as_slice-list.ensures c.tree_of.ensures
+returns-clause-complete c =
+    finds c.at_most_one_tree.ensures _ c.as_slice-list.ensures c.tree_of.ensures

@@ -2,7 +2,8 @@ use Rattle.pawn_parse.proofs.TreeLaws.{parsed, refused_at}
 use Rattle.pawn_parse.proofs.parser.tree_of.Goals as goal
 
 pub returns-in-Ok : goal.returns-in-Ok
-returns-in-Ok c = parsed c.unit_is_spelled.ensures _ c.new.ensures c.in-Ok.ensures c.requires.shallow
+returns-in-Ok c =
+    parsed c.unit_is_spelled.ensures _ c.new.ensures c.in-Ok.ensures c.requires.shallow
 
 pub returns-in-Err-Syntax : goal.returns-in-Err-Syntax
 returns-in-Err-Syntax c =

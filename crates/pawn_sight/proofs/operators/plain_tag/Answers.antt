@@ -9,5 +9,6 @@ use Rattle.pawn_sight.proofs.operators.plain_tag.Goals as goal
 pub returns-then-not-is_empty : goal.returns-then-not-is_empty
 returns-then-not-is_empty c =
     sym (ap (λ (x : Param). plain_tag c.args.tags.now (param_view x)) c.in-Plain.is
-    ∙ has_dims c.args.tags.now c.in-Plain.constant c.in-Plain.reference c.in-Plain.given c.in-Plain.name c.in-Plain.dims c.in-Plain.value
+    ∙ has_dims c.args.tags.now c.in-Plain.constant c.in-Plain.reference c.in-Plain.given
+    c.in-Plain.name c.in-Plain.dims c.in-Plain.value
     (λ e. absurd (false≢true (c.if-not-is_empty.ensures.1 e))))

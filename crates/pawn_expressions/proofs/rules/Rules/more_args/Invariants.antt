@@ -4,5 +4,9 @@ use Rattle.pawn_grammar.specs.ReadExpressions.{more_args, expr}
 use Rattle.pawn_expressions.proofs.rules.Rules.more_args.Given as goal
 
 abbrev pub invariant-loop-turn : goal.invariant-loop-turn
-invariant-loop-turn g l = more_args l.self.parser.tokens.now (expr l.self.parser.tokens.now l.self.height) (suc (length l.self.parser.tokens.now)) l.fn.named (map arg_view l.fn.done.tree) l.fn.done.height l.fn.done.stop
-    ≡ more_args l.self.parser.tokens.now (expr l.self.parser.tokens.now l.self.height) (l._turn-end - l._turn) l.named (map arg_view l.items) l.height l.stop
+invariant-loop-turn g l =
+    more_args l.self.parser.tokens.now (expr l.self.parser.tokens.now l.self.height)
+    (suc (length l.self.parser.tokens.now)) l.fn.named
+    (map arg_view l.fn.done.tree) l.fn.done.height l.fn.done.stop
+    ≡ more_args l.self.parser.tokens.now (expr l.self.parser.tokens.now l.self.height)
+    (l._turn-end - l._turn) l.named (map arg_view l.items) l.height l.stop

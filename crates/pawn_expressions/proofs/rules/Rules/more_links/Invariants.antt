@@ -6,5 +6,11 @@ use Rattle.pawn_grammar.specs.ReadExpressions.{link, expr}
 use Rattle.pawn_expressions.proofs.rules.Rules.more_links.Given as goal
 
 abbrev pub invariant-loop-turn : goal.invariant-loop-turn
-invariant-loop-turn g l = many (compares l.self.parser.tokens.now) (link l.self.parser.tokens.now (expr l.self.parser.tokens.now l.self.height) l.tags) (suc (length l.self.parser.tokens.now)) (map link_view l.fn.done.tree) l.fn.done.height l.fn.done.stop
-    ≡ many (compares l.self.parser.tokens.now) (link l.self.parser.tokens.now (expr l.self.parser.tokens.now l.self.height) l.tags) (l._turn-end - l._turn) (map link_view l.links) l.height l.stop
+invariant-loop-turn g l =
+    many (compares l.self.parser.tokens.now)
+    (link l.self.parser.tokens.now (expr l.self.parser.tokens.now l.self.height) l.tags)
+    (suc (length l.self.parser.tokens.now))
+    (map link_view l.fn.done.tree) l.fn.done.height l.fn.done.stop
+    ≡ many (compares l.self.parser.tokens.now)
+    (link l.self.parser.tokens.now (expr l.self.parser.tokens.now l.self.height) l.tags)
+    (l._turn-end - l._turn) (map link_view l.links) l.height l.stop

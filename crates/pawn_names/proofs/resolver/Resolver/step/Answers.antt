@@ -10,13 +10,17 @@ returns-in_err-enter-in-Opens c = λ around marks h.
 
 pub returns-in_ok-enter-in-Opens : goal.returns-in_ok-enter-in-Opens
 returns-in_ok-enter-in-Opens c = λ around marks h.
-    rw c.in-Opens.is (opens_done around marks c.args.self.now _ h c.in_ok-enter-in-Opens.ensures refl refl)
+    rw c.in-Opens.is (opens_done around marks c.args.self.now _ h c.in_ok-enter-in-Opens.ensures
+    refl refl)
 
 pub returns-in-Closes : goal.returns-in-Closes
-returns-in-Closes c = λ around marks h. rw c.in-Closes.is (closes_done around marks c.args.self.now _ h c.leave.ensures refl refl)
+returns-in-Closes c =
+    λ around marks h. rw c.in-Closes.is
+    (closes_done around marks c.args.self.now _ h c.leave.ensures refl refl)
 
 pub returns-in-Mentions : goal.returns-in-Mentions
-returns-in-Mentions c = λ around marks h. rw c.in-Mentions.is (mentions_done around marks c.args.self.now h _)
+returns-in-Mentions c =
+    λ around marks h. rw c.in-Mentions.is (mentions_done around marks c.args.self.now h _)
 
 pub returns-in-Uses : goal.returns-in-Uses
 returns-in-Uses c = λ around marks h. rw c.in-Uses.is (c.uses.ensures around marks h)

@@ -10,23 +10,39 @@ use Rattle.pawn_parse.proofs.declarations.Declarations.decls.Goals as goal
 pub returns-then-not-are_left : goal.returns-then-not-are_left
 unfolding many unit_to
 returns-then-not-are_left c =
-    let e = one_more (λ n. many (are_left c.args.self.now.reader.parser.tokens.now) (decl c.args.self.now.reader.parser.tokens.now c.args.self.now.reader.height) n (map decl_view c.loop-turn.items) c.loop-turn.height c.loop-turn.stop) _ c.loop-turn._turn c.loop-turn-test.true c.loop-turn.invariant in
+    let e =
+    one_more (λ n. many (are_left c.args.self.now.reader.parser.tokens.now)
+    (decl c.args.self.now.reader.parser.tokens.now c.args.self.now.reader.height) n
+    (map decl_view c.loop-turn.items) c.loop-turn.height c.loop-turn.stop) _
+    c.loop-turn._turn c.loop-turn-test.true c.loop-turn.invariant in
     first_of (search rules, grind (arith, common_steps))
 
 pub returns-in_err-x : goal.returns-in_err-x
 unfolding many unit_to
 returns-in_err-x c =
-    let e = one_more (λ n. many (are_left c.args.self.now.reader.parser.tokens.now) (decl c.args.self.now.reader.parser.tokens.now c.args.self.now.reader.height) n (map decl_view c.loop-turn.items) c.loop-turn.height c.loop-turn.stop) _ c.loop-turn._turn c.loop-turn-test.true c.loop-turn.invariant in
+    let e =
+    one_more (λ n. many (are_left c.args.self.now.reader.parser.tokens.now)
+    (decl c.args.self.now.reader.parser.tokens.now c.args.self.now.reader.height) n
+    (map decl_view c.loop-turn.items) c.loop-turn.height c.loop-turn.stop) _
+    c.loop-turn._turn c.loop-turn-test.true c.loop-turn.invariant in
     first_of (search rules, grind (arith, common_steps))
 
 pub loop-turn-preserved : goal.loop-turn-preserved
 unfolding many unit_to
 loop-turn-preserved c =
-    let e = one_more (λ n. many (are_left c.args.self.now.reader.parser.tokens.now) (decl c.args.self.now.reader.parser.tokens.now c.args.self.now.reader.height) n (map decl_view c.loop-turn.items) c.loop-turn.height c.loop-turn.stop) _ c.loop-turn._turn c.loop-turn-test.true c.loop-turn.invariant in
+    let e =
+    one_more (λ n. many (are_left c.args.self.now.reader.parser.tokens.now)
+    (decl c.args.self.now.reader.parser.tokens.now c.args.self.now.reader.height) n
+    (map decl_view c.loop-turn.items) c.loop-turn.height c.loop-turn.stop) _
+    c.loop-turn._turn c.loop-turn-test.true c.loop-turn.invariant in
     first_of (search rules, grind (arith, common_steps))
 
 pub returns : goal.returns
 unfolding many unit_to
 returns c =
-    let e = no_more (λ n. many (are_left c.args.self.now.reader.parser.tokens.now) (decl c.args.self.now.reader.parser.tokens.now c.args.self.now.reader.height) n (map decl_view c.loop-turn.items) c.loop-turn.height c.loop-turn.stop) _ c.loop-turn._turn c.loop-turn-test.false c.loop-turn.invariant in
+    let e =
+    no_more (λ n. many (are_left c.args.self.now.reader.parser.tokens.now)
+    (decl c.args.self.now.reader.parser.tokens.now c.args.self.now.reader.height) n
+    (map decl_view c.loop-turn.items) c.loop-turn.height c.loop-turn.stop) _
+    c.loop-turn._turn c.loop-turn-test.false c.loop-turn.invariant in
     first_of (search rules, grind (arith, common_steps))

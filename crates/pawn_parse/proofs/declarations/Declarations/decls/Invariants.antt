@@ -7,5 +7,9 @@ use Rattle.pawn_parse.proofs.declarations.Declarations.decls.Given as goal
 
 abbrev pub invariant-loop-turn : goal.invariant-loop-turn
 invariant-loop-turn l =
-    many (are_left l.self.reader.parser.tokens.now) (decl l.self.reader.parser.tokens.now l.self.reader.height) (suc (length l.self.reader.parser.tokens.now)) [] 0 0
-    ≡ many (are_left l.self.reader.parser.tokens.now) (decl l.self.reader.parser.tokens.now l.self.reader.height) (l._turn-end - l._turn) (map decl_view l.items) l.height l.stop
+    many (are_left l.self.reader.parser.tokens.now)
+    (decl l.self.reader.parser.tokens.now l.self.reader.height)
+    (suc (length l.self.reader.parser.tokens.now)) [] 0 0
+    ≡ many (are_left l.self.reader.parser.tokens.now)
+    (decl l.self.reader.parser.tokens.now l.self.reader.height) (l._turn-end - l._turn)
+    (map decl_view l.items) l.height l.stop

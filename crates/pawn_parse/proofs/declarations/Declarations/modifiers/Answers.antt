@@ -7,19 +7,25 @@ use Rattle.pawn_parse.proofs.declarations.Declarations.modifiers.Goals as goal
 
 pub returns-in_err-next : goal.returns-in_err-next
 returns-in_err-next c =
-    let e = one_more (λ n. modifiers c.args.self.now.reader.parser.tokens.now n c.loop-turn.all c.loop-turn.stop) 4 c.loop-turn._turn c.loop-turn-test.true c.loop-turn.invariant in
+    let e =
+    one_more (λ n. modifiers c.args.self.now.reader.parser.tokens.now n c.loop-turn.all
+    c.loop-turn.stop) 4 c.loop-turn._turn c.loop-turn-test.true c.loop-turn.invariant in
     let w = words_fail _ _ _ (4 - (c.loop-turn._turn + 1)) _ e c.in_err-next.ensures in
     first_of (search rules, grind (arith, common_steps))
 
 pub returns-in_default : goal.returns-in_default
 returns-in_default c =
-    let e = one_more (λ n. modifiers c.args.self.now.reader.parser.tokens.now n c.loop-turn.all c.loop-turn.stop) 4 c.loop-turn._turn c.loop-turn-test.true c.loop-turn.invariant in
+    let e =
+    one_more (λ n. modifiers c.args.self.now.reader.parser.tokens.now n c.loop-turn.all
+    c.loop-turn.stop) 4 c.loop-turn._turn c.loop-turn-test.true c.loop-turn.invariant in
     let p = rw c.in_default.is at c.in_ok-next.ensures in
     words_end _ _ _ (4 - (c.loop-turn._turn + 1)) e p
 
 pub loop-turn-preserved : goal.loop-turn-preserved
 loop-turn-preserved c =
-    let e = one_more (λ n. modifiers c.args.self.now.reader.parser.tokens.now n c.loop-turn.all c.loop-turn.stop) 4 c.loop-turn._turn c.loop-turn-test.true c.loop-turn.invariant in
+    let e =
+    one_more (λ n. modifiers c.args.self.now.reader.parser.tokens.now n c.loop-turn.all
+    c.loop-turn.stop) 4 c.loop-turn._turn c.loop-turn-test.true c.loop-turn.invariant in
     let p = rw c.in-Some.is at c.in_ok-next.ensures in
     let next : c.loop-turn.stop + 1 ≡ suc c.loop-turn.stop = omega arith in
     rw next (words_more _ _ _ (4 - (c.loop-turn._turn + 1)) _ e p)
@@ -27,5 +33,8 @@ loop-turn-preserved c =
 pub returns : goal.returns
 unfolding modifiers
 returns c =
-    let e = no_more (λ n. modifiers c.args.self.now.reader.parser.tokens.now n c.loop-turn.all c.loop-turn.stop) 4 c.loop-turn._turn c.loop-turn-test.false c.loop-turn.invariant in
+    let e =
+    no_more (λ n. modifiers c.args.self.now.reader.parser.tokens.now n c.loop-turn.all
+    c.loop-turn.stop) 4 c.loop-turn._turn c.loop-turn-test.false
+    c.loop-turn.invariant in
     first_of (search rules, grind (arith, common_steps))

@@ -7,5 +7,10 @@ use Rattle.pawn_parse.proofs.declarations.Declarations.more_items.Given as goal
 
 abbrev pub invariant-loop-turn : goal.invariant-loop-turn
 invariant-loop-turn l =
-    many (further_item l.self.reader.parser.tokens.now) (behind (item l.self.reader.parser.tokens.now l.self.reader.height)) (suc (length l.self.reader.parser.tokens.now)) (item_view l.fn.first.tree ∷ []) l.fn.first.height l.fn.first.stop
-    ≡ many (further_item l.self.reader.parser.tokens.now) (behind (item l.self.reader.parser.tokens.now l.self.reader.height)) (l._turn-end - l._turn) (map item_view l.items) l.height l.stop
+    many (further_item l.self.reader.parser.tokens.now)
+    (behind (item l.self.reader.parser.tokens.now l.self.reader.height))
+    (suc (length l.self.reader.parser.tokens.now))
+    (item_view l.fn.first.tree ∷ []) l.fn.first.height l.fn.first.stop
+    ≡ many (further_item l.self.reader.parser.tokens.now)
+    (behind (item l.self.reader.parser.tokens.now l.self.reader.height)) (l._turn-end - l._turn)
+    (map item_view l.items) l.height l.stop

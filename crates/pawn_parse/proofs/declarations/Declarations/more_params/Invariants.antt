@@ -8,5 +8,10 @@ use Rattle.pawn_parse.proofs.declarations.Declarations.more_params.Given as goal
 
 abbrev pub invariant-loop-turn : goal.invariant-loop-turn
 invariant-loop-turn l =
-    many (sees l.self.reader.parser.tokens.now sign.Comma) (behind (param l.self.reader.parser.tokens.now l.self.reader.height l.native)) (suc (length l.self.reader.parser.tokens.now)) (param_view l.fn.first.tree ∷ []) l.fn.first.height l.fn.first.stop
-    ≡ many (sees l.self.reader.parser.tokens.now sign.Comma) (behind (param l.self.reader.parser.tokens.now l.self.reader.height l.native)) (l._turn-end - l._turn) (map param_view l.items) l.height l.stop
+    many (sees l.self.reader.parser.tokens.now sign.Comma)
+    (behind (param l.self.reader.parser.tokens.now l.self.reader.height l.native))
+    (suc (length l.self.reader.parser.tokens.now))
+    (param_view l.fn.first.tree ∷ []) l.fn.first.height l.fn.first.stop
+    ≡ many (sees l.self.reader.parser.tokens.now sign.Comma)
+    (behind (param l.self.reader.parser.tokens.now l.self.reader.height l.native))
+    (l._turn-end - l._turn) (map param_view l.items) l.height l.stop

@@ -7,5 +7,10 @@ use Rattle.pawn_parse.proofs.declarations.Declarations.more_state_names.Given as
 
 abbrev pub invariant-loop-turn : goal.invariant-loop-turn
 invariant-loop-turn l =
-    many (sees l.self.reader.parser.tokens.now sign.Comma) (behind (state_name l.self.reader.parser.tokens.now)) (suc (length l.self.reader.parser.tokens.now)) (l.fn.first.tree ∷ []) l.fn.first.height l.fn.first.stop
-    ≡ many (sees l.self.reader.parser.tokens.now sign.Comma) (behind (state_name l.self.reader.parser.tokens.now)) (l._turn-end - l._turn) l.items l.height l.stop
+    many (sees l.self.reader.parser.tokens.now sign.Comma)
+    (behind (state_name l.self.reader.parser.tokens.now))
+    (suc (length l.self.reader.parser.tokens.now))
+    (l.fn.first.tree ∷ []) l.fn.first.height l.fn.first.stop
+    ≡ many (sees l.self.reader.parser.tokens.now sign.Comma)
+    (behind (state_name l.self.reader.parser.tokens.now))
+    (l._turn-end - l._turn) l.items l.height l.stop

@@ -14,7 +14,8 @@ returns-in_err-seen c = λ tags before x whole named tag.
 pub returns : goal.returns
 returns c = λ tags before x whole named tag.
     let head : ℕ → FirstHead = λ (t : ℕ). record { token = c.args.name.now.at.token; tag = t } in
-    name_added x before c.args.name.now c.args.place (role_view c.args.role) named tags c.args.self.now whole
+    name_added x before c.args.name.now c.args.place
+    (role_view c.args.role) named tags c.args.self.now whole
     c.insert.new.self.entries c.as_slice.result c.in_ok-seen.seen (head c.args.tag)
     (c.in_ok-seen.ensures tags before x whole named) c.as_slice.ensures (ap head tag)
     (c.in-Ok.ensures.entries ∙ ap (λ t. inserted t c.as_slice.result c.with.result) c.self.view_is

@@ -9,5 +9,9 @@ use Rattle.pawn_statements.proofs.expressions.Reader.dims.Given as goal
 
 abbrev pub invariant-loop-turn : goal.invariant-loop-turn
 invariant-loop-turn l =
-    many (sees l.self.parser.tokens.now sign.OpenBracket) (dim l.self.parser.tokens.now (expr l.self.parser.tokens.now l.self.height)) (suc (length l.self.parser.tokens.now)) [] 0 l.start
-    ≡ many (sees l.self.parser.tokens.now sign.OpenBracket) (dim l.self.parser.tokens.now (expr l.self.parser.tokens.now l.self.height)) (l._turn-end - l._turn) (map dim_view l.items) l.height l.stop
+    many (sees l.self.parser.tokens.now sign.OpenBracket)
+    (dim l.self.parser.tokens.now (expr l.self.parser.tokens.now l.self.height))
+    (suc (length l.self.parser.tokens.now)) [] 0 l.start
+    ≡ many (sees l.self.parser.tokens.now sign.OpenBracket)
+    (dim l.self.parser.tokens.now (expr l.self.parser.tokens.now l.self.height))
+    (l._turn-end - l._turn) (map dim_view l.items) l.height l.stop

@@ -12,23 +12,43 @@ use Rattle.pawn_statements.proofs.expressions.Reader.more_ranges.Goals as goal
 pub returns-then-not-sees : goal.returns-then-not-sees
 unfolding many
 returns-then-not-sees c =
-    let e = one_more (λ n. many (sees c.args.self.now.parser.tokens.now sign.Comma) (behind (range c.args.self.now.parser.tokens.now (expr c.args.self.now.parser.tokens.now c.args.self.now.height))) n (map range_view c.loop-turn.items) c.loop-turn.height c.loop-turn.stop) _ c.loop-turn._turn c.loop-turn-test.true c.loop-turn.invariant in
+    let e =
+    one_more (λ n. many (sees c.args.self.now.parser.tokens.now sign.Comma)
+    (behind (range c.args.self.now.parser.tokens.now
+    (expr c.args.self.now.parser.tokens.now c.args.self.now.height))) n
+    (map range_view c.loop-turn.items) c.loop-turn.height c.loop-turn.stop) _
+    c.loop-turn._turn c.loop-turn-test.true c.loop-turn.invariant in
     first_of (search rules, grind (arith, common_steps))
 
 pub returns-in_err-x : goal.returns-in_err-x
 unfolding many
 returns-in_err-x c =
-    let e = one_more (λ n. many (sees c.args.self.now.parser.tokens.now sign.Comma) (behind (range c.args.self.now.parser.tokens.now (expr c.args.self.now.parser.tokens.now c.args.self.now.height))) n (map range_view c.loop-turn.items) c.loop-turn.height c.loop-turn.stop) _ c.loop-turn._turn c.loop-turn-test.true c.loop-turn.invariant in
+    let e =
+    one_more (λ n. many (sees c.args.self.now.parser.tokens.now sign.Comma)
+    (behind (range c.args.self.now.parser.tokens.now
+    (expr c.args.self.now.parser.tokens.now c.args.self.now.height))) n
+    (map range_view c.loop-turn.items) c.loop-turn.height c.loop-turn.stop) _
+    c.loop-turn._turn c.loop-turn-test.true c.loop-turn.invariant in
     first_of (search rules, grind (arith, common_steps))
 
 pub loop-turn-preserved : goal.loop-turn-preserved
 unfolding many
 loop-turn-preserved c =
-    let e = one_more (λ n. many (sees c.args.self.now.parser.tokens.now sign.Comma) (behind (range c.args.self.now.parser.tokens.now (expr c.args.self.now.parser.tokens.now c.args.self.now.height))) n (map range_view c.loop-turn.items) c.loop-turn.height c.loop-turn.stop) _ c.loop-turn._turn c.loop-turn-test.true c.loop-turn.invariant in
+    let e =
+    one_more (λ n. many (sees c.args.self.now.parser.tokens.now sign.Comma)
+    (behind (range c.args.self.now.parser.tokens.now
+    (expr c.args.self.now.parser.tokens.now c.args.self.now.height))) n
+    (map range_view c.loop-turn.items) c.loop-turn.height c.loop-turn.stop) _
+    c.loop-turn._turn c.loop-turn-test.true c.loop-turn.invariant in
     first_of (search rules, grind (arith, common_steps))
 
 pub returns : goal.returns
 unfolding many
 returns c =
-    let e = no_more (λ n. many (sees c.args.self.now.parser.tokens.now sign.Comma) (behind (range c.args.self.now.parser.tokens.now (expr c.args.self.now.parser.tokens.now c.args.self.now.height))) n (map range_view c.loop-turn.items) c.loop-turn.height c.loop-turn.stop) _ c.loop-turn._turn c.loop-turn-test.false c.loop-turn.invariant in
+    let e =
+    no_more (λ n. many (sees c.args.self.now.parser.tokens.now sign.Comma)
+    (behind (range c.args.self.now.parser.tokens.now
+    (expr c.args.self.now.parser.tokens.now c.args.self.now.height))) n
+    (map range_view c.loop-turn.items) c.loop-turn.height c.loop-turn.stop) _
+    c.loop-turn._turn c.loop-turn-test.false c.loop-turn.invariant in
     first_of (search rules, grind (arith, common_steps))

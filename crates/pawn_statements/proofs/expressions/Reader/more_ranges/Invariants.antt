@@ -9,5 +9,10 @@ use Rattle.pawn_statements.proofs.expressions.Reader.more_ranges.Given as goal
 
 abbrev pub invariant-loop-turn : goal.invariant-loop-turn
 invariant-loop-turn l =
-    many (sees l.self.parser.tokens.now sign.Comma) (behind (range l.self.parser.tokens.now (expr l.self.parser.tokens.now l.self.height))) (suc (length l.self.parser.tokens.now)) (range_view l.fn.first.tree ∷ []) l.fn.first.height l.fn.first.stop
-    ≡ many (sees l.self.parser.tokens.now sign.Comma) (behind (range l.self.parser.tokens.now (expr l.self.parser.tokens.now l.self.height))) (l._turn-end - l._turn) (map range_view l.items) l.height l.stop
+    many (sees l.self.parser.tokens.now sign.Comma)
+    (behind (range l.self.parser.tokens.now (expr l.self.parser.tokens.now l.self.height)))
+    (suc (length l.self.parser.tokens.now))
+    (range_view l.fn.first.tree ∷ []) l.fn.first.height l.fn.first.stop
+    ≡ many (sees l.self.parser.tokens.now sign.Comma)
+    (behind (range l.self.parser.tokens.now (expr l.self.parser.tokens.now l.self.height)))
+    (l._turn-end - l._turn) (map range_view l.items) l.height l.stop

@@ -7,5 +7,10 @@ use Rattle.pawn_statements.proofs.inits.Inits.more_inits.Given as goal
 
 abbrev pub invariant-loop-turn : goal.invariant-loop-turn
 invariant-loop-turn g l =
-    many (further_init l.self.parser.tokens.now) (behind (init l.self.parser.tokens.now l.self.height)) (suc (length l.self.parser.tokens.now)) (init_view l.fn.first.tree ∷ []) l.fn.first.height l.fn.first.stop
-    ≡ many (further_init l.self.parser.tokens.now) (behind (init l.self.parser.tokens.now l.self.height)) (l._turn-end - l._turn) (map init_view l.items) l.height l.stop
+    many (further_init l.self.parser.tokens.now)
+    (behind (init l.self.parser.tokens.now l.self.height))
+    (suc (length l.self.parser.tokens.now))
+    (init_view l.fn.first.tree ∷ []) l.fn.first.height l.fn.first.stop
+    ≡ many (further_init l.self.parser.tokens.now)
+    (behind (init l.self.parser.tokens.now l.self.height)) (l._turn-end - l._turn)
+    (map init_view l.items) l.height l.stop

@@ -8,5 +8,11 @@ use Rattle.pawn_statements.proofs.rules.Statements.more_cases.Given as goal
 
 abbrev pub invariant-loop-turn : goal.invariant-loop-turn
 invariant-loop-turn g l =
-    many (sees_key l.self.reader.parser.tokens.now key.Case) (case_of l.self.reader.parser.tokens.now (statement l.self.reader.parser.tokens.now l.self.reader.height) l.self.reader.height) (suc (length l.self.reader.parser.tokens.now)) [] 0 l.start
-    ≡ many (sees_key l.self.reader.parser.tokens.now key.Case) (case_of l.self.reader.parser.tokens.now (statement l.self.reader.parser.tokens.now l.self.reader.height) l.self.reader.height) (l._turn-end - l._turn) (map case_view l.items) l.height l.stop
+    many (sees_key l.self.reader.parser.tokens.now key.Case)
+    (case_of l.self.reader.parser.tokens.now
+    (statement l.self.reader.parser.tokens.now l.self.reader.height) l.self.reader.height)
+    (suc (length l.self.reader.parser.tokens.now)) [] 0 l.start
+    ≡ many (sees_key l.self.reader.parser.tokens.now key.Case)
+    (case_of l.self.reader.parser.tokens.now
+    (statement l.self.reader.parser.tokens.now l.self.reader.height) l.self.reader.height)
+    (l._turn-end - l._turn) (map case_view l.items) l.height l.stop

@@ -7,5 +7,9 @@ use Rattle.pawn_statements.proofs.rules.Statements.more_stmts.Given as goal
 
 abbrev pub invariant-loop-turn : goal.invariant-loop-turn
 invariant-loop-turn g l =
-    many (goes_on l.self.reader.parser.tokens.now) (statement l.self.reader.parser.tokens.now l.self.reader.height true) (suc (length l.self.reader.parser.tokens.now)) [] 0 l.start
-    ≡ many (goes_on l.self.reader.parser.tokens.now) (statement l.self.reader.parser.tokens.now l.self.reader.height true) (l._turn-end - l._turn) (map stmt_view l.items) l.height l.stop
+    many (goes_on l.self.reader.parser.tokens.now)
+    (statement l.self.reader.parser.tokens.now l.self.reader.height true)
+    (suc (length l.self.reader.parser.tokens.now)) [] 0 l.start
+    ≡ many (goes_on l.self.reader.parser.tokens.now)
+    (statement l.self.reader.parser.tokens.now l.self.reader.height true)
+    (l._turn-end - l._turn) (map stmt_view l.items) l.height l.stop
