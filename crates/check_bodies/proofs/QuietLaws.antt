@@ -1,18 +1,15 @@
--- A part that was judged has no fault: so the node falls where one of its parts does.
-use Rattle.std.proofs.Common.{◌≡◌, List, [], ◌∷◌, ◌++◌, refl, sym, ap, ◌∙◌, subst}
+-- A part that was judged has no fault: so the node falls where one of its parts does, and else is
+-- what its rule makes of them.
+use Rattle.std.proofs.Common.{◌≡◌, [], ◌∷◌, refl, sym, subst}
 use Rattle.std.specs.Prelude.{Option, None, Some, Result, Ok, Err, IfOk}
 use Rattle.pawn_verdict.specs.declared.fault.CheckFault.{CheckFault}
-use Rattle.part_verdict.specs.declared.fault.PartFault.{PartFault}
-use Rattle.part_verdict.specs.declared.fault.PartFault.TheVariants as part
-use Rattle.part_verdict.specs.PartAnswers.{Judged}
-use Rattle.pawn_scopes.specs.Verdict.{Verdict, Stands, Breaks, faults_of, after, both}
-use Rattle.pawn_bodies.specs.Stood.{Stood}
-use Rattle.check_statements.specs.declared.stood.Stood as held
-use Rattle.check_statements.specs.StoodView.{stood_view}
+use Rattle.pawn_verdict.specs.Answers.{Fails}
+use Rattle.pawn_scopes.specs.Verdict.{Verdict, Stands, Breaks, faults_of, both}
 use Rattle.pawn_typing.specs.Rule.{pair, unless_faults}
-use Rattle.check_locals.specs.Tells.{told, Tells, told_part}
+use Rattle.check_locals.specs.Tells.{told, Tells}
 
-pub tells_by : {A B : Type 0} (view : B → A) (v w : Verdict A) (r : Result (Option B) CheckFault) → v ≡ w → Tells view w r → Tells view v r
+pub tells_by : {A B : Type 0} (view : B → A) (v w : Verdict A) (r : Result (Option B) CheckFault)
+    → v ≡ w → Tells view w r → Tells view v r
 tells_by view v w r e h = subst (λ it. Tells view it r) (sym e) h
 
 -- what holds whatever is answered
@@ -20,26 +17,16 @@ pub whatever : {A B : Type 0} (r : Result A B) (holds : Type 0) → holds → If
 whatever (Ok x) holds h = h
 whatever (Err x) holds h = tt
 
--- what is seen of an answer may be seen as what equals it
-pub made_as : {E : Type 0} (r : Result held.Stood E) (a b : Stood) → IfOk r (λ it. stood_view it ≡ a) → a ≡ b → IfOk r (λ it. stood_view it ≡ b)
-made_as (Ok x) a b h e = h ∙ e
-made_as (Err x) a b h e = tt
-
--- what holds of a part that was judged, as it is told
-pub judged_told : {B : Type 0} (r : Result B PartFault) (holds : Type 0) → Judged r holds → IfOk (told_part r) (λ it. holds)
-judged_told (Ok x) holds h = h
-judged_told (Err part.Fallen) holds h = h
-judged_told (Err (part.Source kind place)) holds h = tt
-judged_told (Err part.Memory) holds h = tt
-
 -- ---- verdicts without a fault
 
-no_faults : {A B : Type 0} (v : Verdict A) (node : Verdict B) → faults_of v ≡ [] → unless_faults v node ≡ node
+no_faults : {A B : Type 0} (v : Verdict A) (node : Verdict B) → faults_of v ≡ []
+    → unless_faults v node ≡ node
 no_faults (Stands x) node h = refl
 no_faults (Breaks []) node h = refl
 no_faults (Breaks (f ∷ more)) node h = cc
 
-pair_quiet : {A B : Type 0} (v : Verdict A) (w : Verdict B) → faults_of v ≡ [] → faults_of w ≡ [] → faults_of (pair v w) ≡ []
+pair_quiet : {A B : Type 0} (v : Verdict A) (w : Verdict B) → faults_of v ≡ [] → faults_of w ≡ []
+    → faults_of (pair v w) ≡ []
 pair_quiet (Stands x) (Stands y) h k = refl
 pair_quiet (Stands x) (Breaks faults) h k = k
 pair_quiet (Breaks faults) w h k = rw (h, k) refl
@@ -54,83 +41,103 @@ pub for_judged : {A B C D R X Y Z W : Type 0} (a : X → A) (b : Y → B) (c : Z
     → unless_faults (pair (told a x) (pair (pair (told b y) (told c z)) (told d w))) node ≡ node
 for_judged a b c d x y z w node =
     no_faults _ node (pair_quiet (told a x) _ (told_quiet a x)
-    (pair_quiet (pair (told b y) (told c z)) (told d w) (pair_quiet (told b y) (told c z) (told_quiet b y) (told_quiet c z)) (told_quiet d w)))
+    (pair_quiet (pair (told b y) (told c z)) (told d w)
+    (pair_quiet (told b y) (told c z) (told_quiet b y) (told_quiet c z)) (told_quiet d w)))
 
--- ---- a node falls where one of its parts does
+-- ---- a node of two, three or four parts
 
-pub first_of_two : {A B X Y R : Type 0} (a : X → A) (b : Y → B) (y : Option Y) (rule : A → B → Verdict R)
-    → both (told a None) (told b y) rule ≡ Breaks []
-first_of_two a b None rule = refl
-first_of_two a b (Some y) rule = refl
+told_none : {A X : Type 0} (view : X → A) (x : Option X) → x ≡ None → told view x ≡ Breaks []
+told_none view x h = rw h refl
 
-pub second_of_two : {A B X Y R : Type 0} (a : X → A) (b : Y → B) (x : Option X) (rule : A → B → Verdict R)
-    → both (told a x) (told b None) rule ≡ Breaks []
-second_of_two a b None rule = refl
-second_of_two a b (Some x) rule = refl
+falls_first : {A B C : Type 0} (v : Verdict A) (w : Verdict B) (rule : A → B → Verdict C)
+    → v ≡ Breaks [] → faults_of w ≡ [] → both v w rule ≡ Breaks []
+falls_first v w rule h k = rw (h, k) refl
 
-pub first_of_three : {A B C X Y Z R : Type 0} (a : X → A) (b : Y → B) (c : Z → C) (y : Option Y) (z : Option Z) (rule : A → B × C → Verdict R)
-    → both (told a None) (pair (told b y) (told c z)) rule ≡ Breaks []
-first_of_three a b c None None rule = refl
-first_of_three a b c None (Some z) rule = refl
-first_of_three a b c (Some y) None rule = refl
-first_of_three a b c (Some y) (Some z) rule = refl
+falls_second : {A B C : Type 0} (v : Verdict A) (w : Verdict B) (rule : A → B → Verdict C)
+    → faults_of v ≡ [] → w ≡ Breaks [] → both v w rule ≡ Breaks []
+falls_second (Stands x) w rule h k = rw k refl
+falls_second (Breaks faults) w rule h k = rw (h, k) refl
 
-pub second_of_three : {A B C X Y Z R : Type 0} (a : X → A) (b : Y → B) (c : Z → C) (x : Option X) (z : Option Z) (rule : A → B × C → Verdict R)
-    → both (told a x) (pair (told b None) (told c z)) rule ≡ Breaks []
-second_of_three a b c None None rule = refl
-second_of_three a b c None (Some z) rule = refl
-second_of_three a b c (Some x) None rule = refl
-second_of_three a b c (Some x) (Some z) rule = refl
+pair_first : {A B : Type 0} (v : Verdict A) (w : Verdict B) → v ≡ Breaks [] → faults_of w ≡ []
+    → pair v w ≡ Breaks []
+pair_first v w h k = falls_first v w (λ x y. Stands (x, y)) h k
 
-pub third_of_three : {A B C X Y Z R : Type 0} (a : X → A) (b : Y → B) (c : Z → C) (x : Option X) (y : Option Y) (rule : A → B × C → Verdict R)
-    → both (told a x) (pair (told b y) (told c None)) rule ≡ Breaks []
-third_of_three a b c None None rule = refl
-third_of_three a b c None (Some y) rule = refl
-third_of_three a b c (Some x) None rule = refl
-third_of_three a b c (Some x) (Some y) rule = refl
+pair_second : {A B : Type 0} (v : Verdict A) (w : Verdict B) → faults_of v ≡ [] → w ≡ Breaks []
+    → pair v w ≡ Breaks []
+pair_second v w h k = falls_second v w (λ x y. Stands (x, y)) h k
 
-pub first_of_four : {A B C D X Y Z W R : Type 0} (a : X → A) (b : Y → B) (c : Z → C) (d : W → D) (y : Option Y) (z : Option Z) (w : Option W) (rule : A → (B × C) × D → Verdict R)
-    → both (told a None) (pair (pair (told b y) (told c z)) (told d w)) rule ≡ Breaks []
-first_of_four a b c d None None None rule = refl
-first_of_four a b c d None None (Some w) rule = refl
-first_of_four a b c d None (Some z) None rule = refl
-first_of_four a b c d None (Some z) (Some w) rule = refl
-first_of_four a b c d (Some y) None None rule = refl
-first_of_four a b c d (Some y) None (Some w) rule = refl
-first_of_four a b c d (Some y) (Some z) None rule = refl
-first_of_four a b c d (Some y) (Some z) (Some w) rule = refl
+-- each part falls, or all of them stand
+module _ {A B X Y R : Type 0} (a : X → A) (b : Y → B) (x : Option X) (y : Option Y)
+    (rule : A → B → Verdict R) where
+  pub first_of_two : x ≡ None → both (told a x) (told b y) rule ≡ Breaks []
+  first_of_two h = falls_first (told a x) (told b y) rule (told_none a x h) (told_quiet b y)
 
-pub second_of_four : {A B C D X Y Z W R : Type 0} (a : X → A) (b : Y → B) (c : Z → C) (d : W → D) (x : Option X) (z : Option Z) (w : Option W) (rule : A → (B × C) × D → Verdict R)
-    → both (told a x) (pair (pair (told b None) (told c z)) (told d w)) rule ≡ Breaks []
-second_of_four a b c d None None None rule = refl
-second_of_four a b c d None None (Some w) rule = refl
-second_of_four a b c d None (Some z) None rule = refl
-second_of_four a b c d None (Some z) (Some w) rule = refl
-second_of_four a b c d (Some x) None None rule = refl
-second_of_four a b c d (Some x) None (Some w) rule = refl
-second_of_four a b c d (Some x) (Some z) None rule = refl
-second_of_four a b c d (Some x) (Some z) (Some w) rule = refl
+  pub second_of_two : y ≡ None → both (told a x) (told b y) rule ≡ Breaks []
+  second_of_two h = falls_second (told a x) (told b y) rule (told_quiet a x) (told_none b y h)
 
-pub third_of_four : {A B C D X Y Z W R : Type 0} (a : X → A) (b : Y → B) (c : Z → C) (d : W → D) (x : Option X) (y : Option Y) (w : Option W) (rule : A → (B × C) × D → Verdict R)
-    → both (told a x) (pair (pair (told b y) (told c None)) (told d w)) rule ≡ Breaks []
-third_of_four a b c d None None None rule = refl
-third_of_four a b c d None None (Some w) rule = refl
-third_of_four a b c d None (Some y) None rule = refl
-third_of_four a b c d None (Some y) (Some w) rule = refl
-third_of_four a b c d (Some x) None None rule = refl
-third_of_four a b c d (Some x) None (Some w) rule = refl
-third_of_four a b c d (Some x) (Some y) None rule = refl
-third_of_four a b c d (Some x) (Some y) (Some w) rule = refl
+  pub all_of_two : (u : X) (v : Y) → x ≡ Some u → y ≡ Some v
+      → both (told a x) (told b y) rule ≡ rule (a u) (b v)
+  all_of_two u v h k = rw (h, k) refl
 
-pub fourth_of_four : {A B C D X Y Z W R : Type 0} (a : X → A) (b : Y → B) (c : Z → C) (d : W → D) (x : Option X) (y : Option Y) (z : Option Z) (rule : A → (B × C) × D → Verdict R)
-    → both (told a x) (pair (pair (told b y) (told c z)) (told d None)) rule ≡ Breaks []
-fourth_of_four a b c d None None None rule = refl
-fourth_of_four a b c d None None (Some z) rule = refl
-fourth_of_four a b c d None (Some y) None rule = refl
-fourth_of_four a b c d None (Some y) (Some z) rule = refl
-fourth_of_four a b c d (Some x) None None rule = refl
-fourth_of_four a b c d (Some x) None (Some z) rule = refl
-fourth_of_four a b c d (Some x) (Some y) None rule = refl
-fourth_of_four a b c d (Some x) (Some y) (Some z) rule = refl
+module _ {A B C X Y Z R : Type 0} (a : X → A) (b : Y → B) (c : Z → C) (x : Option X) (y : Option Y)
+    (z : Option Z) (rule : A → B × C → Verdict R) where
+  pub first_of_three : x ≡ None → both (told a x) (pair (told b y) (told c z)) rule ≡ Breaks []
+  first_of_three h =
+      falls_first (told a x) (pair (told b y) (told c z)) rule (told_none a x h)
+      (pair_quiet (told b y) (told c z) (told_quiet b y) (told_quiet c z))
 
-pub ruleset quiet = (first_of_two, second_of_two, first_of_three, second_of_three, third_of_three, first_of_four, second_of_four, third_of_four, fourth_of_four)
+  pub second_of_three : y ≡ None → both (told a x) (pair (told b y) (told c z)) rule ≡ Breaks []
+  second_of_three h =
+      falls_second (told a x) (pair (told b y) (told c z)) rule (told_quiet a x)
+      (pair_first (told b y) (told c z) (told_none b y h) (told_quiet c z))
+
+  pub third_of_three : z ≡ None → both (told a x) (pair (told b y) (told c z)) rule ≡ Breaks []
+  third_of_three h =
+      falls_second (told a x) (pair (told b y) (told c z)) rule (told_quiet a x)
+      (pair_second (told b y) (told c z) (told_quiet b y) (told_none c z h))
+
+  pub all_of_three : (u : X) (v : Y) (w : Z) → x ≡ Some u → y ≡ Some v → z ≡ Some w
+      → both (told a x) (pair (told b y) (told c z)) rule ≡ rule (a u) (b v, c w)
+  all_of_three u v w h k l = rw (h, k, l) refl
+
+module _ {A B C D X Y Z W R : Type 0} (a : X → A) (b : Y → B) (c : Z → C) (d : W → D)
+    (x : Option X) (y : Option Y) (z : Option Z) (w : Option W)
+    (rule : A → (B × C) × D → Verdict R) where
+  pub first_of_four : x ≡ None → both (told a x) (pair (pair (told b y) (told c z)) (told d w)) rule
+      ≡ Breaks []
+  first_of_four h =
+      falls_first (told a x) (pair (pair (told b y) (told c z)) (told d w)) rule (told_none a x h)
+      (pair_quiet (pair (told b y) (told c z)) (told d w)
+      (pair_quiet (told b y) (told c z) (told_quiet b y) (told_quiet c z)) (told_quiet d w))
+
+  pub second_of_four : y ≡ None → both (told a x)
+      (pair (pair (told b y) (told c z)) (told d w)) rule ≡ Breaks []
+  second_of_four h =
+      falls_second (told a x) (pair (pair (told b y) (told c z)) (told d w)) rule (told_quiet a x)
+      (pair_first (pair (told b y) (told c z)) (told d w)
+      (pair_first (told b y) (told c z) (told_none b y h) (told_quiet c z)) (told_quiet d w))
+
+  pub third_of_four : z ≡ None → both (told a x) (pair (pair (told b y) (told c z)) (told d w)) rule
+      ≡ Breaks []
+  third_of_four h =
+      falls_second (told a x) (pair (pair (told b y) (told c z)) (told d w)) rule (told_quiet a x)
+      (pair_first (pair (told b y) (told c z)) (told d w)
+      (pair_second (told b y) (told c z) (told_quiet b y) (told_none c z h)) (told_quiet d w))
+
+  pub fourth_of_four : w ≡ None → both (told a x)
+      (pair (pair (told b y) (told c z)) (told d w)) rule ≡ Breaks []
+  fourth_of_four h =
+      falls_second (told a x) (pair (pair (told b y) (told c z)) (told d w)) rule (told_quiet a x)
+      (pair_second (pair (told b y) (told c z)) (told d w)
+      (pair_quiet (told b y) (told c z) (told_quiet b y) (told_quiet c z)) (told_none d w h))
+
+  pub all_of_four : (s : X) (t : Y) (u : Z) (v : W) → x ≡ Some s → y ≡ Some t → z ≡ Some u
+      → w ≡ Some v
+      → both (told a x) (pair (pair (told b y) (told c z)) (told d w)) rule
+      ≡ rule (a s) ((b t, c u), d v)
+  all_of_four s t u v h k l m = rw (h, k, l, m) refl
+
+-- a fault of what the parts make
+pub fails_by : {A : Type 0} (v w : Verdict A) (fault : CheckFault) → v ≡ w
+    → Fails (faults_of w) fault → Fails (faults_of v) fault
+fails_by v w fault e h = subst (λ it. Fails (faults_of it) fault) (sym e) h

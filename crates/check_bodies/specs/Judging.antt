@@ -1,7 +1,6 @@
 -- What the rules of statements say where a body is judged, by what code holds of that.
 use Rattle.std.specs.Prelude.{ℕ, Bool, Option, List, length}
 use Rattle.pawn_tree.specs.declared.name.At.{At}
-use Rattle.pawn_tree.specs.Expressions.{Expr}
 use Rattle.pawn_tree.specs.Statements as tree
 use Rattle.pawn_scopes.specs.Verdict.{Verdict}
 use Rattle.pawn_typing.specs.Typed.{Typed}
@@ -10,20 +9,11 @@ use Rattle.pawn_bodies.specs.Points as points
 use Rattle.pawn_bodies.specs.Stood.{Stood}
 use Rattle.pawn_bodies.specs.Statements as rules
 use Rattle.pawn_bodies.specs.Statements.{Used, Maybe, Other, CasePart}
-use Rattle.pawn_values.specs.Parts.{Judged}
 use Rattle.check_types.specs.ContextView.{around_view}
 use Rattle.check_automata.specs.AutomataView.{automata_view}
-use Rattle.check_bodies.specs.declared.setting.Setting.{Setting}
+use Rattle.check_simple.specs.declared.setting.Setting.{Setting}
 
 module _ (it : Setting) where
-  -- a part of a statement
-  abbrev pub part_in : Point → Expr → Verdict Typed
-  part_in = rules.part (around_view it.cx.now) (automata_view it.automata.now) it.result
-
-  -- a part that may be absent
-  abbrev pub maybe_part_in : Point → Option Expr → Verdict (Option Typed)
-  maybe_part_in = rules.maybe_part (around_view it.cx.now) (automata_view it.automata.now) it.result
-
   -- one cell that a node wants
   abbrev pub use_in : At → Typed → Verdict Used
   use_in = rules.use_at (around_view it.cx.now) (automata_view it.automata.now) it.result
@@ -31,31 +21,6 @@ module _ (it : Setting) where
   -- one cell, where there is a part
   abbrev pub maybe_use_in : At → Option Typed → Verdict Maybe
   maybe_use_in = rules.maybe_use (around_view it.cx.now) (automata_view it.automata.now) it.result
-
-  -- a part that gives one cell
-  abbrev pub value_in : Point → At → Expr → Verdict Used
-  value_in = rules.value (around_view it.cx.now) (automata_view it.automata.now) it.result
-
-  -- 0 where none stands
-  abbrev pub value_or_zero_in : Point → At → Option Expr → Verdict Used
-  value_or_zero_in =
-      rules.value_or_zero (around_view it.cx.now) (automata_view it.automata.now) it.result
-
-  -- a value that may be absent
-  abbrev pub perhaps_in : Point → At → Option Expr → Verdict Maybe
-  perhaps_in = rules.perhaps (around_view it.cx.now) (automata_view it.automata.now) it.result
-
-  -- a value that is returned
-  abbrev pub returned_in : Point → At → Option Expr → Verdict Stood
-  returned_in = rules.returned (around_view it.cx.now) (automata_view it.automata.now) it.result
-
-  -- the expressions in what a `for` does first
-  abbrev pub first_part_in : Point → At → tree.First → Verdict Judged
-  first_part_in = rules.first_part (around_view it.cx.now) (automata_view it.automata.now) it.result
-
-  -- what a `for` does first
-  abbrev pub first_done_in : Point → At → tree.First → Verdict Stood
-  first_done_in = rules.first_done (around_view it.cx.now) (automata_view it.automata.now) it.result
 
   -- a `for` by its parts
   abbrev pub for_by_in : At → Stood → Option Typed → Option Typed → Stood → Verdict Stood
@@ -84,10 +49,6 @@ module _ (it : Setting) where
   -- behind a statement of a list
   abbrev pub behind_in : Point → tree.Stmt → Point
   behind_in = points.behind (around_view it.cx.now)
-
-  -- behind what a `for` does first
-  abbrev pub behind_first_in : Point → At → tree.First → Point
-  behind_first_in = points.behind_first (around_view it.cx.now)
 
 -- behind the statements of a block
 abbrev pub behind_all : (Point → tree.Stmt → Point) → Point → tree.Stmts → Point

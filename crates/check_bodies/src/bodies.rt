@@ -12,12 +12,13 @@ ghost use Rattle.check_switches.specs.CaseView.{part_view, parts_view};
 ghost use Rattle.check_bodies.specs.Judging.{behind_all, behind_in, block_in, cases_in};
 ghost use Rattle.check_bodies.specs.Judging.{one_case_in, otherwise_in, stmt_in};
 
-use super::firsts::{close, declared_in, empty, first_done, go_back, judge_first, jump};
 use super::loops::{block_told, do_while_told, for_told, if_told, other_of, while_told};
-use super::setting::Setting;
-use super::simple::{assert_stmt, do_stmt, exit_stmt, return_stmt, sleep_stmt, state_stmt};
-use super::values::{maybe_part, part};
+use super::places::{close, declared_in, go_back};
 use check_locals::{Point, local_constant, local_vars, then_maybe};
+use check_simple::{
+    Setting, assert_stmt, do_stmt, empty, exit_stmt, first_done, judge_first, jump, maybe_part,
+    part, return_stmt, sleep_stmt, state_stmt,
+};
 use check_statements::Stood;
 use check_switches::{CasePart, CaseParts, all_ends, case_told, no_case, switch_told, with_case};
 use pawn_base::List;

@@ -2,13 +2,9 @@
 #![tactic(auto)]
 
 mod bodies;
-mod firsts;
 mod loops;
-mod setting;
-mod simple;
-mod states;
-mod values;
+mod places;
 
 pub use bodies::stmt;
 pub use check_locals::{CheckFault, Point};
-pub use setting::Setting;
+pub use check_simple::Setting;

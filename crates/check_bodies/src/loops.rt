@@ -10,7 +10,7 @@ ghost use Rattle.check_locals.specs.Tells.{Tells, told};
 ghost use Rattle.check_statements.specs.StoodView.{maybe_view, other_view, stood_view};
 ghost use Rattle.check_bodies.specs.Judging.{for_by_in, maybe_use_in, use_in};
 
-use super::setting::Setting;
+use check_simple::Setting;
 use check_statements::{
     Maybe, Stood, block_rule, do_while_rule, for_rule, if_rule, use_at, while_rule,
 };
@@ -42,8 +42,24 @@ pub fn other_of(it: Option<Stood>) -> Option<Option<Stood>>
     }
 }
 
+/// An `if` by its parts.
+#[tactic(auto, using(pawn_verdict::proofs::VerdictLaws::verdicts))]
+fn if_by(
+    alloc: Global,
+    setting: &Setting,
+    at: At,
+    c: Typed,
+    s: Stood,
+    other: Option<Stood>,
+) -> Result<Stood, CheckFault>
+    ensures { Answers stood_view (after (use_in setting.now at (typed_view c))
+        (λ c. Stands (spec.if_rule c (stood_view s) (other_view other)))) result }
+{
+    let c = use_at(at, c)?;
+    Ok(if_rule(alloc, c, s, other)?)
+}
+
 /// An `if` by its parts, which stand or fall.
-#[tactic(auto, using(check_locals::proofs::ToldLaws::parts, crate::proofs::QuietLaws::quiet))]
 pub fn if_told(
     alloc: Global,
     setting: &Setting,
@@ -66,12 +82,26 @@ pub fn if_told(
     let Some(c) = c else {
         return Ok(None);
     };
-    let c = use_at(at, c)?;
-    Ok(Some(if_rule(alloc, c, s, other)?))
+    Ok(Some(if_by(alloc, setting, at, c, s, other)?))
 }
 
 /// A `while` by its parts.
-#[tactic(auto, using(check_locals::proofs::ToldLaws::parts, crate::proofs::QuietLaws::quiet))]
+#[tactic(auto, using(pawn_verdict::proofs::VerdictLaws::verdicts))]
+fn while_by(
+    alloc: Global,
+    setting: &Setting,
+    at: At,
+    c: Typed,
+    s: Stood,
+) -> Result<Stood, CheckFault>
+    ensures { Answers stood_view (after (use_in setting.now at (typed_view c))
+        (λ c. Stands (spec.while_rule c (stood_view s)))) result }
+{
+    let c = use_at(at, c)?;
+    Ok(while_rule(alloc, c, s)?)
+}
+
+/// A `while` by its parts, which stand or fall.
 pub fn while_told(
     alloc: Global,
     setting: &Setting,
@@ -88,12 +118,26 @@ pub fn while_told(
     let Some(c) = c else {
         return Ok(None);
     };
-    let c = use_at(at, c)?;
-    Ok(Some(while_rule(alloc, c, s)?))
+    Ok(Some(while_by(alloc, setting, at, c, s)?))
 }
 
 /// A `do` by its parts.
-#[tactic(auto, using(check_locals::proofs::ToldLaws::parts, crate::proofs::QuietLaws::quiet))]
+#[tactic(auto, using(pawn_verdict::proofs::VerdictLaws::verdicts))]
+fn do_while_by(
+    alloc: Global,
+    setting: &Setting,
+    at: At,
+    s: Stood,
+    c: Typed,
+) -> Result<Stood, CheckFault>
+    ensures { Answers stood_view (after (use_in setting.now at (typed_view c))
+        (λ c. Stands (spec.do_while_rule (stood_view s) c))) result }
+{
+    let c = use_at(at, c)?;
+    Ok(do_while_rule(alloc, s, c)?)
+}
+
+/// A `do` by its parts, which stand or fall.
 pub fn do_while_told(
     alloc: Global,
     setting: &Setting,
@@ -110,8 +154,7 @@ pub fn do_while_told(
     let Some(c) = c else {
         return Ok(None);
     };
-    let c = use_at(at, c)?;
-    Ok(Some(do_while_rule(alloc, s, c)?))
+    Ok(Some(do_while_by(alloc, setting, at, s, c)?))
 }
 
 // ---- for
@@ -153,7 +196,6 @@ fn for_by(
 }
 
 /// A `for` by its parts, which stand or fall.
-#[tactic(auto, using(check_locals::proofs::ToldLaws::parts, crate::proofs::QuietLaws::quiet))]
 pub fn for_told(
     alloc: Global,
     setting: &Setting,

@@ -1,5 +1,7 @@
 -- The arguments of a call, parameter by parameter.
-use Rattle.std.proofs.Common.{◌≡◌, ◌<◌, ◌≤◌, ◌≢◌, ◌+◌, ℕ, List, [], ◌∷◌, ◌++◌, length, drop, get_or, set, map, refl, ap, sym, ◌∙◌, arith, lit<, Option, get_or-set_other, length-set}
+use Rattle.std.proofs.Common.{◌≡◌, ◌<◌, ◌≤◌, ◌≢◌, ◌+◌, ℕ, List, [], ◌∷◌, ◌++◌, length, drop, get_or}
+use Rattle.std.proofs.Common.{set, map, refl, ap, sym, ◌∙◌, arith, lit<, Option, get_or-set_other}
+use Rattle.std.proofs.Common.{length-set}
 use Rattle.std.proofs.lemmas.List.{drop_all}
 use Rattle.std.specs.Option.{option_map}
 use Rattle.pawn_tree.specs.declared.name.At.{At}
@@ -60,7 +62,8 @@ from_one done arg (Stands others) =
     ∙ ap (λ (args : Args). behind args others) (sym (view_behind done (arg ∷ []))))
 from_one done arg (Breaks faults) = refl
 
-module _ (cx : Around) (at : At) (params : List Param) (first : List (Option Filled)) (others : Args) where
+module _ (cx : Around) (at : At) (params : List Param) (first : List (Option Filled))
+    (others : Args) where
   abbrev all : List around.Param → List (Option filling.Filled) → Verdict Args
   all = λ left slots. args_of cx at (map param_view params) (slots_view first) left slots others
 
@@ -79,9 +82,12 @@ module _ (cx : Around) (at : At) (params : List Param) (first : List (Option Fil
   }
 
   module _ {i : ℕ} {items : List (Option Filled)} {done : List held.Arg} where
-    pub args_more : (param : Param) (it rest : Option Filled) (arg : held.Arg) → ArgsSoFar i items done
-        → i < length params → param ≡ get_or params i param → i < length items → it ≡ get_or items i it
-        → arg_of cx at (map param_view params) (slots_view first) (param_view param) (option_map filled_view it) ≡ Stands (arg_view arg)
+    pub args_more : (param : Param) (it rest : Option Filled) (arg : held.Arg)
+        → ArgsSoFar i items done
+        → i < length params → param ≡ get_or params i param → i < length items
+        → it ≡ get_or items i it
+        → arg_of cx at (map param_view params) (slots_view first) (param_view param)
+        (option_map filled_view it) ≡ Stands (arg_view arg)
         → ArgsSoFar (i + 1) (set items i rest) (done ++ arg ∷ [])
     unfolding args_of
     args_more param it rest arg h lt p lt2 e stands =
@@ -89,21 +95,30 @@ module _ (cx : Around) (at : At) (params : List Param) (first : List (Option Fil
         let is_it : it ≡ get_or first i it = e ∙ h.kept i it (omega arith) in
         record {
           same = h.same ∙ rw (next params i param lt p, next first i it in_first is_it, stands)
-              (from_one done arg (all (map param_view (drop (i + 1) params)) (slots_view (drop (i + 1) first))));
-          kept = λ j d le. let ne : j ≢ i = omega arith in get_or-set_other items i j rest d ne ∙ h.kept j d (omega arith);
+              (from_one done arg (all (map param_view (drop (i + 1) params))
+              (slots_view (drop (i + 1) first))));
+          kept =
+              λ j d le. let ne : j ≢ i = omega arith in get_or-set_other items i j rest d ne
+              ∙ h.kept j d (omega arith);
           long = length-set items i rest ∙ h.long;
         }
 
-    pub args_fail : (param : Param) (it : Option Filled) (fault : CheckFault) → ArgsSoFar i items done
-        → i < length params → param ≡ get_or params i param → i < length items → it ≡ get_or items i it
-        → Fails (faults_of (arg_of cx at (map param_view params) (slots_view first) (param_view param) (option_map filled_view it))) fault
+    pub args_fail : (param : Param) (it : Option Filled) (fault : CheckFault)
+        → ArgsSoFar i items done
+        → i < length params → param ≡ get_or params i param → i < length items
+        → it ≡ get_or items i it
+        → Fails (faults_of (arg_of cx at (map param_view params) (slots_view first)
+        (param_view param) (option_map filled_view it))) fault
         → Fails (faults_of (all (map param_view params) (slots_view first))) fault
     unfolding args_of
     args_fail param it fault h lt p lt2 e f =
         let in_first : i < length first = omega (arith, h.long) in
         let is_it : it ≡ get_or first i it = e ∙ h.kept i it (omega arith) in
-        let this : Verdict Arg = arg_of cx at (map param_view params) (slots_view first) (param_view param) (option_map filled_view it) in
-        let more : Verdict Args = all (map param_view (drop (i + 1) params)) (slots_view (drop (i + 1) first)) in
+        let this : Verdict Arg =
+        arg_of cx at (map param_view params) (slots_view first) (param_view param)
+        (option_map filled_view it) in
+        let more : Verdict Args =
+        all (map param_view (drop (i + 1) params)) (slots_view (drop (i + 1) first)) in
         rw (h.same, next params i param lt p, next first i it in_first is_it)
         (fails_after (both this more (λ a left. Stands (then_arg a left)))
         (λ left. Stands (behind (args_view done) left)) fault
@@ -111,11 +126,13 @@ module _ (cx : Around) (at : At) (params : List Param) (first : List (Option Fil
 
     pub args_short : (param : Param) → ArgsSoFar i items done
         → i < length params → param ≡ get_or params i param → length items ≤ i
-        → Fails (faults_of (all (map param_view params) (slots_view first))) (Source ARGUMENT_MISSING at.place)
+        → Fails (faults_of (all (map param_view params) (slots_view first)))
+        (Source ARGUMENT_MISSING at.place)
     unfolding args_of
     args_short param h lt p le =
         let out : length first ≤ i = omega (arith, h.long) in
-        rw (h.same, next params i param lt p, drop_all i first out) (record { cause = (0, lit< tt, refl) })
+        rw (h.same, next params i param lt p, drop_all i first out)
+        (record { cause = (0, lit< tt, refl) })
 
     pub args_end : ArgsSoFar i items done → length params ≤ i
         → all (map param_view params) (slots_view first) ≡ Stands (behind (args_view done) others)

@@ -1,5 +1,6 @@
 -- The arguments of a call, one by one.
-use Rattle.std.proofs.Common.{◌≡◌, ◌+◌, ◌<◌, ℕ, List, [], ◌∷◌, ◌++◌, length, get_or, map, Option, None, refl, ap, subst, sym}
+use Rattle.std.proofs.Common.{◌≡◌, ◌+◌, ◌<◌, ℕ, List, [], ◌∷◌, ◌++◌, length, get_or, map, Option}
+use Rattle.std.proofs.Common.{None, refl, ap, subst, sym}
 use Rattle.std.proofs.lemmas.List.{length_push}
 use Rattle.pawn_scopes.specs.Verdict.{Verdict, Stands}
 use Rattle.pawn_typing.specs.Around as around
@@ -17,7 +18,8 @@ nothing_seen [] = refl
 nothing_seen (param ∷ params) =
     ap (λ (slots : List (Option filling.Filled)). None ∷ slots) (nothing_seen params)
 
-module _ {T G H : Type 0} (view : H → G) (step : T → G → Verdict T) (begin : T) (list : List H) where
+module _ {T G H : Type 0} (view : H → G) (step : T → G → Verdict T) (begin : T)
+    (list : List H) where
   -- behind one more element of those that a loop has taken
   pub taken_more : (xs : List H) (g : H) (done x : T)
       → Threaded view step begin list (length xs) done
@@ -25,4 +27,5 @@ module _ {T G H : Type 0} (view : H → G) (step : T → G → Verdict T) (begin
       → Threaded view step begin list (length (xs ++ g ∷ [])) x
   taken_more xs g done x so_far turn stands =
       let P : ℕ → Type 0 = λ i. Threaded view step begin list i x in
-      subst P (sym (length_push xs g)) (thread_more view step begin list g x so_far turn.0 turn.1 stands)
+      subst P (sym (length_push xs g))
+      (thread_more view step begin list g x so_far turn.0 turn.1 stands)

@@ -1,5 +1,6 @@
 -- What was made and found in arguments that aren't judged.
-use Rattle.std.proofs.Common.{◌≡◌, ◌+◌, ◌<◌, ◌≤◌, ℕ, List, [], ◌∷◌, ◌++◌, length, drop, get_or, map, refl, sym, subst, ◌∙◌, append_assoc, append-nil}
+use Rattle.std.proofs.Common.{◌≡◌, ◌+◌, ◌<◌, ◌≤◌, ℕ, List, [], ◌∷◌, ◌++◌, length, drop, get_or, map}
+use Rattle.std.proofs.Common.{refl, sym, subst, ◌∙◌, append_assoc, append-nil}
 use Rattle.std.specs.Prelude.{flat_map}
 use Rattle.std.proofs.lemmas.List.{drop_all, length_push}
 use Rattle.check_types.proofs.ThreadLaws.{next}
@@ -19,7 +20,8 @@ module _ {H G X : Type 0} (view : H → G) (of : G → List X) (list : List H) w
       let P : ℕ → Type 0 = λ i. Gathered i both in
       let here : Gathered (length xs + 1) both = record {
         same = so_far.same ∙ rw (next list (length xs) g turn.0 turn.1, e)
-            (sym (append_assoc done (of (view g)) (flat_map of (map view (drop (length xs + 1) list)))));
+            (sym (append_assoc done (of (view g))
+            (flat_map of (map view (drop (length xs + 1) list)))));
       } in
       subst P (sym (length_push xs g)) here
 

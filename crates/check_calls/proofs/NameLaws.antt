@@ -1,5 +1,7 @@
--- The first parameter with a name stands at one place, as code holds the parameters and as rules see them.
-use Rattle.std.proofs.Common.{◌≡◌, ◌+◌, ℕ, suc, List, [], ◌∷◌, not, cond, nat_lt, length, None, Some, map, position, refl, sym, ap, ap₂}
+-- The first parameter with a name stands at one place, as code holds the parameters and as rules
+-- see them.
+use Rattle.std.proofs.Common.{◌≡◌, ◌+◌, ℕ, suc, List, [], ◌∷◌, not, cond, nat_lt, length, None}
+use Rattle.std.proofs.Common.{Some, map, position, refl, sym, ap, ap₂}
 use Rattle.std.specs.List.{position_or_len}
 use Rattle.std.specs.Str.{bytes_eq}
 use Rattle.pawn_typing.specs.Around.{Param}

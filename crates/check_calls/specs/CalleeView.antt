@@ -4,6 +4,7 @@ use Rattle.pawn_calls.specs.Calls as plain
 use Rattle.check_types.specs.ContextView.{head_view}
 use Rattle.check_calls.specs.declared.calls.Callee.{Callee}
 
+-- a function or a native, with its head if that is known
 abbrev pub callee_view : Callee → plain.Callee
 callee_view it = record {
   is_native = it.is_native;

@@ -1,4 +1,5 @@
 pub mod Empty
+pub mod Numbers
 pub mod FillingView
 pub mod Shown
 pub mod CalleeView

@@ -4,6 +4,7 @@ use Rattle.check_calls.specs.declared.filling.Filled.{Filled}
 use Rattle.check_calls.specs.declared.filling.Filled.TheVariants.{Argument, Default}
 use Rattle.check_calls.specs.declared.defaults.Shown.{Shown}
 
+-- the size and the tag of an argument, for defaults by `sizeof` and `tagof`
 abbrev pub shown_in : Option Filled → Option Shown
 shown_in None = None
 shown_in (Some (Argument it)) = Some (record { size = it.size; tag = it.tag })

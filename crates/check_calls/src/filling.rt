@@ -1,4 +1,4 @@
-ghost use Rattle.std.specs.Prelude.{◌≡◌, ◌+◌, map, option_map, position, slice_get, IfOk};
+ghost use Rattle.std.specs.Prelude.{◌≡◌, ◌+◌, map, option_map, position, slice_get, IfOk, IfSome};
 ghost use Rattle.std.specs.Str.{bytes_eq};
 ghost use Rattle.pawn_scopes.specs.Verdict.{Stands, after};
 ghost use Rattle.pawn_typing.specs.Around.{Param as Plain};
@@ -9,8 +9,11 @@ ghost use Rattle.check_types.specs.declared.context.Param.{Param as Held};
 ghost use Rattle.check_types.specs.ContextView.{around_view, param_view, head_view};
 ghost use Rattle.check_types.specs.TypedView.{typed_view};
 ghost use Rattle.check_calls.specs.Empty.{nothing_for};
+ghost use Rattle.check_calls.specs.Numbers.{AreNumbers};
+ghost use Rattle.check_calls.specs.declared.numbers.Numbers.{Numbers as Table};
 ghost use Rattle.check_calls.specs.FillingView.{filled_view, filling_view, offer_view, slots_view};
 
+use super::numbers::{Numbers, numbers_of};
 use check_given::{Argued, give, rest_given};
 use check_types::{Context, Head, Made, Param, Typed};
 use pawn_base::{Bytes, List, Memory};
@@ -216,7 +219,7 @@ fn skipped(cx: &Context, at: At, head: &Head, done: Filling) -> Result<Filling, 
     }
 }
 
-/// The number of the parameter with a name.
+/// The number of the parameter with a name, looked for among all.
 fn number_of_param(head: &Head, name: &Bytes) -> Option<usize>
     ensures { result ≡ position (λ (param : Plain). bytes_eq param.name name.now)
         (map param_view head.now.params) }
@@ -234,23 +237,37 @@ fn place_of(params: &[Param], name: &[u8]) -> Option<usize>
         .position(|param| param.name.as_slice() == name)
 }
 
+/// The same, by the table where there is one.
+fn find_param(head: &Head, numbers: &Option<Numbers>, name: &Bytes) -> Option<usize>
+    requires { IfSome numbers.now (λ (it : Table). AreNumbers head.now.params it.table.entries) }
+    ensures { result ≡ position (λ (param : Plain). bytes_eq param.name name.now)
+        (map param_view head.now.params) }
+{
+    match numbers {
+        None => number_of_param(head, name),
+        Some(numbers) => numbers.find(name.as_slice()),
+    }
+}
+
 /// The argument of the parameter with a name.
 fn named(
     alloc: Global,
     cx: &Context,
     at: At,
     head: &Head,
+    numbers: &Option<Numbers>,
     done: Filling,
     name: &Bytes,
     x: Typed,
 ) -> Result<Filling, CheckFault>
+    requires { IfSome numbers.now (λ (it : Table). AreNumbers head.now.params it.table.entries) }
     ensures { Answers filling_view (spec.named (around_view cx.now) at (head_view head.now)
         (filling_view done)
         (spec.number_of_param (around_view cx.now) at (head_view head.now) name.now)
         (typed_view x)) result }
 {
     let next = done.next;
-    match number_of_param(head, name) {
+    match find_param(head, numbers, name) {
         None => Err(broken(UNDEFINED, at.place)),
         Some(i) => match param_at(head, i) {
             None => Err(broken(UNDEFINED, at.place)),
@@ -266,22 +283,74 @@ fn named(
 /// 50 for a name that no parameter has, 55 and 58 for an argument that doesn't fit its parameter,
 /// 59 for `_` behind all parameters, 60 for a parameter that got something, 61 for an argument too
 /// many.
-pub fn offered(
+fn offered(
     alloc: Global,
     cx: &Context,
     at: At,
     head: &Head,
+    numbers: &Option<Numbers>,
     done: Filling,
     it: Offer,
 ) -> Result<Filling, CheckFault>
+    requires { IfSome numbers.now (λ (it : Table). AreNumbers head.now.params it.table.entries) }
     ensures { Answers filling_view (spec.offer_step (around_view cx.now) at (head_view head.now)
         (filling_view done) (offer_view it.entry)) result }
 {
     match it {
         Offer::Positional(x) => positional(alloc, cx, at, head, done, x),
         Offer::Skipped => skipped(cx, at, head, done),
-        Offer::Named(name, x) => named(alloc, cx, at, head, done, name, x),
+        Offer::Named(name, x) => named(alloc, cx, at, head, numbers, done, name, x),
     }
+}
+
+/// Whether several arguments are named. They stand behind all others.
+fn names_several(offers: &[Offer]) -> bool {
+    if offers.len() < 2 {
+        return false;
+    }
+    match &offers[offers.len() - 2] {
+        Offer::Positional(_) => false,
+        Offer::Skipped => false,
+        Offer::Named(..) => true,
+    }
+}
+
+/// A table of the parameters, where several are looked for by their names: heads have no greatest
+/// number of parameters, so that a search for each of many would not be linear.
+fn numbers_for<'a>(
+    alloc: Global,
+    head: &'a Head,
+    offers: &[Offer],
+) -> Result<Option<Numbers<'a>>, Memory>
+    ensures { IfOk result (λ numbers.
+        IfSome numbers (λ (it : Table). AreNumbers head.now.params it.table.entries)) }
+{
+    if !names_several(offers) {
+        return Ok(None);
+    }
+    let numbers = numbers_of(alloc, head.params.as_slice())?;
+    Ok(Some(numbers))
+}
+
+/// All arguments of a call, each put to its parameter, which a table finds by its name.
+fn fill_by(
+    alloc: Global,
+    cx: &Context,
+    at: At,
+    head: &Head,
+    numbers: &Option<Numbers>,
+    offers: Vec<Offer>,
+) -> Result<Filling, CheckFault>
+    requires { IfSome numbers.now (λ (it : Table). AreNumbers head.now.params it.table.entries) }
+    ensures { Answers filling_view (spec.fill (around_view cx.now) at (head_view head.now)
+        (map offer_view offers.entry.items)) result }
+{
+    let nothing = nothing_filled(alloc, head)?;
+    let mut done = nothing;
+    for it in offers {
+        done = offered(alloc, cx, at, head, numbers, done, it)?;
+    }
+    Ok(done)
 }
 
 /// All arguments of a call, each put to its parameter.
@@ -299,10 +368,6 @@ pub fn fill(
     ensures { Answers filling_view (spec.fill (around_view cx.now) at (head_view head.now)
         (map offer_view offers.entry.items)) result }
 {
-    let nothing = nothing_filled(alloc, head)?;
-    let mut done = nothing;
-    for it in offers {
-        done = offered(alloc, cx, at, head, done, it)?;
-    }
-    Ok(done)
+    let numbers = numbers_for(alloc, head, offers.as_slice())?;
+    fill_by(alloc, cx, at, head, &numbers, offers)
 }

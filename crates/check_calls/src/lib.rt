@@ -5,6 +5,7 @@
 mod calls;
 mod defaults;
 mod filling;
+mod numbers;
 
 pub use calls::{Callee, call, find_callee};
 pub use check_types::Memory;

@@ -1,5 +1,7 @@
 -- A chain of comparisons, link by link.
-use Rattle.std.proofs.Common.{rules, arith, ◌≡◌, ◌<◌, ◌≤◌, ◌+◌, ℕ, length, drop, get_or, map, ℤ, Bool, true, false, ◌&&◌, List, [], ◌∷◌, ◌++◌, Option, Some, None, refl, sym, ap, subst, ◌∙◌, append_assoc, append-nil}
+use Rattle.std.proofs.Common.{rules, arith, ◌≡◌, ◌<◌, ◌≤◌, ◌+◌, ℕ, length, drop, get_or, map, ℤ}
+use Rattle.std.proofs.Common.{Bool, true, false, ◌&&◌, List, [], ◌∷◌, ◌++◌, Option, Some, None}
+use Rattle.std.proofs.Common.{refl, sym, ap, subst, ◌∙◌, append_assoc, append-nil}
 use Rattle.std.specs.Prelude.{flat_map}
 use Rattle.std.proofs.lemmas.List.{drop_all, length_push}
 use Rattle.pawn_cells.specs.Operators.{compare, chain_holds, truth}
@@ -10,14 +12,17 @@ use Rattle.pawn_program.specs.Program.{Expr, Chain, Links, no_links, then_link, 
 use Rattle.pawn_scopes.specs.Verdict.{Verdict, Stands, Breaks, after, faults_of}
 use Rattle.pawn_typing.specs.Typed.{Typed, Value, cell}
 use Rattle.pawn_typing.specs.Around.{Around}
-use Rattle.pawn_typing.specs.Chains.{Compared, link_choice, link_code, link_warned, link_value, links_code, links_warned, links_value, chain_value, chain_tag, and_more, chain_rule}
+use Rattle.pawn_typing.specs.Chains.{Compared, link_choice, link_code, link_warned, link_value}
+use Rattle.pawn_typing.specs.Chains.{links_code, links_warned, links_value, chain_value, chain_tag}
+use Rattle.pawn_typing.specs.Chains.{and_more, chain_rule}
 use Rattle.pawn_verdict.specs.declared.fault.CheckFault.{CheckFault}
 use Rattle.pawn_verdict.specs.Answers.{Fails}
 use Rattle.pawn_verdict.proofs.VerdictLaws.{fails_after, fails_first, fails_second}
 use Rattle.check_types.proofs.ThreadLaws.{next}
 use Rattle.check_chains.specs.declared.chains.Compared as held_compared
 use Rattle.check_chains.specs.Compared.{compared_view}
-use Rattle.check_chains.specs.Begun.{Begun, behind, holding, ended_value, value_with, link_tests, with_link, link_step}
+use Rattle.check_chains.specs.Begun.{Begun, behind, holding, ended_value, value_with, link_tests}
+use Rattle.check_chains.specs.Begun.{with_link, link_step}
 
 -- ---- links
 

@@ -1,5 +1,7 @@
--- A chain of comparisons so far: the tag of the last operand, the links, the value, and what was made.
-use Rattle.std.specs.Prelude.{ℕ, ℤ, List, [], ◌++◌, Bool, true, ◌&&◌, Option, None, Some, map, option_map}
+-- A chain of comparisons so far: the tag of the last operand, the links, the value, and what was
+-- made.
+use Rattle.std.specs.Prelude.{ℕ, ℤ, List, [], ◌++◌, Bool, true, ◌&&◌, Option, None, Some, map}
+use Rattle.std.specs.Prelude.{option_map}
 use Rattle.pawn_cells.specs.Operators.{compare, truth}
 use Rattle.pawn_cells.specs.declared.operator.Comparison.{Comparison}
 use Rattle.pawn_tree.specs.declared.name.At.{At}
@@ -13,6 +15,7 @@ use Rattle.pawn_typing.specs.Tests.{tested_either}
 use Rattle.pawn_typing.specs.Chains.{Compared, link_choice, link_code, link_value}
 use Rattle.check_chains.specs.declared.chains.Begun as held
 
+-- what further links of the chain are put to
 pub record Begun : Type 0 where
   pub left : ℕ
   pub links : Links
@@ -21,6 +24,7 @@ pub record Begun : Type 0 where
   pub literals : List StaticObject
   pub warned : List At
 
+-- the same as code holds it
 abbrev pub begun_view : held.Begun → Begun
 begun_view it = record {
   left = it.left;
@@ -36,6 +40,7 @@ behind no_links others = others
 behind (then_link sign e function swapped more) others =
     then_link sign e function swapped (behind more others)
 
+-- before any link all of them hold
 abbrev pub holding : Option ℤ → Option (ℤ × Bool)
 holding value = option_map (λ v. (v, true)) value
 
@@ -44,6 +49,7 @@ abbrev pub ended_value : Option (ℤ × Bool) → Option ℤ
 ended_value None = None
 ended_value (Some so_far) = Some (truth so_far.1)
 
+-- a link more: it compares the operand before it with its own
 abbrev pub value_with : Option (ℤ × Bool) → Option (Comparison × ℤ) → Option (ℤ × Bool)
 value_with None link = None
 value_with (Some so_far) None = None
@@ -55,6 +61,7 @@ abbrev pub link_tests : Around → ℕ → ℕ → At → Option Choice → List
 link_tests cx left right at None = tested_either cx left right at
 link_tests cx left right at (Some by) = []
 
+-- with one more link, by the user operator that is chosen or the built-in comparison
 abbrev pub with_link : Around → Begun → Compared → Expr → Option Choice → Begun
 with_link cx done it e by = record {
   left = it.operand.tag;

@@ -10,7 +10,8 @@ use Rattle.pawn_typed.specs.Functions.{fault_if, has_classifier}
 
 -- a body without a classifier
 abbrev pub bare_by : Bool → Bool → Written → List Fault
-bare_by classified again it = fault_if classified MIXED_AUTOMATA it.at ++ fault_if again REDEFINED it.at
+bare_by classified again it =
+    fault_if classified MIXED_AUTOMATA it.at ++ fault_if again REDEFINED it.at
 
 -- a body by its classifier
 abbrev pub states_by : Bool → Bool → Written → Option (List StateName) → List Fault

@@ -1,12 +1,15 @@
 -- The clauses of bodies as code holds them, and what it finds of them.
-use Rattle.std.specs.Prelude.{◌≡◌, ℕ, List, [], ◌∷◌, ◌++◌, map, filter, filter_map, slice_get, Option, None, Some}
+use Rattle.std.specs.Prelude.{◌≡◌, ℕ, List, [], ◌∷◌, ◌++◌, map, filter, filter_map, slice_get}
+use Rattle.std.specs.Prelude.{Option, None, Some}
 use Rattle.pawn_tree.specs.declared.name.At.{At}
 use Rattle.pawn_states.specs.declared.clause.Clause.{Clause}
 use Rattle.pawn_states.specs.declared.fault.StateFault.{StateFault}
-use Rattle.pawn_states.specs.declared.fault.StateFault.TheVariants.{Twice, FallbackTwice, Mixed, Memory}
+use Rattle.pawn_states.specs.declared.fault.StateFault.TheVariants.{Twice, FallbackTwice, Mixed}
+use Rattle.pawn_states.specs.declared.fault.StateFault.TheVariants.{Memory}
 use Rattle.pawn_states.specs.Classifier.{first_fault}
 use Rattle.pawn_scopes.specs.Verdict.{Fault}
-use Rattle.pawn_typing.specs.declared.fault.TheConstants.{STATE_TWICE, FALLBACK_TWICE, MIXED_AUTOMATA}
+use Rattle.pawn_typing.specs.declared.fault.TheConstants.{STATE_TWICE, FALLBACK_TWICE}
+use Rattle.pawn_typing.specs.declared.fault.TheConstants.{MIXED_AUTOMATA}
 use Rattle.pawn_automata.specs.Groups.{Written}
 use Rattle.pawn_typed.specs.Functions.{clause_of, has_classifier, fault}
 use Rattle.check_classifiers.specs.declared.clauses.Classified.{Classified}
@@ -14,7 +17,8 @@ use Rattle.check_classifiers.specs.declared.clauses.Classified.{Classified}
 -- with that of a body more
 pub record Stands (old new : Classified) (it : Written) : Type 0 where
   pub clauses : new.clauses ≡ old.clauses ++ filter_map clause_of (it ∷ [])
-  pub places : new.places ≡ old.places ++ map (λ (body : Written). body.at) (filter has_classifier (it ∷ []))
+  pub places : new.places ≡ old.places
+      ++ map (λ (body : Written). body.at) (filter has_classifier (it ∷ []))
 
 -- a broken rule at a token, where there is one
 abbrev pub at_place : ℕ → Option At → List Fault

@@ -4,6 +4,7 @@ pub mod CallableLaws
 pub mod DeclaresLaws
 pub mod DistinctLaws
 pub mod EndLaws
+pub mod EntryLaws
 pub mod OwnLaws
 pub mod PlacedLaws
 pub mod StatedLaws

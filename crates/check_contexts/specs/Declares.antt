@@ -1,5 +1,5 @@
 -- Names that are declared behind others in the innermost block.
-use Rattle.std.specs.Prelude.{◌≡◌, ℕ, List, [], ◌∷◌, ◌++◌}
+use Rattle.std.specs.Prelude.{◌≡◌, ℕ, List, [], ◌∷◌, ◌++◌, Option, None, Some}
 use Rattle.pawn_automata.specs.Keys.{Key, Named, Operates, Enters, Misshapen, entry_name}
 use Rattle.pawn_typing.specs.Scope.{Entry, Function, Entering, Taken}
 use Rattle.pawn_typed.specs.Headings.{Heading, Role, IsNative, IsForward, IsBody}
@@ -17,9 +17,14 @@ forward_by it IsNative = []
 forward_by it IsForward = record { name = name_of it.head.name; means = Taken } ∷ []
 forward_by it IsBody = []
 
--- the name of a function, by its number and tag
+-- the name of a function, by its number and tag; entry functions have one together
 abbrev pub function_by : ℕ → ℕ → Key → List Entry
 function_by number tag (Named name) = record { name = name; means = Function number tag } ∷ []
 function_by number tag (Operates it) = []
-function_by number tag (Enters name) = record { name = entry_name; means = Entering tag } ∷ []
+function_by number tag (Enters name) = []
 function_by number tag Misshapen = []
+
+-- the name `entry`, where a function has it
+abbrev pub entering_by : Option ℕ → List Entry
+entering_by None = []
+entering_by (Some tag) = record { name = entry_name; means = Entering tag } ∷ []

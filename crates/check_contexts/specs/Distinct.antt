@@ -1,12 +1,14 @@
 -- No two functions of a source have one key.
-use Rattle.std.specs.Prelude.{◌≡◌, ℕ, List, true, if◌then◌else◌, nat_lt, slice_get, Option, None, Some}
+use Rattle.std.specs.Prelude.{◌≡◌, ℕ, List, true, if◌then◌else◌, nat_lt, slice_get, Option, None}
+use Rattle.std.specs.Prelude.{Some}
 use Rattle.pawn_tags.specs.Overloads.{Overloads, with_overload}
 use Rattle.pawn_automata.specs.Keys.{Key, Named, Operates, Enters, Misshapen, same_key}
 use Rattle.pawn_automata.specs.Groups.{Group, number_of}
 
 -- each is found by its key, unless no operator may have its head
 pub record IsDistinct (groups : List Group) : Type 0 where
-  pub number : (i : ℕ) (group : Group) → slice_get groups i ≡ Some group → same_key group.key group.key ≡ true
+  pub number : (i : ℕ) (group : Group) → slice_get groups i ≡ Some group
+      → same_key group.key group.key ≡ true
       → number_of groups group.key ≡ Some i
 
 -- a number that is below another

@@ -1,11 +1,13 @@
 -- Which headings are of one function alone, and which are of all entry functions; and the first
 -- heading of each function.
-use Rattle.std.specs.Prelude.{◌≡◌, ℕ, List, Bool, false, if◌then◌else◌, length, position, slice_get, Option, None, Some, min}
+use Rattle.std.specs.Prelude.{◌≡◌, ℕ, List, Bool, false, if◌then◌else◌, length, position, slice_get}
+use Rattle.std.specs.Prelude.{Option, None, Some, min}
 use Rattle.std.specs.Option.{option_or, option_and_then}
 use Rattle.pawn_automata.specs.Keys.{Key, same_key}
 use Rattle.pawn_automata.specs.Groups.{Group, is_entry, number_of}
 use Rattle.check_automata.specs.Update.{updated}
-use Rattle.pawn_typed.specs.Headings.{Heading, Role, IsNative, IsForward, IsBody, heading_key, is_enters}
+use Rattle.pawn_typed.specs.Headings.{Heading, Role, IsNative, IsForward, IsBody, heading_key}
+use Rattle.pawn_typed.specs.Headings.{is_enters}
 
 -- whether a heading is of all entry functions, by what stands behind it
 abbrev pub enters_by : Heading → Role → Bool
@@ -39,7 +41,8 @@ module _ (names : List (List ℕ)) (fallback : List ℕ) where
 
   -- what is kept of each function is the place of its first own heading, and that of the first
   -- heading of all entry functions
-  pub record AreFirsts (groups : List Group) (headings : List Heading) (own : List (Option ℕ)) (entry : Option ℕ) : Type 0 where
+  pub record AreFirsts (groups : List Group) (headings : List Heading) (own : List (Option ℕ))
+      (entry : Option ℕ) : Type 0 where
     pub long : length own ≡ length groups
     pub firsts : (key : Key) (n : ℕ) → number_of groups key ≡ Some n
         → slice_get own n ≡ Some (position (is_own key) headings)
@@ -53,7 +56,8 @@ number_in groups (Some key) = number_of groups key
 -- with the place of a heading of this function, unless it has one
 abbrev pub noted : Option ℕ → ℕ → List (Option ℕ) → List (Option ℕ)
 noted None place own = own
-noted (Some number) place own = updated own number (λ (first : Option ℕ). option_or first (Some place))
+noted (Some number) place own =
+    updated own number (λ (first : Option ℕ). option_or first (Some place))
 
 -- what stands at a number
 abbrev pub own_at : List (Option ℕ) → Option ℕ → Option ℕ

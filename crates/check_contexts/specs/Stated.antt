@@ -16,9 +16,11 @@ heading_at headings place = option_and_then (slice_get headings) place
 
 -- the tag of what a heading gives
 abbrev pub heading_tag : Source → Option Heading → ℕ
-heading_tag source it = unwrap_or (option_map (λ (x : Heading). tag_of_head source x.head) it) untagged
+heading_tag source it =
+    unwrap_or (option_map (λ (x : Heading). tag_of_head source x.head) it) untagged
 
 -- the typed head of a heading at a place
 abbrev pub stated_head : List Heading → List (Option Head) → Option ℕ → Option Head
 stated_head headings heads place =
-    option_and_then (λ (i : ℕ). option_and_then (λ (it : Heading). head_at heads i) (slice_get headings i)) place
+    option_and_then (λ (i : ℕ). option_and_then (λ (it : Heading). head_at heads i)
+    (slice_get headings i)) place

@@ -1,18 +1,22 @@
-ghost use Rattle.std.specs.Prelude.{◌≡◌, [], ◌∷◌, map, IfOk, OnOk};
+ghost use Rattle.std.specs.Prelude.{◌≡◌, [], ◌∷◌, map, find, IfOk, OnOk};
+ghost use Rattle.std.specs.Option.{option_copied};
 ghost use Rattle.pawn_typing.specs.Scope as means;
+ghost use Rattle.pawn_typed.specs.Headings as headings;
 ghost use Rattle.pawn_typed.specs.Sources as spec;
 ghost use Rattle.check_types.specs.MeaningView.{meaning_view};
 ghost use Rattle.check_keys.specs.KeyView.{key_view};
 ghost use Rattle.check_groups.specs.GroupsView.{groups_view};
+ghost use Rattle.check_groups.specs.declared.groups.Group.{Group as HeldGroup};
 ghost use Rattle.check_scopes.specs.Scopes.{scope_view};
 ghost use Rattle.check_sources.specs.HeadingView.{heading_view, role_view};
 ghost use Rattle.check_sources.specs.SourceView.{source_view};
-ghost use Rattle.check_contexts.specs.Declares.{Declares, forward_by, function_by};
+ghost use Rattle.check_contexts.specs.Declares.{Declares, forward_by, function_by, entering_by};
 ghost use Rattle.check_contexts.specs.Own.{AreFirsts};
 
 use super::callables::{heading_name, is_native, told};
 use super::firsts::Firsts;
 use super::stated::tag_at;
+use check_groups::Group;
 use check_keys::Key;
 use check_scopes::{Scopes, Sight};
 use check_sources::{Heading, Role, Source};
@@ -47,7 +51,7 @@ fn declare_forward<'a>(scopes: &mut Scopes<'a>, it: &Heading<'a>) -> Result<(), 
     }
 }
 
-/// The name of a function; an operator has none.
+/// The name of a function; an operator has none, and entry functions have one together.
 #[tactic(auto, using(crate::proofs::DeclaresLaws::nothing_more))]
 fn declare_function<'a>(
     scopes: &mut Scopes<'a>,
@@ -64,10 +68,7 @@ fn declare_function<'a>(
             Ok(())
         }
         Key::Operates(_) => Ok(()),
-        Key::Enters(_) => {
-            declare(scopes, b"entry", Meaning::Entering(tag))?;
-            Ok(())
-        }
+        Key::Enters(_) => Ok(()),
         Key::Misshapen => Ok(()),
     }
 }
@@ -150,12 +151,63 @@ fn declare_functions<'a>(
     Ok(())
 }
 
+/// Whether a function is an automaton's entry function.
+fn is_enters(key: Key) -> bool
+    ensures { result ≡ headings.is_enters (key_view key.entry) }
+{
+    match key {
+        Key::Enters(_) => true,
+        Key::Named(_) => false,
+        Key::Operates(_) => false,
+        Key::Misshapen => false,
+    }
+}
+
+/// The first entry function among functions.
+fn first_entering<'s, 'a>(groups: &'s [Group<'a>]) -> Option<&'s Group<'a>>
+    ensures { option_copied result ≡
+        find (λ (group : HeldGroup). headings.is_enters (key_view group.key)) groups.now }
+{
+    groups.iter().find(|group| is_enters(group.key))
+}
+
+/// The tag of what the first entry function gives, where there is one.
+fn entering_tag(source: &Source, firsts: &Firsts) -> Option<u32>
+    requires { AreFirsts source.now.tags source.now.fallback.now
+        (groups_view source.now.groups) (map heading_view source.now.headings)
+        firsts.now.own.items firsts.now.entry }
+    ensures { result ≡ spec.entering_tag (source_view source.now) (spec.stated
+        (source_view source.now) (map heading_view source.now.headings) []) }
+{
+    match first_entering(source.groups.as_slice()) {
+        None => None,
+        Some(group) => {
+            let first = firsts.first(source, group.key);
+            Some(tag_at(source, first))
+        }
+    }
+}
+
+/// The name `entry`, where a function has it.
+#[tactic(auto, using(crate::proofs::DeclaresLaws::nothing_more))]
+fn declare_entry(scopes: &mut Scopes, tag: Option<u32>) -> Result<(), Memory>
+    ensures { OnOk result (Declares scopes.old scopes.new (entering_by tag)) }
+{
+    match tag {
+        None => Ok(()),
+        Some(tag) => {
+            declare(scopes, b"entry", Meaning::Entering(tag))?;
+            Ok(())
+        }
+    }
+}
+
 /// The names that are known everywhere in a source.
 ///
 /// # Errors
 ///
 /// `Memory` for want of memory.
-#[tactic(auto, using(crate::proofs::DeclaresLaws::three))]
+#[tactic(auto, using(crate::proofs::DeclaresLaws::four))]
 pub fn begin<'a>(alloc: Global, source: &Source<'a>, firsts: &Firsts) -> Result<Scopes<'a>, Memory>
     requires { AreFirsts source.now.tags source.now.fallback.now
         (groups_view source.now.groups) (map heading_view source.now.headings)
@@ -167,5 +219,6 @@ pub fn begin<'a>(alloc: Global, source: &Source<'a>, firsts: &Firsts) -> Result<
     declare_forwards(&mut scopes, source)?;
     declare_natives(&mut scopes, source)?;
     declare_functions(&mut scopes, source, firsts)?;
+    declare_entry(&mut scopes, entering_tag(source, firsts))?;
     Ok(scopes)
 }

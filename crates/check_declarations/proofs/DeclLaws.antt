@@ -1,5 +1,6 @@
 -- Declarations of the file, one by one.
-use Rattle.std.proofs.Common.{◌≡◌, ◌+◌, ◌<◌, ◌≤◌, ℕ, Bool, List, [], ◌∷◌, ◌++◌, length, drop, get_or, map, Option, refl, sym, ap, ◌∙◌, append_assoc, append-nil}
+use Rattle.std.proofs.Common.{◌≡◌, ◌+◌, ◌<◌, ◌≤◌, ℕ, Bool, List, [], ◌∷◌, ◌++◌, length, drop}
+use Rattle.std.proofs.Common.{get_or, map, Option, refl, sym, ap, ◌∙◌, append_assoc, append-nil}
 use Rattle.std.proofs.lemmas.List.{drop_all}
 use Rattle.pawn_tree.specs.declared.name.At.{At}
 use Rattle.pawn_tree.specs.declared.variable.Storage.TheVariants as storage
@@ -16,7 +17,8 @@ use Rattle.pawn_bodies.specs.Points.{Point, behind_var, behind_vars}
 use Rattle.pawn_bodies.specs.Locals.{local_by}
 use Rattle.pawn_bodies.specs.Stood.{Stood}
 use Rattle.pawn_typed.specs.Sources.{Source}
-use Rattle.pawn_typed.specs.Declarations.{Done, done_behind, nothing_done, objects_done, globals, decl_rule, declarations}
+use Rattle.pawn_typed.specs.Declarations.{Done, done_behind, nothing_done, objects_done, globals}
+use Rattle.pawn_typed.specs.Declarations.{decl_rule, declarations}
 use Rattle.pawn_typed.specs.Paths.{behind_decl, heads, heads_of}
 use Rattle.check_types.proofs.ThreadLaws.{next}
 use Rattle.check_locals.specs.Rows.{joined, Walked}

@@ -10,7 +10,8 @@ use Rattle.pawn_typing.specs.Around.{Around}
 use Rattle.pawn_bodies.specs.Points.{Point, behind_var}
 use Rattle.pawn_bodies.specs.Locals.{local_by, vars_parts}
 use Rattle.pawn_typed.specs.Sources.{Source}
-use Rattle.pawn_typed.specs.Declarations.{Done, done_behind, objects_done, globals, decl_rule, declarations}
+use Rattle.pawn_typed.specs.Declarations.{Done, done_behind, objects_done, globals, decl_rule}
+use Rattle.pawn_typed.specs.Declarations.{declarations}
 use Rattle.pawn_typed.specs.Paths.{behind_decl}
 
 -- without the headings and the names that are called

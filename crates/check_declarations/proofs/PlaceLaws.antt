@@ -5,12 +5,15 @@ use Rattle.std.proofs.lemmas.List.Sums.{sum_by-cons}
 use Rattle.pawn_tree.specs.declared.name.At.{At}
 use Rattle.pawn_tree.specs.declared.variable.Storage.{Storage}
 use Rattle.pawn_tree.specs.Variables.{Var}
-use Rattle.pawn_tree.specs.Statements.{Stmt, Empty, Do, Block, If, While, DoWhile, For, Switch, Return, Exit, Sleep, Assert, Break, Continue, State, Local, Constant}
+use Rattle.pawn_tree.specs.Statements.{Stmt, Empty, Do, Block, If, While, DoWhile, For, Switch}
+use Rattle.pawn_tree.specs.Statements.{Return, Exit, Sleep, Assert, Break, Continue, State, Local}
+use Rattle.pawn_tree.specs.Statements.{Constant}
 use Rattle.pawn_typing.specs.Around.{Around}
 use Rattle.pawn_typing.specs.Scope.{Scope, Entry, with_entries}
 use Rattle.pawn_bodies.specs.Counts.{objects_in, objects_of_var, objects_of_vars}
 use Rattle.pawn_bodies.specs.Points.{Point, behind, behind_var, behind_vars, beyond}
-use Rattle.check_scopes.specs.Scopes.{Block as Held, Blocks, block_view, outer_by, outer_of, scope_view}
+use Rattle.check_scopes.specs.Scopes.{Block as Held, Blocks, block_view, outer_by, outer_of}
+use Rattle.check_scopes.specs.Scopes.{scope_view}
 use Rattle.check_locals.specs.declared.point.Point as held
 use Rattle.check_locals.specs.PointView.{point_view}
 

@@ -1,5 +1,7 @@
 -- Constants of an enumeration, each known to those behind it.
-use Rattle.std.proofs.Common.{◌≡◌, ◌+◌, ◌<◌, ◌≤◌, ℕ, zero, suc, ℤ, List, [], ◌∷◌, ◌++◌, length, drop, get_or, map, Option, None, Some, refl, sym, ap, ◌∙◌, append_assoc, append-nil, arith}
+use Rattle.std.proofs.Common.{◌≡◌, ◌+◌, ◌<◌, ◌≤◌, ℕ, zero, suc, ℤ, List, [], ◌∷◌, ◌++◌, length}
+use Rattle.std.proofs.Common.{drop, get_or, map, Option, None, Some, refl, sym, ap, ◌∙◌}
+use Rattle.std.proofs.Common.{append_assoc, append-nil, arith}
 use Rattle.std.proofs.lemmas.List.{drop_all}
 use Rattle.pawn_tree.specs.declared.name.At.{At}
 use Rattle.pawn_tree.specs.declared.declaration.Item as held
@@ -9,7 +11,8 @@ use Rattle.pawn_tree.specs.View.{item_view}
 use Rattle.pawn_scopes.specs.Verdict.{Verdict}
 use Rattle.pawn_typing.specs.Around.{Around}
 use Rattle.pawn_values.specs.Parts.{Judged, judged, maybe_judged, expr_part}
-use Rattle.pawn_typed.specs.Enums.{Counted, behind_item, behind_items, item_rule, items_rule, items_parts}
+use Rattle.pawn_typed.specs.Enums.{Counted, behind_item, behind_items, item_rule, items_rule}
+use Rattle.pawn_typed.specs.Enums.{items_parts}
 use Rattle.check_types.proofs.ThreadLaws.{next}
 use Rattle.check_scopes.specs.Scopes.{Blocks, without}
 use Rattle.check_scopes.proofs.IndexLaws.{without_none, without_more}
@@ -102,8 +105,10 @@ module _ (cx : Around) (at : At) (tag : ℕ) where
     unfolding behind_items
     declared_more i done now x so_far lt e is = record {
       same = so_far.same
-          ∙ ap (λ (xs : List held.Item). behind_items cx at tag done (map item_view xs)) (next list i x lt e)
-          ∙ ap (λ (it : Counted). behind_items cx at tag it (map item_view (drop (i + 1) list))) (sym is);
+          ∙ ap (λ (xs : List held.Item). behind_items cx at tag done (map item_view xs))
+          (next list i x lt e)
+          ∙ ap (λ (it : Counted). behind_items cx at tag it (map item_view (drop (i + 1) list)))
+          (sym is);
     }
 
     pub declared_all : (i : ℕ) (done : Counted) → Declared i done → length list ≤ i
@@ -111,11 +116,13 @@ module _ (cx : Around) (at : At) (tag : ℕ) where
     unfolding behind_items
     declared_all i done so_far le =
         sym (so_far.same
-        ∙ ap (λ (xs : List held.Item). behind_items cx at tag done (map item_view xs)) (drop_all i list le))
+        ∙ ap (λ (xs : List held.Item). behind_items cx at tag done (map item_view xs))
+        (drop_all i list le))
 
 -- ---- constants are forgotten again
 
-pub without_again : (blocks : Blocks) (i : ℕ) → without i (without 1 blocks) ≡ without (i + 1) blocks
+pub without_again : (blocks : Blocks) (i : ℕ)
+    → without i (without 1 blocks) ≡ without (i + 1) blocks
 without_again blocks zero = sym (without_none (without 1 blocks))
 without_again blocks (suc i) =
     let one : suc i ≡ i + 1 = omega arith in

@@ -19,7 +19,7 @@ use pawn_typing::HEAD_DIFFERS;
 use pawn_verdict::CheckFault;
 
 /// Whether the heads of two headings differ; one that doesn't stand isn't compared.
-fn differs(
+pub fn differs(
     source: &Source,
     x: &Heading,
     x_head: Option<&Head>,

@@ -7,12 +7,14 @@ ghost use Rattle.check_sources.specs.SourceView.{source_view};
 ghost use Rattle.check_classifiers.specs.Finds.{Finds};
 ghost use Rattle.check_contexts.specs.HeadsView.{heads_view};
 ghost use Rattle.pawn_typed.specs.Headings.{is_enters};
-ghost use Rattle.check_contexts.specs.Own.{AreFirsts, HasNumber, enters_all};
+ghost use Rattle.check_contexts.specs.Own.{AreFirsts, HasNumber};
 ghost use Rattle.check_functions.specs.Differ as spec;
 ghost use Rattle.check_functions.specs.Differ.{EachOf, PairsOf};
+ghost use Rattle.check_functions.specs.Forwards.{AtPlace};
 
 use super::against::against;
-use check_contexts::{Firsts, enters_all, own_key};
+use super::forwards::{Forwards, find_forwards};
+use check_contexts::{Firsts, own_key};
 use check_groups::Group;
 use check_keys::Key;
 use check_sources::{Heading, Source};
@@ -152,29 +154,47 @@ fn check_groups(
     Ok(())
 }
 
-/// A heading against the first headings of all entry functions, if it is of all of them.
-fn check_forward(
+/// The same of a place, where there is one.
+fn check_at(
     source: &Source,
     firsts: &Firsts,
     heads: &[Option<Head>],
-    it: &Heading,
-    place: usize,
+    place: Option<usize>,
 ) -> Result<(), CheckFault>
     requires { AreFirsts source.now.tags source.now.fallback.now
         (groups_view source.now.groups) (map heading_view source.now.headings)
         firsts.now.own.items firsts.now.entry }
-    ensures { EachOf (spec.forward_faults (source_view source.now) (stated (source_view source.now)
-        (map heading_view source.now.headings) (heads_view heads.now)) place
-        (enters_all (heading_view it.now)))
-        (length (groups_view source.now.groups)) result }
+    ensures { AtPlace (λ i n. spec.forward_faults (source_view source.now)
+        (stated (source_view source.now) (map heading_view source.now.headings)
+        (heads_view heads.now)) i true n)
+        (length (groups_view source.now.groups)) place result }
 {
-    if !enters_all(it) {
-        return Ok(());
+    match place {
+        None => Ok(()),
+        Some(place) => check_groups(source, firsts, heads, place),
     }
-    check_groups(source, firsts, heads, place)
 }
 
-/// All forwards of `entry`, each against the first headings of all entry functions.
+/// The forward that differs from the first one, where there is one.
+fn check_other(
+    source: &Source,
+    firsts: &Firsts,
+    heads: &[Option<Head>],
+    forwards: Forwards,
+) -> Result<(), CheckFault>
+    requires { AreFirsts source.now.tags source.now.fallback.now
+        (groups_view source.now.groups) (map heading_view source.now.headings)
+        firsts.now.own.items firsts.now.entry }
+    ensures { AtPlace (λ i n. spec.forward_faults (source_view source.now)
+        (stated (source_view source.now) (map heading_view source.now.headings)
+        (heads_view heads.now)) i true n)
+        (length (groups_view source.now.groups)) forwards.other result }
+{
+    check_at(source, firsts, heads, forwards.other)
+}
+
+/// All forwards of `entry`, each against the first headings of all entry functions. Two of them
+/// tell of all, so that it takes two passes over the functions, and not one for each forward.
 fn entry_heads(source: &Source, firsts: &Firsts, heads: &[Option<Head>]) -> Result<(), CheckFault>
     requires { AreFirsts source.now.tags source.now.fallback.now
         (groups_view source.now.groups) (map heading_view source.now.headings)
@@ -184,11 +204,9 @@ fn entry_heads(source: &Source, firsts: &Firsts, heads: &[Option<Head>]) -> Resu
         (length (map heading_view source.now.headings))
         (length (groups_view source.now.groups)) result }
 {
-    let headings = source.headings.as_slice();
-    for i in 0..headings.len() {
-        check_forward(source, firsts, heads, &headings[i], i)?;
-    }
-    Ok(())
+    let forwards = find_forwards(source, heads);
+    check_at(source, firsts, heads, forwards.first)?;
+    check_other(source, firsts, heads, forwards)
 }
 
 /// The heads of each function that differ from its first one (65; Language Guide, "Functions", on

@@ -3,6 +3,7 @@
 #![tactic(auto)]
 
 mod against;
+mod forwards;
 mod groups;
 mod heads;
 mod places;

@@ -6,9 +6,11 @@ use Rattle.check_given.specs.declared.given.Argued.{Argued}
 use Rattle.check_given.specs.declared.given.Given.{Given}
 use Rattle.check_given.specs.declared.given.Passed.{Passed}
 
+-- the code of an argument, and what `sizeof` and `tagof` of its parameter are
 abbrev pub argued_view : Argued → filling.Argued
 argued_view it = record { code = arg_view it.code; size = it.size; tag = it.tag }
 
+-- the same with what the argument warns of
 abbrev pub given_view : Given → plain.Given
 given_view it = record {
   code = arg_view it.argued.code;
@@ -17,5 +19,6 @@ given_view it = record {
   warned = it.made.warned;
 }
 
+-- an array that is passed, with its size
 abbrev pub passed_view : Passed → plain.Passed
 passed_view it = record { array = array_view it.array; size = it.size }

@@ -1,12 +1,16 @@
 -- Lists that a loop gathers element by element.
-use Rattle.std.proofs.Common.{◌≡◌, ◌<◌, ◌+◌, ℕ, List, [], ◌∷◌, ◌++◌, map, length, get_or, drop, sym, ap, ◌∙◌, append_assoc}
+use Rattle.std.proofs.Common.{◌≡◌, ◌<◌, ◌+◌, ℕ, List, [], ◌∷◌, ◌++◌, map, length, get_or, drop, sym}
+use Rattle.std.proofs.Common.{ap, ◌∙◌, append_assoc}
 use Rattle.std.proofs.lemmas.List.{map-append, drop_more}
 
-pub map_push : {A B : Type 0} (view : A → B) (xs : List A) (x : A) → map view (xs ++ x ∷ []) ≡ map view xs ++ view x ∷ []
+pub map_push : {A B : Type 0} (view : A → B) (xs : List A) (x : A)
+    → map view (xs ++ x ∷ []) ≡ map view xs ++ view x ∷ []
 map_push view xs x = map-append view xs (x ∷ [])
 
-module _ {A X B : Type 0} (view : X → A) (F : List A → List B) (more : (x : A) (xs : List A) → F (x ∷ xs) ≡ F (x ∷ []) ++ F xs) where
-  pub gathered : (items : List X) (i : ℕ) (x : X) (old now : List B) → old ++ F (map view (drop i items)) ≡ F (map view items)
+module _ {A X B : Type 0} (view : X → A) (F : List A → List B)
+    (more : (x : A) (xs : List A) → F (x ∷ xs) ≡ F (x ∷ []) ++ F xs) where
+  pub gathered : (items : List X) (i : ℕ) (x : X) (old now : List B)
+      → old ++ F (map view (drop i items)) ≡ F (map view items)
       → i < length items → x ≡ get_or items i x → now ≡ old ++ F (view x ∷ [])
       → now ++ F (map view (drop (i + 1) items)) ≡ F (map view items)
   gathered items i x old now h lt is e =

@@ -1,6 +1,7 @@
 -- The bodies of a source, declaration by declaration.
 use Rattle.std.proofs.Common.{◌≡◌, [], ◌∷◌, ◌++◌, refl}
-use Rattle.pawn_tree.specs.Declarations.{Decl, Variables, Constant, Enum, Native, Forward, Function, Tree}
+use Rattle.pawn_tree.specs.Declarations.{Decl, Variables, Constant, Enum, Native, Forward, Function}
+use Rattle.pawn_tree.specs.Declarations.{Tree}
 use Rattle.pawn_automata.specs.Groups.{written}
 
 pub written_more : (x : Decl) (xs : Tree) → written (x ∷ xs) ≡ written (x ∷ []) ++ written xs

@@ -1,5 +1,6 @@
 -- Lists whose elements have a verdict each, and stand where those before them lead.
-use Rattle.std.proofs.Common.{◌≡◌, ◌+◌, ◌<◌, ◌≤◌, ℕ, Bool, true, false, List, [], ◌∷◌, ◌++◌, length, drop, get_or, map, refl, sym, ap, subst, ◌∙◌, append-nil, arith}
+use Rattle.std.proofs.Common.{◌≡◌, ◌+◌, ◌<◌, ◌≤◌, ℕ, Bool, true, false, List, [], ◌∷◌, ◌++◌, length}
+use Rattle.std.proofs.Common.{drop, get_or, map, refl, sym, ap, subst, ◌∙◌, append-nil, arith}
 use Rattle.std.proofs.lemmas.List.{drop_all}
 use Rattle.std.specs.List.{Contains}
 use Rattle.std.proofs.lemmas.List.Elements.{Contains-append_left, Contains-append_right}
@@ -136,7 +137,8 @@ module _ {A S T E H : Type 0} (f : Fold A S T E) (view : H → T) (begin : S) (l
   module _ (i : ℕ) (s : S) where
     in_front : IsFold f → (x : H) → i < length list → x ≡ get_or list i x
         → f.all s (map view (drop i list))
-        ≡ joined f.behind (f.this s (view x)) (f.all (f.next s (view x)) (map view (drop (i + 1) list)))
+        ≡ joined f.behind (f.this s (view x))
+        (f.all (f.next s (view x)) (map view (drop (i + 1) list)))
     in_front law x lt e =
         ap (λ (xs : List H). f.all s (map view xs)) (next list i x lt e)
         ∙ law.all_more s (view x) (map view (drop (i + 1) list))

@@ -1,5 +1,6 @@
 -- What parameters and heads mean that don't stand.
-use Rattle.std.proofs.Common.{◌≡◌, ◌<◌, ◌-◌, ◌≢◌, ℕ, List, [], ◌∷◌, ◌++◌, length, take, Bool, None, refl, ap, ◌∙◌, arith}
+use Rattle.std.proofs.Common.{◌≡◌, ◌<◌, ◌-◌, ◌≢◌, ℕ, List, [], ◌∷◌, ◌++◌, length, take, Bool, None}
+use Rattle.std.proofs.Common.{refl, ap, ◌∙◌, arith}
 use Rattle.std.proofs.lemmas.Grind.{common_steps}
 use Rattle.pawn_scopes.specs.Verdict.{Verdict, Stands, Breaks}
 use Rattle.pawn_typing.specs.Scope.{Unknown, with_entries}

@@ -1,13 +1,15 @@
 -- Parameters as a list whose elements are known to those behind them.
-use Rattle.std.proofs.Common.{◌≡◌, ◌+◌, ℕ, List, [], ◌∷◌, ◌++◌, Option, None, Some, refl, ap, append_assoc, append-nil}
+use Rattle.std.proofs.Common.{◌≡◌, ◌+◌, ℕ, List, [], ◌∷◌, ◌++◌, Option, None, Some, refl, ap}
+use Rattle.std.proofs.Common.{append_assoc, append-nil}
 use Rattle.pawn_tree.specs.declared.name.At.{At}
 use Rattle.pawn_tree.specs.Declarations.{Param, Plain, Rest}
 use Rattle.pawn_scopes.specs.Verdict.{Verdict}
 use Rattle.pawn_typing.specs.Around.{Around}
 use Rattle.pawn_typing.specs.Scope.{Scope, with_entries}
 use Rattle.pawn_values.specs.Parts.{Judged, judged}
-use Rattle.pawn_heads.specs.Params.{Headed, no_params, param_rule, param_entries, params, params_parts, behind_params}
-use Rattle.check_heads.specs.ParamParts.{either_rest, headed_behind, param_part}
+use Rattle.pawn_heads.specs.Params.{Headed, no_params, either, param_rule, param_entries, params}
+use Rattle.pawn_heads.specs.Params.{params_parts, behind_params}
+use Rattle.check_heads.specs.ParamParts.{headed_behind, param_part}
 use Rattle.check_heads.specs.SoFar.{joined, judged_behind}
 use Rattle.check_heads.proofs.FoldLaws.{Fold, IsFold, Joins}
 
@@ -20,7 +22,7 @@ pub judged_joins : Joins judged_behind
 judged_joins = record { assoc = λ x y z. refl }
 
 either_assoc : (x y z : Option (List ℕ))
-    → either_rest x (either_rest y z) ≡ either_rest (either_rest x y) z
+    → either x (either y z) ≡ either (either x y) z
 either_assoc None y z = refl
 either_assoc (Some tags) y z = refl
 
@@ -34,7 +36,7 @@ headed_joins = record {
   ) refl;
 }
 
-either_none : (rest : Option (List ℕ)) → either_rest rest None ≡ rest
+either_none : (rest : Option (List ℕ)) → either rest None ≡ rest
 either_none None = refl
 either_none (Some tags) = refl
 
@@ -67,7 +69,8 @@ module _ (cx : Around) (at : At) where
 
   part_more : (spot : Spot) (x : Param) (xs : List Param)
       → params_parts cx at spot.0 spot.1 (x ∷ xs)
-      ≡ joined judged_behind (param_part cx spot.0 x) (params_parts cx at (past spot x).0 (past spot x).1 xs)
+      ≡ joined judged_behind (param_part cx spot.0 x)
+      (params_parts cx at (past spot x).0 (past spot x).1 xs)
   unfolding params_parts
   part_more spot (Plain constant reference tags name dims value) xs = refl
   part_more spot (Rest rest_at tags) xs = refl

@@ -1,7 +1,6 @@
 -- Parameters as the rules of heads see them.
 use Rattle.std.specs.Prelude.{map}
 use Rattle.pawn_program.specs.View.{slot_view}
-use Rattle.pawn_bodies.specs.Locals.{Fresh, fresh}
 use Rattle.pawn_heads.specs.Params as plain
 use Rattle.pawn_heads.specs.ParamDefaults as defaults
 use Rattle.check_types.specs.ContextView.{default_view, param_view}
@@ -9,10 +8,6 @@ use Rattle.check_types.specs.ExtentView.{extent_view}
 use Rattle.check_heads.specs.declared.defaults.Defaulted.{Defaulted}
 use Rattle.check_heads.specs.declared.headed.Headed.{Headed}
 use Rattle.check_heads.specs.declared.reaches.Reach.{Reach}
-
--- a name that is new
-abbrev pub fresh_view : Unit {0} → Fresh
-fresh_view nothing = fresh
 
 -- how far an array reaches
 abbrev pub reach_view : Reach → plain.Reach

@@ -1,21 +1,16 @@
 -- The parts of a parameter that hang on nothing around it.
-use Rattle.std.specs.Prelude.{ℕ, List, ◌++◌, Bool, true, false, Option, None, Some}
+use Rattle.std.specs.Prelude.{◌++◌, Bool, true, false, Option, None, Some}
 use Rattle.pawn_tree.specs.declared.name.At.{At}
 use Rattle.pawn_tree.specs.Expressions.{Expr}
 use Rattle.pawn_tree.specs.Declarations as tree
-use Rattle.pawn_program.specs.Program.{Slot, ScalarSlot, ReferenceSlot}
 use Rattle.pawn_scopes.specs.Verdict.{Verdict, Stands}
 use Rattle.pawn_typing.specs.declared.fault.TheConstants.{ARGUMENT_KIND, CONSTANT_NEEDED}
 use Rattle.pawn_typing.specs.Rule.{broken}
 use Rattle.pawn_typing.specs.Around.{Around, Default, NoDefault}
 use Rattle.pawn_typing.specs.Scope.{Scope}
-use Rattle.pawn_values.specs.Parts.{Judged, judged, with_part, all_parts, maybe_judged, dim_part, expr_part}
-use Rattle.pawn_heads.specs.Params.{Headed}
-
--- the slot of one cell, by whether it is a reference
-abbrev pub slot_of : Bool → Slot
-slot_of true = ReferenceSlot
-slot_of false = ScalarSlot
+use Rattle.pawn_values.specs.Parts.{Judged, judged, with_part, all_parts, maybe_judged, dim_part}
+use Rattle.pawn_values.specs.Parts.{expr_part}
+use Rattle.pawn_heads.specs.Params.{Headed, either}
 
 -- an array has no default
 abbrev pub no_default : At → Option Expr → Verdict Default
@@ -33,16 +28,11 @@ param_part cx scope (tree.Plain constant reference tags name dims value) =
     with_part (all_parts (dim_part cx scope) dims) (maybe_judged (expr_part cx scope) value)
 param_part cx scope (tree.Rest rest_at tags) = Stands judged
 
--- the tags of `...`, of which there is one at most
-abbrev pub either_rest : Option (List ℕ) → Option (List ℕ) → Option (List ℕ)
-either_rest None rest = rest
-either_rest (Some tags) rest = Some tags
-
 -- parameters behind others
 abbrev pub headed_behind : Headed → Headed → Headed
 headed_behind x y = record {
   params = x.params ++ y.params;
   slots = x.slots ++ y.slots;
-  rest = either_rest x.rest y.rest;
+  rest = either x.rest y.rest;
   warned = x.warned ++ y.warned;
 }

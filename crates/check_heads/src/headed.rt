@@ -3,7 +3,7 @@ ghost use Rattle.pawn_program.specs.View.{slot_view};
 ghost use Rattle.pawn_heads.specs.Params as spec;
 ghost use Rattle.check_types.specs.ContextView.{param_view};
 ghost use Rattle.check_heads.specs.HeadedView.{headed_view};
-ghost use Rattle.check_heads.specs.ParamParts.{either_rest, headed_behind};
+ghost use Rattle.check_heads.specs.ParamParts.{headed_behind};
 
 use check_types::Param;
 use pawn_base::{List, Memory};
@@ -23,7 +23,7 @@ pub struct Headed {
 
 /// The tags of `...`, of which there is one at most.
 fn either(first: Option<List<u32>>, rest: Option<List<u32>>) -> Option<List<u32>>
-    ensures { result ≡ either_rest first rest }
+    ensures { result ≡ spec.either first rest }
 {
     match first {
         None => rest,

@@ -5,13 +5,14 @@ ghost use Rattle.pawn_tree.specs.View.{dim_view, expr_view, param_view as tree_v
 ghost use Rattle.pawn_typing.specs.Rule.{also};
 ghost use Rattle.pawn_typing.specs.Around.{NoDefault};
 ghost use Rattle.pawn_bodies.specs.Locals as locals;
+ghost use Rattle.pawn_bodies.specs.Locals.{fresh_view};
 ghost use Rattle.pawn_heads.specs.Params as spec;
 ghost use Rattle.pawn_heads.specs.ParamDefaults as defaults;
 ghost use Rattle.pawn_verdict.specs.Answers.{Answers};
 ghost use Rattle.part_verdict.specs.PartAnswers.{PartAnswers};
 ghost use Rattle.check_types.specs.ContextView.{around_view, default_view};
 ghost use Rattle.check_scopes.specs.Scopes.{scope_view};
-ghost use Rattle.check_heads.specs.HeadedView.{fresh_view, headed_view};
+ghost use Rattle.check_heads.specs.HeadedView.{headed_view};
 ghost use Rattle.check_heads.specs.ParamParts as part;
 
 use super::defaults::default_rule;
@@ -42,7 +43,7 @@ fn fresh_name(scopes: &Scopes, at: At, name: &[u8]) -> Result<(), CheckFault>
 
 /// The slot of a parameter of one cell.
 fn cell_slot(reference: bool) -> Slot
-    ensures { slot_view result ≡ part.slot_of reference }
+    ensures { slot_view result ≡ spec.cell_slot reference }
 {
     if reference {
         Slot::Reference
@@ -67,7 +68,7 @@ fn cell_param(
     ensures { PartAnswers headed_view (after (defaults.default_rule (around_view cx.now)
         (scope_view scopes.now) at reference tags (option_map expr_view value.now)) (λ it.
         Stands (spec.one_param (around_view cx.now) at name.now constant reference tags None
-        it.default (spec.cell_slot (around_view cx.now) at reference) it.warned))) result }
+        it.default (spec.cell_slot reference) it.warned))) result }
 {
     let it = default_rule(alloc, cx, scopes, at, reference, tags.as_slice(), value)?;
     let param = Typed {

@@ -12,7 +12,8 @@ use Rattle.pawn_cells.specs.declared.place.Place.{Place}
 use Rattle.part_verdict.specs.PartAnswers.{FailsPart}
 use Rattle.part_verdict.specs.declared.fault.PartFault.TheVariants.{Source, Fallen}
 
-pub means_known : (a : Array) (tag : ℕ) (constant : Bool) (w : Verdict Shaped) (it : Shaped) → w ≡ Stands it
+pub means_known : (a : Array) (tag : ℕ) (constant : Bool) (w : Verdict Shaped) (it : Shaped)
+    → w ≡ Stands it
     → array_means a tag constant w ≡ means.Array a (extent_of it.sizes) tag constant
 means_known a tag constant w it h = rw h refl
 
@@ -20,7 +21,8 @@ pub means_fallen : (a : Array) (tag : ℕ) (constant : Bool) (w : Verdict Shaped
     → array_means a tag constant w ≡ Unknown
 means_fallen a tag constant w h = rw h.cause refl
 
-pub means_broken : (a : Array) (tag : ℕ) (constant : Bool) (w : Verdict Shaped) (kind : ℕ) (place : Place) → FailsPart w (Source kind place)
+pub means_broken : (a : Array) (tag : ℕ) (constant : Bool) (w : Verdict Shaped) (kind : ℕ)
+    (place : Place) → FailsPart w (Source kind place)
     → array_means a tag constant w ≡ Unknown
 means_broken a tag constant (Stands it) kind place h =
     let f = h.cause in let k : f.0 < 0 = f.1 in absurd (omega (arith, k))

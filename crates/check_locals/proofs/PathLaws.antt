@@ -1,8 +1,10 @@
 -- The path of declarations behind some, and back again.
-use Rattle.std.proofs.Common.{◌≡◌, ◌≤◌, ℕ, ◌+◌, ◌-◌, List, [], ◌∷◌, ◌++◌, map, take, length, refl, sym, ap, ap₂, ◌∙◌, arith, append_assoc, length-append}
+use Rattle.std.proofs.Common.{◌≡◌, ◌≤◌, ℕ, ◌+◌, ◌-◌, List, [], ◌∷◌, ◌++◌, map, take, length, refl}
+use Rattle.std.proofs.Common.{sym, ap, ap₂, ◌∙◌, arith, append_assoc, length-append}
 use Rattle.std.proofs.lemmas.List.{append-nil, take-map, take_at, length-map}
 use Rattle.pawn_typing.specs.Scope.{Scope, Entry, with_entries}
-use Rattle.check_scopes.specs.Scopes.{Block, Blocks, block_view, scope_view, without, outer_of, outer_by}
+use Rattle.check_scopes.specs.Scopes.{Block, Blocks, block_view, scope_view, without, outer_of}
+use Rattle.check_scopes.specs.Scopes.{outer_by}
 
 -- so many declarations more in the innermost block
 pub record Extends (n : ℕ) (before after : Scope) : Type 0 where
@@ -11,7 +13,13 @@ pub record Extends (n : ℕ) (before after : Scope) : Type 0 where
 
 pub extends_none : (scope : Scope) → Extends 0 scope scope
 extends_none scope = record {
-  of = λ block outer h. ([], h ∙ ap (λ (it : List Entry). it ∷ outer) (sym (append-nil block)), refl);
+  of =
+      λ block outer h. (
+        [],
+        h ∙ ap (λ (it : List Entry). it ∷ outer)
+            (sym (append-nil block)),
+        refl,
+      );
 }
 
 pub extends_by : (scope : Scope) (entry : Entry) → Extends 1 scope (with_entries scope (entry ∷ []))
@@ -40,28 +48,33 @@ head_is x y xs ys h = cc
 tail_is : {A : Type 0} (x y : A) (xs ys : List A) → x ∷ xs ≡ y ∷ ys → xs ≡ ys
 tail_is x y xs ys h = cc
 
-kept : (here : Block) (block entries : List Entry) (n : ℕ) → block_view here ≡ block ++ entries → length entries ≡ n
+kept : (here : Block) (block entries : List Entry) (n : ℕ) → block_view here ≡ block ++ entries
+    → length entries ≡ n
     → block_view (take (length here - n) here) ≡ block
 kept here block entries n h k =
     let all : length here ≡ length block + length entries =
     sym (length-map here _) ∙ ap length h ∙ length-append block entries in
     let left : length block ≡ length here - n = omega (arith, all, k) in
-    sym (take-map _ (length here - n) here) ∙ ap (take (length here - n)) h ∙ take_at block entries (length here - n) left
+    sym (take-map _ (length here - n) here) ∙ ap (take (length here - n)) h
+    ∙ take_at block entries (length here - n) left
 
 -- the declarations are forgotten
-pub forgotten : (n : ℕ) (old new : Blocks) → Extends n (scope_view old) (scope_view new) → scope_view (without n new) ≡ scope_view old
+pub forgotten : (n : ℕ) (old new : Blocks) → Extends n (scope_view old) (scope_view new)
+    → scope_view (without n new) ≡ scope_view old
 forgotten n old new h =
     let it = h.of (block_view old.here) (map block_view old.outer) refl in
     ap₂ (λ (block : List Entry) (outer : Scope). block ∷ outer)
     (kept new.here (block_view old.here) it.0 n (head_is _ _ _ _ it.1) it.2)
     (tail_is _ _ _ _ it.1)
 
-outer_is : (blocks : List Block) (block : List Entry) (outer : Scope) → map block_view blocks ≡ block ∷ outer → scope_view (outer_by blocks) ≡ block ∷ outer
+outer_is : (blocks : List Block) (block : List Entry) (outer : Scope)
+    → map block_view blocks ≡ block ∷ outer → scope_view (outer_by blocks) ≡ block ∷ outer
 outer_is [] block outer h = cc
 outer_is (it ∷ more) block outer h = h
 
 -- the block that was entered is left
-pub left : (n : ℕ) (old new : Blocks) → Extends n ([] ∷ scope_view old) (scope_view new) → scope_view (outer_of new) ≡ scope_view old
+pub left : (n : ℕ) (old new : Blocks) → Extends n ([] ∷ scope_view old) (scope_view new)
+    → scope_view (outer_of new) ≡ scope_view old
 left n old new h =
     let it = h.of [] (scope_view old) refl in
     outer_is new.outer _ _ (tail_is _ _ _ _ it.1)

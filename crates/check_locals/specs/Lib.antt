@@ -1,4 +1,3 @@
 pub mod Tells
 pub mod PointView
 pub mod Rows
-pub mod FreshView

@@ -1,4 +1,5 @@
--- How code tells of a part inside: what stands, or that the part falls. A fault is one of the part's.
+-- How code tells of a part inside: what stands, or that the part falls. A fault is one of the
+-- part's.
 use Rattle.std.specs.Prelude.{◌≡◌, [], Option, None, Some, Result, Ok, Err}
 use Rattle.pawn_scopes.specs.Verdict.{Verdict, Stands, Breaks, faults_of}
 use Rattle.pawn_verdict.specs.Answers.{Fails}

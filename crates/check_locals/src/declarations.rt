@@ -9,7 +9,6 @@ ghost use Rattle.check_types.specs.ContextView.{around_view};
 ghost use Rattle.check_scopes.specs.Scopes.{scope_view};
 ghost use Rattle.check_values.specs.ValueViews.{constant_view as value_view};
 ghost use Rattle.check_statements.specs.StoodView.{stood_view};
-ghost use Rattle.check_locals.specs.FreshView.{fresh_view};
 ghost use Rattle.check_locals.specs.PointView.{point_view};
 ghost use Rattle.check_locals.specs.Rows.{joined};
 ghost use Rattle.check_locals.specs.Tells.{Tells, told as plain_told};
@@ -35,7 +34,7 @@ use std::alloc::Global;
 ///
 /// 51 where the block has it.
 pub fn fresh_name(scopes: &Scopes, at: At, name: &[u8]) -> Result<(), CheckFault>
-    ensures { Answers fresh_view (spec.fresh_name (scope_view scopes.now) at name.now) result }
+    ensures { Answers spec.fresh_view (spec.fresh_name (scope_view scopes.now) at name.now) result }
 {
     match scopes.find_here(name) {
         None => Ok(()),

@@ -1,5 +1,6 @@
 -- No array has a fourth dimension.
-use Rattle.std.proofs.Common.{◌≡◌, ◌≤◌, ℕ, suc, zero, List, [], ◌∷◌, Option, Some, None, refl, arith}
+use Rattle.std.proofs.Common.{◌≡◌, ◌≤◌, ℕ, suc, zero, List, [], ◌∷◌, Option, Some, None, refl}
+use Rattle.std.proofs.Common.{arith}
 use Rattle.std.specs.Prelude.{slice_get}
 use Rattle.pawn_arrays.specs.Sizes.{inner_sizes}
 use Rattle.pawn_typing.specs.Names.{size_at}

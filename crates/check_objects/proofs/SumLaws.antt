@@ -1,5 +1,6 @@
 -- Sums over lists, one element behind another.
-use Rattle.std.proofs.Common.{◌≡◌, ◌+◌, ◌<◌, ◌≤◌, ℕ, zero, suc, List, [], ◌∷◌, length, drop, get_or, map, Option, refl, sym, ap, ◌∙◌, arith}
+use Rattle.std.proofs.Common.{◌≡◌, ◌+◌, ◌<◌, ◌≤◌, ℕ, zero, suc, List, [], ◌∷◌, length, drop, get_or}
+use Rattle.std.proofs.Common.{map, Option, refl, sym, ap, ◌∙◌, arith}
 use Rattle.std.specs.List.{sum_by}
 use Rattle.std.proofs.lemmas.List.{drop_all}
 use Rattle.std.proofs.lemmas.List.Sums.{sum_by-cons}
@@ -14,7 +15,8 @@ use Rattle.pawn_tree.specs.View.{expr_view, stmt_view, case_view}
 use Rattle.pawn_tree.proofs.ViewLaws.{block_view, if_view, switch_view}
 use Rattle.std.specs.Option.{option_map}
 use Rattle.pawn_calls.specs.Literals.{literals}
-use Rattle.pawn_bodies.specs.Counts.{objects_in, objects_in_all, objects_in_case, objects_in_cases, objects_in_other}
+use Rattle.pawn_bodies.specs.Counts.{objects_in, objects_in_all, objects_in_case, objects_in_cases}
+use Rattle.pawn_bodies.specs.Counts.{objects_in_other}
 use Rattle.check_types.proofs.ThreadLaws.{next}
 
 module _ {H T : Type 0} (view : H → T) (of : T → ℕ) (list : List H) where
@@ -63,15 +65,18 @@ pub if_objects : (at : At) (c : held_expr.Expr) (s : Box held.Stmt Global)
     (other : Option (Box held.Stmt Global))
     → objects_in (stmt_view (held.If at c s other))
     ≡ literals (expr_view c) + (objects_in (stmt_view s.value)
-    + objects_in_other (maybe_stmt (option_map (λ (b : Box held.Stmt Global). stmt_view b.value) other)))
+    + objects_in_other (maybe_stmt
+    (option_map (λ (b : Box held.Stmt Global). stmt_view b.value) other)))
 if_objects at c s other = ap objects_in (if_view at c s other)
 
 pub switch_objects : (at : At) (e : held_expr.Expr) (xs : List held_case.Case)
     (other : Option (Box held.Stmt Global))
     → objects_in (stmt_view (held.Switch at e xs other))
     ≡ literals (expr_view e) + (sum_by objects_in_case (map case_view xs)
-    + objects_in_other (maybe_stmt (option_map (λ (b : Box held.Stmt Global). stmt_view b.value) other)))
+    + objects_in_other (maybe_stmt
+    (option_map (λ (b : Box held.Stmt Global). stmt_view b.value) other)))
 switch_objects at e xs other =
     ap objects_in (switch_view at e xs other)
     ∙ ap (λ (n : ℕ). literals (expr_view e) + (n + objects_in_other (maybe_stmt
-    (option_map (λ (b : Box held.Stmt Global). stmt_view b.value) other)))) (cases_of (map case_view xs))
+    (option_map (λ (b : Box held.Stmt Global). stmt_view b.value) other))))
+    (cases_of (map case_view xs))

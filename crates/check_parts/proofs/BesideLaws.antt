@@ -1,5 +1,6 @@
 -- All parts of a list, of which some may fall.
-use Rattle.std.proofs.Common.{◌≡◌, ◌+◌, ◌<◌, ◌≤◌, ℕ, List, [], ◌∷◌, length, drop, get_or, map, Bool, true, false, Result, refl, sym, ap, subst, ◌∙◌, arith}
+use Rattle.std.proofs.Common.{◌≡◌, ◌+◌, ◌<◌, ◌≤◌, ℕ, List, [], ◌∷◌, length, drop, get_or, map, Bool}
+use Rattle.std.proofs.Common.{true, false, Result, refl, sym, ap, subst, ◌∙◌, arith}
 use Rattle.std.specs.List.{Contains}
 use Rattle.std.proofs.lemmas.Bool.{false≢true}
 use Rattle.std.proofs.lemmas.List.{drop_all}
@@ -11,7 +12,8 @@ use Rattle.pawn_tree.specs.View.{dim_view, init_view}
 use Rattle.pawn_scopes.specs.Verdict.{Verdict, Stands, Breaks, Fault, after, faults_of}
 use Rattle.pawn_typing.specs.Around.{Around}
 use Rattle.pawn_typing.specs.Scope.{Scope}
-use Rattle.pawn_values.specs.Parts.{Judged, judged, with_part, all_parts, dim_part, init_part, init_parts}
+use Rattle.pawn_values.specs.Parts.{Judged, judged, with_part, all_parts, dim_part, init_part}
+use Rattle.pawn_values.specs.Parts.{init_parts}
 use Rattle.part_verdict.specs.declared.fault.PartFault.{PartFault}
 use Rattle.part_verdict.specs.declared.fault.PartFault.TheVariants.{Source, Fallen, Memory}
 use Rattle.part_verdict.specs.PartAnswers.{FailsPart, PartAnswers}
@@ -20,7 +22,8 @@ use Rattle.check_parts.specs.Beside.{beside_by, all_by}
 use Rattle.check_parts.specs.JudgedView.{judged_view}
 
 -- how the verdict of a list is made of those of its parts
-pub record AreParts {A : Type 0} (one : A → Verdict Judged) (all : List A → Verdict Judged) : Type 0 where
+pub record AreParts {A : Type 0} (one : A → Verdict Judged)
+    (all : List A → Verdict Judged) : Type 0 where
   pub none : all [] ≡ Stands judged
   pub more : (x : A) (xs : List A) → all (x ∷ xs) ≡ with_part (one x) (all xs)
 

@@ -6,12 +6,14 @@ use Rattle.pawn_program.specs.Scope.{Extent}
 use Rattle.pawn_scopes.specs.Verdict.{Verdict, Stands, Breaks, after}
 use Rattle.pawn_typing.specs.Around.{Around}
 use Rattle.pawn_typing.specs.Typed.{Typed, Form, Value, Place, Whole, Literal, Held}
-use Rattle.pawn_typing.specs.Assignments.{known_line, copied_cells, literal_cells, copied, copy_from, assign_cell, assign_to, set_rule}
+use Rattle.pawn_typing.specs.Assignments.{known_line, copied_cells, literal_cells, copied}
+use Rattle.pawn_typing.specs.Assignments.{copy_from, assign_cell, assign_to, set_rule}
 use Rattle.pawn_verdict.specs.declared.fault.CheckFault.{CheckFault}
 use Rattle.pawn_verdict.specs.Answers.{Answers}
 use Rattle.check_types.specs.declared.typed.Typed as held
 use Rattle.check_types.specs.TypedView.{typed_view}
-use Rattle.check_places.specs.Source.{Source, with_cells, source_in, array_target, copy_rule, is_array_form}
+use Rattle.check_places.specs.Source.{Source, with_cells, source_in, array_target, copy_rule}
+use Rattle.check_places.specs.Source.{is_array_form}
 
 by_cells : (cx : Around) (at : At) (x y : Typed) (to from : code.Array) (cells : Verdict ℕ)
     → after cells (λ n. Stands (copied cx at x y to from n))
@@ -33,7 +35,8 @@ copy_by_source cx at x y to extent (Literal object size) =
 
 by_target : (cx : Around) (at : At) (x y : Typed) (form : Form) → is_array_form form ≡ true
     → assign_to cx at x y form
-    ≡ after (array_target at form) (λ (to : Held). after (source_in at (known_line to.extent) y.form)
+    ≡ after (array_target at form)
+    (λ (to : Held). after (source_in at (known_line to.extent) y.form)
     (λ (it : Source). Stands (copied cx at x y to.array it.array it.cells)))
 by_target cx at x y (Value e) h = absurd (cc h)
 by_target cx at x y (Place p constant) h = absurd (cc h)

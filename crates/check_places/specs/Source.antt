@@ -8,7 +8,8 @@ use Rattle.pawn_scopes.specs.Verdict.{Verdict, Stands, after}
 use Rattle.pawn_typing.specs.declared.fault.TheConstants.{ARRAY_NOT_INDEXED, NOT_ASSIGNABLE}
 use Rattle.pawn_typing.specs.Rule.{broken}
 use Rattle.pawn_typing.specs.Typed.{Typed, Form, Value, Place, Whole, Literal, Held}
-use Rattle.pawn_typing.specs.Assignments.{unless_constant, known_line, copied_cells, literal_cells, copied}
+use Rattle.pawn_typing.specs.Assignments.{unless_constant, known_line, copied_cells, literal_cells}
+use Rattle.pawn_typing.specs.Assignments.{copied}
 use Rattle.check_places.specs.declared.assignments.Source as held
 
 -- the array that is copied, and how many of its cells

@@ -1,5 +1,6 @@
 -- Which functions the headings of a source say to be public.
-use Rattle.std.specs.Prelude.{◌≡◌, ℕ, List, [], ◌∷◌, Bool, true, false, ◌&&◌, length, slice_get, unwrap_or, Option, None, Some}
+use Rattle.std.specs.Prelude.{◌≡◌, ℕ, List, [], ◌∷◌, Bool, true, false, ◌&&◌, length, slice_get}
+use Rattle.std.specs.Prelude.{unwrap_or, Option, None, Some}
 use Rattle.std.specs.List.{list_any}
 use Rattle.pawn_automata.specs.Keys.{Key, Named, Operates, Enters, Misshapen}
 use Rattle.pawn_automata.specs.Groups.{Group, number_of}
@@ -35,6 +36,7 @@ module _ (names : List (List ℕ)) (fallback : List ℕ) where
   key_if true it = own_key names fallback it
   key_if false it = None
 
+  -- the function that a heading with `public` is of
   abbrev pub public_key : Heading → Option Key
   public_key it = key_if it.is_public it
 

@@ -5,5 +5,6 @@ mod marks;
 mod names;
 mod published;
 
+pub use names::names_by_number;
 pub use pawn_base::Memory;
 pub use published::{has_entry, publics};

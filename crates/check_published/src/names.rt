@@ -2,9 +2,13 @@ ghost use Rattle.std.specs.Prelude.{◌≡◌, ◌++◌, codes, map, IfOk};
 ghost use Rattle.pawn_token.specs.Signs.{sign_spelling};
 ghost use Rattle.pawn_typed.specs.Headings.{public_name};
 ghost use Rattle.pawn_typed.specs.Publics as spec;
+ghost use Rattle.check_groups.specs.GroupsView.{group_view};
 ghost use Rattle.check_groups.specs.WrittenView.{written_view};
+ghost use Rattle.check_sources.specs.SourceView.{source_view};
+ghost use Rattle.check_published.specs.Names as names;
 
-use check_groups::Written;
+use check_groups::{Group, Written};
+use check_sources::Source;
 use pawn_base::{Bytes, List, Memory};
 use pawn_token::Sign;
 use pawn_tree::HeadName;
@@ -50,4 +54,29 @@ pub fn group_name(alloc: Global, bodies: &List<Written>) -> Result<Bytes, Memory
         [] => Ok(Bytes::new(alloc)),
         [first, ..] => head_name(alloc, &first.function.head.name),
     }
+}
+
+/// The names of functions in order.
+fn names_of(alloc: Global, groups: &[Group]) -> Result<List<Bytes>, Memory>
+    ensures { IfOk result (λ list. list ≡
+        map (λ it. spec.group_name (group_view it).bodies) groups.now) }
+{
+    let mut list = List::new(alloc);
+    for group in groups {
+        list.push(group_name(alloc, &group.bodies)?)?;
+    }
+    Ok(list)
+}
+
+/// The names of the functions of a source by number, as they are written (Language Guide,
+/// "Functions", "User-defined operators"): several entry functions and operators may share one.
+///
+/// # Errors
+///
+/// `Memory` for want of memory.
+#[tactic(auto, using(crate::proofs::NameLaws::names_are))]
+pub fn names_by_number(alloc: Global, source: &Source) -> Result<List<Bytes>, Memory>
+    ensures { IfOk result (λ list. list ≡ names.function_names (source_view source.now)) }
+{
+    names_of(alloc, source.groups.as_slice())
 }

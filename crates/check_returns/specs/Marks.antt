@@ -1,5 +1,6 @@
 -- What code marks of the returns of each function, and how it answers those behind them.
-use Rattle.std.specs.Prelude.{◌≡◌, ℕ, List, map, Bool, true, false, not, ◌||◌, Option, None, Some, Result, Ok, Err, slice_index_or}
+use Rattle.std.specs.Prelude.{◌≡◌, ℕ, List, map, Bool, true, false, not, ◌||◌, Option, None, Some}
+use Rattle.std.specs.Prelude.{Result, Ok, Err, slice_index_or}
 use Rattle.std.specs.List.{list_any}
 use Rattle.pawn_scopes.specs.Verdict.{Fault}
 use Rattle.pawn_typing.specs.declared.fault.TheConstants.{RETURN_MIXED}
@@ -17,7 +18,8 @@ pub record Seen : Type 0 where
 
 -- of some returns
 abbrev pub seen_in : List Returned → Seen
-seen_in returns = record { with_value = list_any gives returns; without = list_any gives_none returns }
+seen_in returns =
+    record { with_value = list_any gives returns; without = list_any gives_none returns }
 
 -- and of those before them
 abbrev pub seen_behind : Seen → List Returned → Seen
@@ -50,9 +52,11 @@ Told mark returns (Err it) =
     (seen_behind (seen_by mark) returns ≡ both_seen) × Fails (mixed_at returns) it
 
 -- the answer is told of these returns
-pub record Agrees (mark : Option Bool) (returns : List Returned) (result : Result (Option Bool) CheckFault) : Type 0 where
+pub record Agrees (mark : Option Bool) (returns : List Returned)
+    (result : Result (Option Bool) CheckFault) : Type 0 where
   pub told : Told mark returns result
 
 -- what is marked and what is left are the returns of each function
 pub record AreMarked (all rest : List Bodied) (marks : List (Option Bool)) : Type 0 where
-  pub same : (number : ℕ) → seen_behind (seen_by (mark_of marks number)) (returns_of rest number) ≡ seen_in (returns_of all number)
+  pub same : (number : ℕ) → seen_behind (seen_by (mark_of marks number)) (returns_of rest number)
+      ≡ seen_in (returns_of all number)

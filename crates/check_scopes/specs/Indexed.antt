@@ -6,6 +6,7 @@ use Rattle.std.specs.Map.{lookup}
 use Rattle.check_scopes.specs.declared.scopes.Declared.{Declared}
 use Rattle.check_scopes.specs.Scopes.{Stack, depth_of, meant_by, IsChain}
 
+-- for each name the declaration that it means now
 abbrev pub Table : Type 0
 Table = List (Bor (List ℕ) × Option Declared)
 
@@ -14,6 +15,7 @@ abbrev pub now_in : Option (Option Declared) → Option Declared
 now_in None = None
 now_in (Some now) = now
 
+-- the table of a list of declarations, and the number of open blocks
 pub record IsIndexed (stack : Stack) (table : Table) (depth : ℕ) : Type 0 where
   pub index : (name : List ℕ)
       → now_in (lookup (λ key. bytes_eq name key.now) table) ≡ meant_by stack name

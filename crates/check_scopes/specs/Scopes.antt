@@ -1,6 +1,7 @@
--- The declarations in sight as code holds them: each name with what it means, block by block with the
--- innermost first; and as one list, the latest first, with None where a block begins.
-use Rattle.std.specs.Prelude.{◌≡◌, ℕ, suc, ◌-◌, nat_eq, if◌then◌else◌, List, [], ◌∷◌, ◌++◌, length, map, take, Option, Some, None}
+-- The declarations in sight as code holds them: each name with what it means, block by block with
+-- the innermost first; and as one list, the latest first, with None where a block begins.
+use Rattle.std.specs.Prelude.{◌≡◌, ℕ, suc, ◌-◌, nat_eq, if◌then◌else◌, List, [], ◌∷◌, ◌++◌, length}
+use Rattle.std.specs.Prelude.{map, take, Option, Some, None}
 use Rattle.std.specs.Str.{bytes_eq}
 use Rattle.pawn_typing.specs.Scope.{Scope, Meaning, Unknown, Entry, with_block, with_entries}
 use Rattle.check_types.specs.MeaningView.{meaning_view}

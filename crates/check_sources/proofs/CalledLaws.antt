@@ -1,5 +1,6 @@
 -- A set of names has those of a list; the names that bodies call, body by body.
-use Rattle.std.proofs.Common.{◌≡◌, ◌+◌, ◌<◌, ℕ, Bool, true, false, ◌||◌, if◌then◌else◌, List, [], ◌∷◌, ◌++◌, map, length, get_or, drop, refl, sym, ap, ◌∙◌}
+use Rattle.std.proofs.Common.{◌≡◌, ◌+◌, ◌<◌, ℕ, Bool, true, false, ◌||◌, if◌then◌else◌, List, []}
+use Rattle.std.proofs.Common.{◌∷◌, ◌++◌, map, length, get_or, drop, refl, sym, ap, ◌∙◌}
 use Rattle.std.specs.Prelude.{flat_map}
 use Rattle.std.specs.List.{list_any}
 use Rattle.std.specs.Str.{bytes_eq}
@@ -25,16 +26,21 @@ or_kept true b h = refl
 or_kept false true h = h refl
 or_kept false false h = refl
 
-equal_among : (x name : List ℕ) (names : List (List ℕ)) → is_among name names ≡ true → bytes_eq x name ≡ true → is_among x names ≡ true
-equal_among x name names h e = ap (λ (n : List ℕ). is_among n names) ((bytes_decides x name).0 e) ∙ h
+equal_among : (x name : List ℕ) (names : List (List ℕ)) → is_among name names ≡ true
+    → bytes_eq x name ≡ true → is_among x names ≡ true
+equal_among x name names h e =
+    ap (λ (n : List ℕ). is_among n names) ((bytes_decides x name).0 e) ∙ h
 
 by_among : (b : Bool) (x name : List ℕ) (names : List (List ℕ)) → is_among name names ≡ b
     → is_among x (if b then names else names ++ name ∷ []) ≡ is_among x names || bytes_eq x name
-by_among true x name names h = or_kept (is_among x names) (bytes_eq x name) (equal_among x name names h)
+by_among true x name names h =
+    or_kept (is_among x names) (bytes_eq x name) (equal_among x name names h)
 by_among false x name names h =
-    list_any-append (bytes_eq x) names (name ∷ []) ∙ ap (λ (b : Bool). is_among x names || b) (or_none (bytes_eq x name))
+    list_any-append (bytes_eq x) names (name ∷ [])
+    ∙ ap (λ (b : Bool). is_among x names || b) (or_none (bytes_eq x name))
 
-pub among_all : (x : List ℕ) (names more : List (List ℕ)) → is_among x (with_names names more) ≡ is_among x names || is_among x more
+pub among_all : (x : List ℕ) (names more : List (List ℕ))
+    → is_among x (with_names names more) ≡ is_among x names || is_among x more
 among_all x names [] = sym (or_none (is_among x names))
 among_all x names (name ∷ more) =
     among_all x (with_name names name) more
@@ -45,10 +51,12 @@ append_none : (xs : List (List ℕ)) → xs ≡ xs ++ []
 append_none [] = refl
 append_none (x ∷ xs) = ap (λ (r : List (List ℕ)). x ∷ r) (append_none xs)
 
-called_more : (x : plain.Written) (xs : List plain.Written) → called_by (x ∷ xs) ≡ called_by (x ∷ []) ++ called_by xs
+called_more : (x : plain.Written) (xs : List plain.Written)
+    → called_by (x ∷ xs) ≡ called_by (x ∷ []) ++ called_by xs
 called_more x xs = ap (λ (r : List (List ℕ)). r ++ called_by xs) (append_none _)
 
-pub called_on : (items : List Written) (i : ℕ) (x : Written) (old now : List (List ℕ)) → old ++ called_by (map written_view (drop i items)) ≡ called_by (map written_view items)
+pub called_on : (items : List Written) (i : ℕ) (x : Written) (old now : List (List ℕ))
+    → old ++ called_by (map written_view (drop i items)) ≡ called_by (map written_view items)
     → i < length items → x ≡ get_or items i x → now ≡ old ++ called_by (written_view x ∷ [])
     → now ++ called_by (map written_view (drop (i + 1) items)) ≡ called_by (map written_view items)
 called_on = gathered written_view called_by called_more

@@ -1,6 +1,7 @@
 -- The headings of a source, declaration by declaration.
 use Rattle.std.proofs.Common.{◌≡◌, [], ◌∷◌, ◌++◌, refl}
-use Rattle.pawn_tree.specs.Declarations.{Decl, Variables, Constant, Enum, Native, Forward, Function, Tree}
+use Rattle.pawn_tree.specs.Declarations.{Decl, Variables, Constant, Enum, Native, Forward, Function}
+use Rattle.pawn_tree.specs.Declarations.{Tree}
 use Rattle.pawn_typed.specs.Headings.{headings}
 
 pub headings_more : (x : Decl) (xs : Tree) → headings (x ∷ xs) ≡ headings (x ∷ []) ++ headings xs

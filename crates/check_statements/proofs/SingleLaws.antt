@@ -1,5 +1,6 @@
 -- One statement where the program has room for one.
-use Rattle.std.proofs.Common.{◌≡◌, ◌≢◌, true, false, List, [], ◌∷◌, ◌++◌, length, map, refl, ap, arith, length-append}
+use Rattle.std.proofs.Common.{◌≡◌, ◌≢◌, true, false, List, [], ◌∷◌, ◌++◌, length, map, refl, ap}
+use Rattle.std.proofs.Common.{arith, length-append}
 use Rattle.pawn_program.specs.Program.{Stmt, Local, LocalArray, Block, Empty, no_stmts, then_stmt}
 use Rattle.pawn_program.specs.Program as plain
 use Rattle.pawn_program.specs.View.{stmt_view, stmts_view}
@@ -21,14 +22,16 @@ of_other _ h = refl
 
 pub ruleset alone = (of_variable, of_other, stmt_view-Block)
 
-only_is : {A : Type 0} (all rest : List A) (x : A) → all ≡ rest ++ x ∷ [] → length all ≡ 1 → all ≡ x ∷ []
+only_is : {A : Type 0} (all rest : List A) (x : A) → all ≡ rest ++ x ∷ [] → length all ≡ 1
+    → all ≡ x ∷ []
 only_is all [] x e h = e
 only_is all (y ∷ rest) x e h =
     absurd (omega (arith, h, ap length e, length-append (y ∷ rest) (x ∷ [])))
 
 pub of_one : (all rest : List held.Stmt) (s : held.Stmt) → all ≡ rest ++ s ∷ [] → length all ≡ 1
     → one (map stmt_view all) ≡ one (stmt_view s ∷ [])
-of_one all rest s e h = ap (λ (ss : List held.Stmt). one (map stmt_view ss)) (only_is all rest s e h)
+of_one all rest s e h =
+    ap (λ (ss : List held.Stmt). one (map stmt_view ss)) (only_is all rest s e h)
 
 pub of_none : (ss : List held.Stmt) → length ss ≡ 0 → one (map stmt_view ss) ≡ Empty
 of_none [] h = refl

@@ -51,4 +51,5 @@ maybe_view it = record {
 -- what stands behind `else` and `default`, or nothing
 abbrev pub other_view : Option Stood → rules.Other
 other_view None = record { stood = plain.nothing_stood; other = no_else }
-other_view (Some it) = record { stood = stood_view it; other = otherwise (plain.one_of (stood_view it)) }
+other_view (Some it) =
+    record { stood = stood_view it; other = otherwise (plain.one_of (stood_view it)) }

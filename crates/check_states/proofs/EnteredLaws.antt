@@ -1,5 +1,6 @@
 -- Automata whose entry functions are found one by one.
-use Rattle.std.proofs.Common.{◌≡◌, ◌<◌, ◌+◌, ℕ, zero, suc, List, [], ◌∷◌, length, get_or, Option, Some, refl, sym, ap, ◌∙◌, arith}
+use Rattle.std.proofs.Common.{◌≡◌, ◌<◌, ◌+◌, ℕ, zero, suc, List, [], ◌∷◌, length, get_or, Option}
+use Rattle.std.proofs.Common.{Some, refl, sym, ap, ◌∙◌, arith}
 use Rattle.std.specs.Prelude.{slice_get}
 use Rattle.std.proofs.lemmas.List.{length-map}
 use Rattle.pawn_program.specs.Program.{Automaton}
@@ -11,7 +12,8 @@ use Rattle.check_automata.specs.AutomataView.{known_view, automata_view, known_e
 use Rattle.check_automata.specs.Update.{updated}
 use Rattle.check_automata.proofs.PlaceLaws.{map_updated}
 
-got : (items : List KnownAutomaton) (i : ℕ) (x : KnownAutomaton) → i < length items → x ≡ get_or items i x
+got : (items : List KnownAutomaton) (i : ℕ) (x : KnownAutomaton) → i < length items
+    → x ≡ get_or items i x
     → slice_get (automata_view items) i ≡ Some (known_view x)
 got [] i x lt is = absurd (omega (arith, lt))
 got (y ∷ ys) zero x lt is = ap (λ (z : KnownAutomaton). Some (known_view z)) (sym is)
@@ -30,21 +32,27 @@ module _ (groups : List Group) where
   enter_first (suc n) [] = []
   enter_first (suc n) (it ∷ more) = enter_by it ∷ enter_first n more
 
-  enter_step : (all : List Automaton) (i : ℕ) (it : Automaton) (function : Option ℕ) → slice_get (enter_first i all) i ≡ Some it
+  enter_step : (all : List Automaton) (i : ℕ) (it : Automaton) (function : Option ℕ)
+      → slice_get (enter_first i all) i ≡ Some it
       → function ≡ number_of groups (Enters it.name)
       → updated (enter_first i all) i (with_enter function) ≡ enter_first (suc i) all
   enter_step [] zero it function h e = absurd (let no : ⊥ = cc in no)
   enter_step [] (suc i) it function h e = absurd (let no : ⊥ = cc in no)
   enter_step (x ∷ xs) zero it function h e =
       let same : it ≡ x = cc in
-      ap (λ (f : Option ℕ). record x { enter = f } ∷ xs) (e ∙ ap (λ (a : Automaton). number_of groups (Enters a.name)) same)
-  enter_step (x ∷ xs) (suc i) it function h e = ap (λ (rest : List Automaton). enter_by x ∷ rest) (enter_step xs i it function h e)
+      ap (λ (f : Option ℕ). record x { enter = f } ∷ xs)
+      (e ∙ ap (λ (a : Automaton). number_of groups (Enters a.name)) same)
+  enter_step (x ∷ xs) (suc i) it function h e =
+      ap (λ (rest : List Automaton). enter_by x ∷ rest) (enter_step xs i it function h e)
 
-  pub entered_more : (all : List Automaton) (i : ℕ) (old now : List KnownAutomaton) (x : KnownAutomaton) (function : Option ℕ)
-      → automata_view old ≡ enter_first i all → i < length old → x ≡ get_or old i x → function ≡ number_of groups (Enters x.name)
+  pub entered_more : (all : List Automaton) (i : ℕ) (old now : List KnownAutomaton)
+      (x : KnownAutomaton) (function : Option ℕ)
+      → automata_view old ≡ enter_first i all → i < length old → x ≡ get_or old i x
+      → function ≡ number_of groups (Enters x.name)
       → now ≡ updated old i (known_entered function) → automata_view now ≡ enter_first (i + 1) all
   entered_more all i old now x function h lt is f e =
-      let here : slice_get (enter_first i all) i ≡ Some (known_view x) = ap (λ (its : List Automaton). slice_get its i) (sym h) ∙ got old i x lt is in
+      let here : slice_get (enter_first i all) i ≡ Some (known_view x) =
+      ap (λ (its : List Automaton). slice_get its i) (sym h) ∙ got old i x lt is in
       let next : suc i ≡ i + 1 = omega arith in
       ap automata_view e
       ∙ map_updated known_view old i (known_entered function) (with_enter function) (λ y. refl)
@@ -57,7 +65,9 @@ module _ (groups : List Group) where
   all_entered [] = refl
   all_entered (it ∷ more) = ap (λ (rest : List Automaton). enter_by it ∷ rest) (all_entered more)
 
-  pub entered_all : (begin now : List KnownAutomaton) (i : ℕ) → automata_view now ≡ enter_first i (automata_view begin) → i ≡ length begin
+  pub entered_all : (begin now : List KnownAutomaton) (i : ℕ)
+      → automata_view now ≡ enter_first i (automata_view begin) → i ≡ length begin
       → automata_view now ≡ entered groups (automata_view begin)
   entered_all begin now i h n =
-      h ∙ ap (λ (m : ℕ). enter_first m (automata_view begin)) (n ∙ sym (length-map begin known_view)) ∙ all_entered (automata_view begin)
+      h ∙ ap (λ (m : ℕ). enter_first m (automata_view begin))
+      (n ∙ sym (length-map begin known_view)) ∙ all_entered (automata_view begin)

@@ -1,5 +1,6 @@
 -- Which functions name states, by their numbers.
-use Rattle.std.specs.Prelude.{◌≡◌, ℕ, List, Bool, false, map, Option, None, Some, slice_get, unwrap_or}
+use Rattle.std.specs.Prelude.{◌≡◌, ℕ, List, Bool, false, map, Option, None, Some, slice_get}
+use Rattle.std.specs.Prelude.{unwrap_or}
 use Rattle.std.specs.List.{list_any}
 use Rattle.pawn_automata.specs.Groups.{Written, Group}
 use Rattle.pawn_automata.specs.Automata.{names_states}

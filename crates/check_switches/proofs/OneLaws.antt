@@ -23,4 +23,10 @@ alone x s = record {
 
 pub alone_is : (x : Labels) (s : Stood) → bare (one_cased x s) ≡ alone x s
 alone_is x s =
-    rw (append-nil s.slots, append-nil s.objects, append-nil s.returns, append-nil (x.warned ++ s.warned), append-nil x.ranges) refl
+    rw (
+      append-nil s.slots,
+      append-nil s.objects,
+      append-nil s.returns,
+      append-nil (x.warned ++ s.warned),
+      append-nil x.ranges,
+    ) refl

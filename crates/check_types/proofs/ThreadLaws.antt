@@ -1,5 +1,7 @@
--- What is known behind each element of a list, where each changes what there is so far. For callers.
-use Rattle.std.proofs.Common.{◌≡◌, ℕ, ◌+◌, ◌<◌, ◌≤◌, List, [], ◌∷◌, length, drop, get_or, map, refl, ◌∙◌, add-one, drop-cons}
+-- What is known behind each element of a list, where each changes what there is so far. For
+-- callers.
+use Rattle.std.proofs.Common.{◌≡◌, ℕ, ◌+◌, ◌<◌, ◌≤◌, List, [], ◌∷◌, length, drop, get_or, map, refl}
+use Rattle.std.proofs.Common.{◌∙◌, add-one, drop-cons}
 use Rattle.std.proofs.lemmas.List.{drop_all}
 use Rattle.pawn_scopes.specs.Verdict.{Verdict, Stands, after, faults_of}
 use Rattle.pawn_typing.specs.Rule.{thread}
@@ -12,7 +14,8 @@ pub next : {A : Type 0} (xs : List A) (i : ℕ) (x : A) → i < length xs → x 
     → drop i xs ≡ x ∷ drop (i + 1) xs
 next xs i x lt e = rw (add-one i, drop-cons xs i x, ← e) refl
 
-module _ {T G H : Type 0} (view : H → G) (step : T → G → Verdict T) (begin : T) (list : List H) where
+module _ {T G H : Type 0} (view : H → G) (step : T → G → Verdict T) (begin : T)
+    (list : List H) where
   -- so far it stands, and the rest goes on from there
   pub record Threaded (i : ℕ) (done : T) : Type 0 where
     pub same : thread step begin (map view list) ≡ thread step done (map view (drop i list))

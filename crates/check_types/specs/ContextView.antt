@@ -9,12 +9,14 @@ use Rattle.check_types.specs.declared.context.Callable.{Callable}
 use Rattle.check_types.specs.declared.context.Context.{Context}
 use Rattle.check_types.specs.ExtentView.{extent_view}
 
+-- none, a constant, or the size or tag of another parameter's argument
 abbrev pub default_view : ParamDefault → plain.Default
 default_view default.Nothing = plain.NoDefault
 default_view (default.Always value tag) = plain.Always value tag
 default_view (default.SizeOf number) = plain.SizeOf number
 default_view (default.TagOf number) = plain.TagOf number
 
+-- the name, `const`, `&`, tags, sizes and default
 abbrev pub param_view : Param → plain.Param
 param_view x = record {
   name = x.name;
@@ -25,13 +27,16 @@ param_view x = record {
   default = default_view x.default;
 }
 
+-- the parameters of a function, and the tags of `...` if it has that
 abbrev pub head_view : Head → plain.Head
 head_view x = record { params = map param_view x.params; rest = x.rest }
 
+-- a function or native that can be called
 abbrev pub callable_view : Callable → plain.Callable
 callable_view x =
     record { number = x.number; tag = x.tag; head = option_map head_view x.head }
 
+-- tags, operators, functions and natives
 abbrev pub around_view : Context → plain.Around
 around_view cx = record {
   tags = cx.tags;

@@ -21,6 +21,7 @@ place_view (array.Object object) = code.Object object
 place_view (array.Slot slot) = code.SlotArray slot
 place_view (array.Param slot known) = code.ParamArray slot known
 
+-- a constant, a variable, an array, a function, or a name that is taken
 abbrev pub meaning_view : Meaning → plain.Meaning
 meaning_view (means.Constant value tag) = plain.Constant value tag
 meaning_view (means.Variable at tag constant) = plain.Variable (cell_view at) tag constant

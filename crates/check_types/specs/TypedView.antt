@@ -7,6 +7,7 @@ use Rattle.check_types.specs.declared.typed.Form.TheVariants as form
 use Rattle.check_types.specs.declared.typed.Typed.{Typed}
 use Rattle.check_types.specs.ExtentView.{extent_view}
 
+-- what an expression is to its surroundings
 abbrev pub form_view : Form → plain.Form
 form_view (form.Value e) = plain.Value (expr_view e)
 form_view (form.Place place constant) = plain.Place (scalar_view place) constant
@@ -14,6 +15,7 @@ form_view (form.Whole whole extent constant) =
     plain.Whole (array_view whole) (extent_view extent) constant
 form_view (form.Literal object cells) = plain.Literal object cells
 
+-- the expression with its tag, its value, its literals and its warnings
 abbrev pub typed_view : Typed → plain.Typed
 typed_view x = record {
   at = x.at;

@@ -1,5 +1,7 @@
 -- The first values of a list, one behind another, of which some may fall.
-use Rattle.std.proofs.Common.{◌≡◌, ◌+◌, ◌<◌, ◌≤◌, ℕ, List, [], ◌∷◌, length, drop, get_or, map, Option, Some, None, Bool, true, false, Result, refl, sym, ap, subst, ◌∙◌, append_assoc, append-nil, arith}
+use Rattle.std.proofs.Common.{◌≡◌, ◌+◌, ◌<◌, ◌≤◌, ℕ, List, [], ◌∷◌, length, drop, get_or, map}
+use Rattle.std.proofs.Common.{Option, Some, None, Bool, true, false, Result, refl, sym, ap, subst}
+use Rattle.std.proofs.Common.{◌∙◌, append_assoc, append-nil, arith}
 use Rattle.std.specs.List.{Contains}
 use Rattle.std.proofs.lemmas.Bool.{false≢true}
 use Rattle.std.proofs.lemmas.List.{drop_all}
@@ -11,7 +13,8 @@ use Rattle.pawn_tree.specs.View.{init_view}
 use Rattle.pawn_scopes.specs.Verdict.{Verdict, Stands, Breaks, Fault, after, both, faults_of}
 use Rattle.pawn_typing.specs.Around.{Around}
 use Rattle.pawn_typing.specs.Scope.{Scope}
-use Rattle.pawn_values.specs.FirstValues.{First, no_cells, first_behind, cell_of_list, cells_of_list, first_cells, rows}
+use Rattle.pawn_values.specs.FirstValues.{First, no_cells, first_behind, cell_of_list}
+use Rattle.pawn_values.specs.FirstValues.{cells_of_list, first_cells, rows}
 use Rattle.part_verdict.specs.declared.fault.PartFault.{PartFault}
 use Rattle.part_verdict.specs.declared.fault.PartFault.TheVariants.{Source, Fallen, Memory}
 use Rattle.part_verdict.specs.PartAnswers.{FailsPart, PartAnswers}
@@ -21,7 +24,8 @@ use Rattle.check_values.specs.Joined.{joined_by, stood_by}
 use Rattle.check_values.specs.ValueViews.{first_view}
 
 -- how the verdict of a list is made of those of its values
-pub record Joins (one : held.Init → Verdict First) (all : List held.Init → Verdict First) : Type 0 where
+pub record Joins (one : held.Init → Verdict First)
+    (all : List held.Init → Verdict First) : Type 0 where
   pub none : all [] ≡ Stands no_cells
   pub more : (x : held.Init) (xs : List held.Init)
       → all (x ∷ xs) ≡ both (one x) (all xs) (λ v others. Stands (first_behind v others))
@@ -91,7 +95,8 @@ broken_with faults = Breaks faults
 not_none : {A : Type 0} (fault : Fault) (more : List Fault)
     → broken_with (fault ∷ more) ≡ broken_with [] → A
 not_none fault more h =
-    let k : length (fault ∷ more) ≡ 0 = ap (λ (v : Verdict (Option First)). length (faults_of v)) h in
+    let k : length (fault ∷ more) ≡ 0 =
+    ap (λ (v : Verdict (Option First)). length (faults_of v)) h in
     absurd (omega (arith, k))
 
 left_fails : (values : Option First) (v w : Verdict First) (fault : PartFault)

@@ -27,7 +27,8 @@ module _ (cx : Around) (scope : Scope) (at : At) (tag : ℕ) (begin : At) (list 
       → local_value cx scope before at tag (Some (init_view (held.Braces begin list goes_on)))
       ≡ broken NOT_AN_ARRAY at
   local_list before =
-      ap (λ (it : Init). local_value cx scope before at tag (Some it)) (braces_view begin list goes_on)
+      ap (λ (it : Init). local_value cx scope before at tag (Some it))
+      (braces_view begin list goes_on)
 
   pub cell_list : cell_of_list cx scope at tag (init_view (held.Braces begin list goes_on))
       ≡ broken SIZES_DIFFER at

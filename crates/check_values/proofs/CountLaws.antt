@@ -1,5 +1,6 @@
 -- The first size by counts.
-use Rattle.std.proofs.Common.{◌≡◌, ℕ, ℤ, Bool, List, [], ◌∷◌, length, map, Option, None, Some, option_map, true, false, Result, refl, sym, ap, subst, ◌∙◌, arith}
+use Rattle.std.proofs.Common.{◌≡◌, ℕ, ℤ, Bool, List, [], ◌∷◌, length, map, Option, None, Some}
+use Rattle.std.proofs.Common.{option_map, true, false, Result, refl, sym, ap, subst, ◌∙◌, arith}
 use Rattle.pawn_arrays.specs.Sizes.{inner_sizes}
 use Rattle.pawn_tree.specs.declared.name.At.{At}
 use Rattle.pawn_tree.specs.declared.variable.Init as held
@@ -39,7 +40,8 @@ pub size_from_text : (cx : Around) (scope : Scope) (at : At) (inner : List ℕ) 
 size_from_text cx scope at inner e x result stands answered =
     let P : Verdict ℕ → Type 0 = λ w. PartAnswers (λ (size : ℕ). size) w result in
     subst P (sym (
-    ap (λ (w : Verdict Typed). after w (λ (y : Typed). text_size cx scope at inner (literal_in y y.form)))
+    ap (λ (w : Verdict Typed). after w
+    (λ (y : Typed). text_size cx scope at inner (literal_in y y.form)))
     stands
     ∙ text_size_is cx scope at inner (literal_in x x.form))) answered
 
@@ -50,7 +52,8 @@ held_count [] = refl
 held_count (x ∷ list) = let h = held_count list in omega (arith, h)
 
 plain_list : (cx : Around) (scope : Scope) (at begin : At) (inner : List ℕ) (list : List held.Init)
-    (goes_on : Bool) → size_from cx scope at inner (Braces begin (inits (map init_view list)) goes_on)
+    (goes_on : Bool) → size_from cx scope at inner
+    (Braces begin (inits (map init_view list)) goes_on)
     ≡ counted at (length list) goes_on
 plain_list cx scope at begin inner list true = refl
 plain_list cx scope at begin inner list false = ap (λ (n : ℕ). counted at n false) (held_count list)

@@ -1,5 +1,6 @@
 -- The sizes behind the first, one by one.
-use Rattle.std.proofs.Common.{◌≡◌, ◌<◌, ◌≤◌, ℕ, List, [], ◌∷◌, Option, None, Some, length, get_or, map, refl, sym, ap, ◌∙◌, arith, append-nil}
+use Rattle.std.proofs.Common.{◌≡◌, ◌<◌, ◌≤◌, ℕ, List, [], ◌∷◌, Option, None, Some, length, get_or}
+use Rattle.std.proofs.Common.{map, refl, sym, ap, ◌∙◌, arith, append-nil}
 use Rattle.std.proofs.lemmas.Bool.{le-leb, lt-leb}
 use Rattle.std.proofs.lemmas.List.{length-map}
 use Rattle.pawn_tree.specs.declared.name.At.{At}
@@ -31,7 +32,8 @@ before_none at warned (Some size) =
     ap (λ (all : List At). Stands (record { sizes = size ∷ []; warned = all })) (append-nil warned)
 
 with_none : (at : At) (w : Verdict Dimension)
-    → after w (λ it. with_size at it.warned it.size none) ≡ after w (λ it. single at it.warned it.size)
+    → after w (λ it. with_size at it.warned it.size none)
+    ≡ after w (λ it. single at it.warned it.size)
 with_none at (Stands it) = before_none at it.warned it.size
 with_none at (Breaks faults) = refl
 
@@ -48,7 +50,8 @@ module _ (cx : Around) (scope : Scope) (at : At) where
   one_size (it ∷ []) dim one e =
       let P : held.Dim → Verdict Inner = λ (d : held.Dim).
       after (dimension cx scope at (dim_view d)) (λ x. single at x.warned x.size) in
-      beside (dimension cx scope at (dim_view it)) none (λ x more. with_size at x.warned x.size more)
+      beside (dimension cx scope at (dim_view it)) none
+      (λ x more. with_size at x.warned x.size more)
       ∙ with_none at (dimension cx scope at (dim_view it))
       ∙ ap P (sym e)
   one_size (it ∷ second ∷ dims) dim one e = absurd (omega (arith, one))

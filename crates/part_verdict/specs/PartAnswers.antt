@@ -1,5 +1,5 @@
--- How code answers the verdict of a part: with what stands, with one of its faults, or that it falls
--- without a fault of its own. Want of memory is free.
+-- How code answers the verdict of a part: with what stands, with one of its faults, or that it
+-- falls without a fault of its own. Want of memory is free.
 use Rattle.std.specs.Prelude.{◌≡◌, [], Result, Ok, Err}
 use Rattle.std.specs.List.{Contains}
 use Rattle.pawn_scopes.specs.Verdict.{Verdict, Stands, Breaks, faults_of}

@@ -66,7 +66,8 @@ unfolding grouped classified entered
 all = refl
 
 -- the fallback of entry functions that name several automata is the anonymous one's
-several : entry_fallback (body (codes "entry") (of (codes "a") (codes "s") ∷ []) ∷ body (codes "entry") (of (codes "b") (codes "s") ∷ []) ∷ [])
+several : entry_fallback (body (codes "entry") (of (codes "a") (codes "s") ∷ [])
+    ∷ body (codes "entry") (of (codes "b") (codes "s") ∷ []) ∷ [])
     ≡ []
 several = refl
 

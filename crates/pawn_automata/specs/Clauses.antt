@@ -12,6 +12,7 @@ pub record Item : Type 0 where
   pub automaton : List ℕ
   pub state : List ℕ
 
+-- the automaton that is named, else the last one
 abbrev pub named_or : List ℕ → Option n.Name → List ℕ
 named_or last None = last
 named_or last (Some name) = name.bytes
@@ -23,9 +24,11 @@ items_behind last (it ∷ more) =
     record { automaton = named_or last it.automaton; state = it.state.bytes }
     ∷ items_behind (named_or last it.automaton) more
 
+-- the states of a classifier, each with its automaton
 abbrev pub items : List StateName → List Item
 items states = items_behind [] states
 
+-- the automaton of a classifier, by its first state
 abbrev pub automaton_of : List Item → List ℕ
 automaton_of [] = []
 automaton_of (it ∷ more) = it.automaton

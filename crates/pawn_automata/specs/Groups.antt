@@ -1,13 +1,15 @@
 -- The functions of a source: bodies with one key are one function, which counts from its first
 -- body.
-use Rattle.std.specs.Prelude.{ℕ, List, [], ◌∷◌, ◌++◌, Bool, false, if◌then◌else◌, Option, None, Some, position}
+use Rattle.std.specs.Prelude.{ℕ, List, [], ◌∷◌, ◌++◌, Bool, false, if◌then◌else◌, Option, None}
+use Rattle.std.specs.Prelude.{Some, position}
 use Rattle.std.specs.Str.{bytes_eq}
 use Rattle.name_table.specs.Among.{with_name}
 use Rattle.pawn_tree.specs.declared.name.At.{At}
 use Rattle.pawn_tree.specs.declared.name.StateName.{StateName}
 use Rattle.pawn_tree.specs.declared.declaration.HeadName.{HeadName}
 use Rattle.pawn_tree.specs.declared.declaration.HeadName.TheVariants as called
-use Rattle.pawn_tree.specs.Declarations.{FunctionOf, Variables, Constant, Enum, Native, Forward, Function, Tree}
+use Rattle.pawn_tree.specs.Declarations.{FunctionOf, Variables, Constant, Enum, Native, Forward}
+use Rattle.pawn_tree.specs.Declarations.{Function, Tree}
 use Rattle.pawn_automata.specs.Clauses.{clause}
 use Rattle.pawn_automata.specs.Keys.{Key, entry_name, key_of, same_key}
 
@@ -16,6 +18,7 @@ pub record Written : Type 0 where
   pub at : At
   pub function : FunctionOf
 
+-- a function with its bodies, in token order
 pub record Group : Type 0 where
   pub key : Key
   pub bodies : List Written
@@ -32,15 +35,18 @@ written (Function at it ∷ more) = record { at = at; function = it } ∷ writte
 
 -- ---- the fallback of entry functions
 
+-- the name of an entry function
 abbrev pub is_entry : HeadName → Bool
 is_entry (called.Name name) = bytes_eq name.bytes entry_name
 is_entry (called.Operator at sign) = false
 
+-- with the automaton that a classifier names, unless it is there
 abbrev pub with_automaton : List (List ℕ) → Option (List StateName) → List (List ℕ)
 with_automaton names None = names
 with_automaton names (Some []) = names
 with_automaton names (Some (it ∷ more)) = with_name names (clause (it ∷ more)).automaton
 
+-- with the automaton of a body, if that is an entry function's
 abbrev pub with_entry : List (List ℕ) → Written → List (List ℕ)
 with_entry names it =
     if is_entry it.function.head.name then with_automaton names it.function.states else names
@@ -57,6 +63,7 @@ only_one [] = []
 only_one (name ∷ []) = name
 only_one (name ∷ second ∷ more) = []
 
+-- the automaton of an entry function whose classifier names none
 abbrev pub entry_fallback : Tree → List ℕ
 entry_fallback tree = only_one (entry_automata [] (written tree))
 
@@ -70,9 +77,11 @@ with_body (group ∷ more) key it =
     else group ∷ with_body more key it
 
 module _ (names : List (List ℕ)) (fallback : List ℕ) where
+  -- which function it is of, by its head and the classifier behind that
   abbrev pub body_key : Written → Key
   body_key it = key_of names fallback it.function.head it.function.states
 
+  -- further bodies, each put to its function
   unfoldable pub grouped : List Group → List Written → List Group
   grouped groups [] = groups
   grouped groups (it ∷ more) = grouped (with_body groups (body_key it) it) more

@@ -1,7 +1,8 @@
 -- Which function a head is of: one by its name, an operator by its sign and the tags of its
 -- operands, the entry function of an automaton (Language Guide, "Functions", "User-defined
 -- operators", "Automata").
-use Rattle.std.specs.Prelude.{ℕ, List, [], ◌∷◌, codes, Bool, false, ◌&&◌, if◌then◌else◌, length, nat_eq, Option, None, Some}
+use Rattle.std.specs.Prelude.{ℕ, List, [], ◌∷◌, codes, Bool, false, ◌&&◌, if◌then◌else◌, length}
+use Rattle.std.specs.Prelude.{nat_eq, Option, None, Some}
 use Rattle.std.specs.Str.{bytes_eq}
 use Rattle.pawn_tree.specs.declared.name.StateName.{StateName}
 use Rattle.pawn_tree.specs.declared.declaration.HeadName.{HeadName}
@@ -15,6 +16,7 @@ use Rattle.pawn_tags.specs.declared.op.Signature.{Signature}
 use Rattle.pawn_scopes.specs.Overloads.{op_of, tag_number, plain_tags}
 use Rattle.pawn_automata.specs.Clauses.{clause}
 
+-- what tells one function from others
 pub data Key : Type 0 where
   Named : List ℕ → Key
   Operates : Signature → Key
@@ -37,12 +39,14 @@ signature_of (Some it) result (Some (operand ∷ [])) = signature_between it ope
 signature_of (Some it) result (Some (left ∷ right ∷ [])) = signature_between it left right
 signature_of _ result _ = None
 
+-- an operator by what it may be defined for
 abbrev pub operator_key : Option Signature → Key
 operator_key None = Misshapen
 operator_key (Some it) = Operates it
 
 -- ---- entry functions
 
+-- what a function is called that runs where an automaton enters a state
 abbrev pub entry_name : List ℕ
 entry_name = codes "entry"
 
@@ -52,6 +56,7 @@ entered fallback None = []
 entered fallback (Some []) = fallback
 entered fallback (Some (it ∷ more)) = (clause (it ∷ more)).automaton
 
+-- a head with a name: an entry function of its automaton, else the function of that name
 abbrev pub name_key : List ℕ → List ℕ → Option (List StateName) → Key
 name_key fallback name states =
     if bytes_eq name entry_name then Enters (entered fallback states) else Named name
@@ -65,9 +70,11 @@ key_by names fallback head states (called.Operator at sign) =
     let it : Option Op = op_of sign (length head.params) in
     operator_key (signature_of it (tag_number names head.tag) (plain_tags names head.params))
 
+-- which function a head is of, by the classifier behind it
 abbrev pub key_of : List (List ℕ) → List ℕ → Head → Option (List StateName) → Key
 key_of names fallback head states = key_by names fallback head states head.name
 
+-- two keys are of one function; a head that no operator may have is like no other
 abbrev pub same_key : Key → Key → Bool
 same_key (Named x) (Named y) = bytes_eq x y
 same_key (Operates x) (Operates y) = is_for x.op x.left x.right y

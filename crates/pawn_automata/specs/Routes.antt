@@ -14,9 +14,11 @@ state_number None state = 0
 state_number (Some it) state = unwrap_or (position (bytes_eq state) it.states) 0
 
 module _ (automata : List Automaton) where
+  -- the number of an automaton by its name
   abbrev pub number : List ℕ → ℕ
   number name = unwrap_or (automaton_named automata name) 0
 
+  -- states by their numbers in the automaton, each with the body that serves it
   abbrev pub numbered : List ℕ → List (List ℕ × ℕ) → List (ℕ × ℕ)
   numbered name cases =
       map (λ case. (state_number (slice_get automata (number name)) case.0, case.1)) cases

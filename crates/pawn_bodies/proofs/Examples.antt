@@ -1,5 +1,6 @@
 -- Statements by computation: which rules they break, and what they are.
-use Rattle.std.specs.Prelude.{◌≡◌, ℕ, pos, List, [], ◌∷◌, map, codes, false, Option, None, Some, refl}
+use Rattle.std.specs.Prelude.{◌≡◌, ℕ, pos, List, [], ◌∷◌, map, codes, false, Option, None, Some}
+use Rattle.std.specs.Prelude.{refl}
 use Rattle.pawn_token.specs.declared.sign.Sign.TheVariants as sign
 use Rattle.pawn_tree.specs.declared.name.At.{At}
 use Rattle.pawn_tree.specs.declared.name.Name as n
@@ -84,7 +85,8 @@ single v = record { first = number 4 v; last = None }
 
 abbrev switch : List Range → List Range → Stmt
 switch first second = s.Switch (at 1) (number 2 4)
-    (s.cases (s.Values (at 3) first (s.Empty (at 6)) ∷ s.Values (at 7) second (s.Empty (at 8)) ∷ [])) s.no_stmt
+    (s.cases (s.Values (at 3) first (s.Empty (at 6)) ∷ s.Values (at 7) second (s.Empty (at 8))
+    ∷ [])) s.no_stmt
 
 abbrev state : Option n.Name → List ℕ → Stmt
 state automaton bytes = s.State (at 1) None (record { automaton = automaton; state = name 3 bytes })
@@ -153,9 +155,11 @@ made = refl
 static_and_array : stmts (block (
     local 1 storage.Static (cell (codes "b") (number 2 1) ∷ [])
     ∷ local 3 storage.New (variable (codes "c") (v.Cells (number 4 2) ∷ []) None ∷ [])
-    ∷ s.Do (at 5) (e.Assign (at 5) sign.Assign (index 5 (var 5 (codes "c")) (number 6 0)) (var 7 (codes "b"))) ∷ []))
+    ∷ s.Do (at 5) (e.Assign (at 5) sign.Assign (index 5 (var 5 (codes "c")) (number 6 0))
+    (var 7 (codes "b"))) ∷ []))
     ≡ Some (code.Block (code.then_stmt (code.LocalArray 2 5) (code.then_stmt
-    (code.Do (code.Assign (code.Element (code.SlotArray 2) (code.Const (pos 0))) (code.Read (code.Global 4))))
+    (code.Do (code.Assign (code.Element (code.SlotArray 2) (code.Const (pos 0)))
+    (code.Read (code.Global 4))))
     code.no_stmts)) ∷ [])
 unfolding found locals vars_parts behind_vars constant_rule further index_rule set_rule sent
 static_and_array = refl

@@ -1,6 +1,7 @@
 -- A statement that stands makes as many slots and objects as are counted in its tree: so the
 -- counts before a statement are the numbers of slots and objects there.
-use Rattle.std.proofs.Common.{◌≡◌, ◌+◌, ℕ, List, [], ◌∷◌, ◌++◌, Bool, true, false, Option, None, Some, refl, arith, sym, ◌∙◌}
+use Rattle.std.proofs.Common.{◌≡◌, ◌+◌, ℕ, List, [], ◌∷◌, ◌++◌, Bool, true, false, Option, None}
+use Rattle.std.proofs.Common.{Some, refl, arith, sym, ◌∙◌}
 use Rattle.std.specs.Prelude.{length}
 use Rattle.std.proofs.lemmas.List.{length-append}
 use Rattle.std.proofs.lemmas.List.Sums.{sum_by-cons}
@@ -18,19 +19,30 @@ use Rattle.pawn_typing.specs.Rule.{each}
 use Rattle.pawn_typing.specs.Typed.{Typed, cell}
 use Rattle.pawn_typing.specs.Around.{Around}
 use Rattle.pawn_typing.specs.Scope.{Scope}
-use Rattle.pawn_typing.proofs.VerdictLaws.{Holds, stands_itself, breaks_holds, holds_after, holds_both, holds_all, holds_also, holds_unless}
+use Rattle.pawn_typing.proofs.VerdictLaws.{Holds, stands_itself, breaks_holds, holds_after}
+use Rattle.pawn_typing.proofs.VerdictLaws.{holds_both, holds_all, holds_also, holds_unless}
 use Rattle.pawn_calls.specs.Literals.{literals}
 use Rattle.pawn_calls.proofs.LiteralLaws.{Made, expr_made}
 use Rattle.pawn_values.specs.Constants as constants
 use Rattle.pawn_values.specs.Arrays.{array_value}
 use Rattle.pawn_values.specs.Cells.{LocalValue, local_value, static_value}
-use Rattle.pawn_bodies.specs.Counts.{slots_of_storage, literals_of_init, objects_by, objects_of_var, slots_of_vars, objects_of_vars, literals_of, slots_first, objects_first, slots_in, slots_in_all, slots_in_other, slots_in_cases, slots_in_case, objects_in, objects_in_all, objects_in_other, objects_in_cases, objects_in_case}
-use Rattle.pawn_bodies.specs.Points.{Point, beyond, inside, behind, behind_first, behind_var, tag_of}
+use Rattle.pawn_bodies.specs.Counts.{slots_of_storage, literals_of_init, objects_by, objects_of_var}
+use Rattle.pawn_bodies.specs.Counts.{slots_of_vars, objects_of_vars, literals_of, slots_first}
+use Rattle.pawn_bodies.specs.Counts.{objects_first, slots_in, slots_in_all, slots_in_other}
+use Rattle.pawn_bodies.specs.Counts.{slots_in_cases, slots_in_case, objects_in, objects_in_all}
+use Rattle.pawn_bodies.specs.Counts.{objects_in_other, objects_in_cases, objects_in_case}
+use Rattle.pawn_bodies.specs.Points.{Point, beyond, inside, behind, behind_first, behind_var}
+use Rattle.pawn_bodies.specs.Points.{tag_of}
 use Rattle.pawn_bodies.specs.Stood.{Stood, stood_behind, nothing_stood}
-use Rattle.pawn_bodies.specs.Locals.{fresh_name, local_cell, local_by, array_by, locals, vars_parts, local_vars, local_constant}
+use Rattle.pawn_bodies.specs.Locals.{fresh_name, local_cell, local_by, array_by, locals, vars_parts}
+use Rattle.pawn_bodies.specs.Locals.{local_vars, local_constant}
 use Rattle.pawn_bodies.specs.States.{reached}
 use Rattle.pawn_bodies.specs.Switches.{labels, apart, ends}
-use Rattle.pawn_bodies.specs.Statements.{Used, Maybe, Other, Cased, CasePart, maybe_part, use_at, maybe_use, value, value_or_zero, perhaps, returned, first_part, first_done, for_by, cased, switch_by, in_a_loop, past, past_maybe, past_stmt, stmt, block, otherwise, cases, one_case}
+use Rattle.pawn_bodies.specs.Statements.{Used, Maybe, Other, Cased, CasePart, maybe_part, use_at}
+use Rattle.pawn_bodies.specs.Statements.{maybe_use, value, value_or_zero, perhaps, returned}
+use Rattle.pawn_bodies.specs.Statements.{first_part, first_done, for_by, cased, switch_by}
+use Rattle.pawn_bodies.specs.Statements.{in_a_loop, past, past_maybe, past_stmt, stmt, block}
+use Rattle.pawn_bodies.specs.Statements.{otherwise, cases, one_case}
 
 -- so many slots and objects
 pub record MadeStood (m n : ℕ) (x : Stood) : Type 0 where
@@ -107,7 +119,8 @@ module _ (cx : Around) where
   locals_made point at kind constant [] =
       stands_itself _ nothing_stood (record { slots = refl; objects = refl })
   locals_made point at kind constant (x ∷ xs) =
-      holds_both (holds_also (fresh_name point.scope at x.name.bytes) (by_made point at kind constant x x.dims))
+      holds_both (holds_also (fresh_name point.scope at x.name.bytes)
+      (by_made point at kind constant x x.dims))
       (locals_made (behind_var cx point at kind constant x) at kind constant xs) (λ y more p q.
       stands_itself _ _ (vars_behind kind x xs y more (behind_made y more _ _ _ _ p q)))
 
@@ -261,7 +274,10 @@ module _ (cx : Around) (automata : List Automaton) (result : ℕ) where
   cased_made at tag (it ∷ more) _ _ (one_more p q) =
       holds_both (holds_all (labels cx at tag it.ends)) (cased_made at tag more _ _ q)
       (λ values rest t r.
-      stands_itself _ _ (record { stood = behind_made _ rest.stood _ _ _ _ (record { slots = p.slots; objects = p.objects }) r.stood }))
+      stands_itself _ _ (record {
+        stood = behind_made _ rest.stood _ _ _ _
+            (record { slots = p.slots; objects = p.objects }) r.stood;
+      }))
 
   switch_made : (at : At) (x : Typed) (parts : List CasePart) (other : Other) (j k l m n : ℕ)
       → Made j x → CasesMade k l parts → MadeStood m n other.stood
@@ -298,12 +314,18 @@ module _ (cx : Around) (automata : List Automaton) (result : ℕ) where
         (objects_in_other other)) (x, y) (record { first = p; second = q.stood })))
         (λ x parts p q. holds_after (used_made at x _ p) (λ it r.
         let m = behind_made parts.0 parts.1.stood _ _ _ _ q.first q.second in
-        stands_itself _ _ (record { slots = m.slots; objects = sum_of it.objects _ _ _ r.count m.objects })))
+        stands_itself _ _ (record {
+          slots = m.slots;
+          objects = sum_of it.objects _ _ _ r.count m.objects;
+        })))
     stmt_made point in_loop (tree.While at c s) =
         holds_both (expr_made cx point.scope point.objects c)
         (stmt_made (past cx automata result point c) true s) (λ x y p q.
         holds_after (used_made at x _ p) (λ it r.
-        stands_itself _ _ (record { slots = q.slots; objects = sum_of it.objects y.objects _ _ r.count q.objects })))
+        stands_itself _ _ (record {
+          slots = q.slots;
+          objects = sum_of it.objects y.objects _ _ r.count q.objects;
+        })))
     stmt_made point in_loop (tree.DoWhile at s c) =
         let there : Point = past_stmt cx automata result point s in
         holds_both (stmt_made point true s) (expr_made cx there.scope there.objects c) (λ x y p q.
@@ -390,7 +412,8 @@ module _ (cx : Around) (automata : List Automaton) (result : ℕ) where
         stands_itself _ _ (record { stood = p }))
 
 -- what the counts say of a statement that stands
-pub stmt_counted : (cx : Around) (automata : List Automaton) (result : ℕ) (point : Point) (in_loop : Bool) (s : tree.Stmt) (x : Stood)
+pub stmt_counted : (cx : Around) (automata : List Automaton) (result : ℕ) (point : Point)
+    (in_loop : Bool) (s : tree.Stmt) (x : Stood)
     → stmt cx automata result point in_loop s ≡ Stands x → (length x.slots ≡ slots_in s)
     × (length x.objects ≡ objects_in s)
 stmt_counted cx automata result point in_loop s x h =

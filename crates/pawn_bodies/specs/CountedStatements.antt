@@ -10,6 +10,7 @@ use Rattle.pawn_bodies.specs.Points.{Point}
 use Rattle.pawn_bodies.specs.Stood.{Stood}
 use Rattle.pawn_bodies.specs.Statements.{stmt}
 
+-- as many slots and objects as counted
 abbrev pub StatementsAreCounted : Type 0
 StatementsAreCounted =
     (cx : Around) (automata : List Automaton) (result : ℕ) (point : Point) (in_loop : Bool)

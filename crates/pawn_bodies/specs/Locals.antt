@@ -23,10 +23,16 @@ use Rattle.pawn_bodies.specs.Stood.{Stood, stood, nothing_stood, stood_behind}
 pub data Fresh : Type 0 where
   fresh : Fresh
 
+-- what code that only looks at a name tells of it
+abbrev pub fresh_view : Unit {0} → Fresh
+fresh_view nothing = fresh
+
+-- a block declares a name once
 abbrev pub unless_found : At → Option Meaning → Verdict Fresh
 unless_found at None = Stands fresh
 unless_found at (Some it) = broken REDEFINED at
 
+-- a name that the innermost block doesn't declare yet
 abbrev pub fresh_name : Scope → At → List ℕ → Verdict Fresh
 fresh_name scope at name = unless_found at (found_in_block scope name)
 
@@ -57,11 +63,13 @@ abbrev pub static_cell : Bool → values.First → Stood
 static_cell constant it =
     stood [] (record { sizes = 1 ∷ []; constant = constant; first = it.cells } ∷ []) it.warned
 
+-- a `static` array, an object with its first cells
 abbrev pub static_array : Bool → ArrayValue → Stood
 static_array constant it =
     stood [] (record { sizes = it.sizes; constant = constant; first = it.cells } ∷ []) it.warned
 
 module _ (cx : Around) where
+  -- a variable of one cell, by its storage
   abbrev pub local_cell : Point → At → Storage → Bool → Var → Verdict Stood
   local_cell point at storage.New constant x =
       after (local_value cx point.scope point.objects at (tag_of cx x.tag) x.init)
@@ -73,11 +81,13 @@ module _ (cx : Around) where
       after (static_value cx point.scope at (tag_of cx x.tag) x.init)
       (λ it. Stands (static_cell constant it))
 
+  -- an array by its storage: on the stack, or an object
   abbrev pub array_by : Point → Storage → Bool → ArrayValue → Stood
   array_by point storage.New constant it = new_array point it
   array_by point storage.Stock constant it = new_array point it
   array_by point storage.Static constant it = static_array constant it
 
+  -- a variable by its dimensions: a cell has none
   abbrev pub local_by : Point → At → Storage → Bool → Var → List Dim → Verdict Stood
   local_by point at kind constant x [] = local_cell point at kind constant x
   local_by point at kind constant x (dim ∷ dims) =

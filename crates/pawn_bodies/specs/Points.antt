@@ -6,7 +6,8 @@ use Rattle.pawn_tree.specs.declared.name.Name as n
 use Rattle.pawn_tree.specs.declared.variable.Storage.{Storage}
 use Rattle.pawn_tree.specs.declared.variable.Storage.TheVariants as storage
 use Rattle.pawn_tree.specs.Variables.{Dim, Var}
-use Rattle.pawn_tree.specs.Statements.{ConstantOf, First, Nothing, New, Value, Stmt, Local, Constant}
+use Rattle.pawn_tree.specs.Statements.{ConstantOf, First, Nothing, New, Value, Stmt, Local}
+use Rattle.pawn_tree.specs.Statements.{Constant}
 use Rattle.pawn_tags.specs.Tags.{untagged}
 use Rattle.pawn_program.specs.Program.{Scalar, Global, Own, Array, Object, SlotArray}
 use Rattle.pawn_program.specs.Scope.{Extent}
@@ -16,8 +17,10 @@ use Rattle.pawn_typing.specs.Scope.{Meaning, Variable, Unknown, Entry, Scope, wi
 use Rattle.pawn_typing.specs.Scope as means
 use Rattle.pawn_values.specs.Constants as constants
 use Rattle.pawn_values.specs.Arrays.{Shaped, shaped}
-use Rattle.pawn_bodies.specs.Counts.{slots_of_storage, objects_of_var, slots_in, objects_in, literals_of}
+use Rattle.pawn_bodies.specs.Counts.{slots_of_storage, objects_of_var, slots_in, objects_in}
+use Rattle.pawn_bodies.specs.Counts.{literals_of}
 
+-- the names known at a statement, and the numbers of the next object and the next slot
 pub record Point : Type 0 where
   pub scope : Scope
   pub objects : ℕ
@@ -64,12 +67,14 @@ cell_place storage.New point = Own point.slots
 cell_place storage.Static point = Global point.objects
 cell_place storage.Stock point = Own point.slots
 
+-- the array that a declaration makes at a point: in a slot, or an object
 abbrev pub array_place : Storage → Point → Array
 array_place storage.New point = SlotArray point.slots
 array_place storage.Static point = Object point.objects
 array_place storage.Stock point = SlotArray point.slots
 
 module _ (cx : Around) where
+  -- what a variable's name means, by its dimensions
   abbrev pub var_by : Point → At → Storage → Bool → Var → List Dim → Meaning
   var_by point at kind constant x [] = Variable (cell_place kind point) (tag_of cx x.tag) constant
   var_by point at kind constant x (dim ∷ dims) =
@@ -86,6 +91,7 @@ module _ (cx : Around) where
       declared (beyond point (objects_of_var kind x) (slots_of_storage kind))
       (record { name = x.name.bytes; means = var_means point at kind constant x } ∷ [])
 
+  -- each variable is known to those behind it, and counted with those before it
   unfoldable pub behind_vars : Point → At → Storage → Bool → List Var → Point
   behind_vars point at kind constant [] = point
   behind_vars point at kind constant (x ∷ xs) =

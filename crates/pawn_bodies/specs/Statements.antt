@@ -4,7 +4,8 @@ use Rattle.pawn_tree.specs.declared.name.At.{At}
 use Rattle.pawn_tree.specs.declared.variable.Storage.TheVariants as storage
 use Rattle.pawn_tree.specs.Expressions.{Expr}
 use Rattle.pawn_tree.specs.Statements as tree
-use Rattle.pawn_tree.specs.Statements.{Stmt, Stmts, no_stmts, then_stmt, MaybeStmt, no_stmt, one_stmt, Case, Values, Cases, no_cases, then_case, First}
+use Rattle.pawn_tree.specs.Statements.{Stmt, Stmts, no_stmts, then_stmt, MaybeStmt, no_stmt}
+use Rattle.pawn_tree.specs.Statements.{one_stmt, Case, Values, Cases, no_cases, then_case, First}
 use Rattle.pawn_program.specs.Program as code
 use Rattle.pawn_program.specs.Program.{Const, Perhaps, Absent, Present, Automaton}
 use Rattle.pawn_tags.specs.Tags.{untagged}
@@ -16,9 +17,11 @@ use Rattle.pawn_typing.specs.Around.{Around}
 use Rattle.pawn_typing.specs.Tests.{Sent, sent}
 use Rattle.pawn_calls.specs.Expressions.{expr}
 use Rattle.pawn_calls.specs.Literals.{literals}
-use Rattle.pawn_bodies.specs.Counts.{literals_of, slots_in, objects_in, slots_in_case, objects_in_case, slots_in_cases, objects_in_cases}
+use Rattle.pawn_bodies.specs.Counts.{literals_of, slots_in, objects_in, slots_in_case}
+use Rattle.pawn_bodies.specs.Counts.{objects_in_case, slots_in_cases, objects_in_cases}
 use Rattle.pawn_bodies.specs.Points.{Point, beyond, inside, behind, behind_first}
-use Rattle.pawn_bodies.specs.Stood.{Stood, stood, nothing_stood, stood_behind, as_stmt, stmts_in, one_of}
+use Rattle.pawn_bodies.specs.Stood.{Stood, stood, nothing_stood, stood_behind, as_stmt, stmts_in}
+use Rattle.pawn_bodies.specs.Stood.{one_of}
 use Rattle.pawn_values.specs.Parts.{Judged, judged}
 use Rattle.pawn_bodies.specs.Locals.{locals, vars_parts, local_vars, local_constant}
 use Rattle.pawn_bodies.specs.Switches.{Labels, Ends, ends, labels, apart}

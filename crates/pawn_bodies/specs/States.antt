@@ -19,6 +19,7 @@ pub record Reached : Type 0 where
 abbrev pub automaton_named : List Automaton → List ℕ → Option ℕ
 automaton_named automata name = position (λ (it : Automaton). bytes_eq it.name name) automata
 
+-- an automaton's state that was found there
 abbrev pub state_in : At → ℕ → Option ℕ → Verdict Reached
 state_in at automaton None = broken UNKNOWN_STATE at
 state_in at automaton (Some state) = Stands (record { automaton = automaton; state = state })
@@ -35,11 +36,13 @@ reached_in at missing automata None state = broken missing at
 reached_in at missing automata (Some number) state =
     state_of at number (slice_get automata number) state
 
+-- the automaton that is named, else the one without a name
 abbrev pub reached_by : List Automaton → At → Option n.Name → List ℕ → Verdict Reached
 reached_by automata at None state =
     reached_in at UNKNOWN_STATE automata (automaton_named automata []) state
 reached_by automata at (Some name) state =
     reached_in at UNKNOWN_AUTOMATON automata (automaton_named automata name.bytes) state
 
+-- the state that a `state` statement changes to
 abbrev pub reached : List Automaton → At → StateName → Verdict Reached
 reached automata at name = reached_by automata at name.automaton name.state.bytes

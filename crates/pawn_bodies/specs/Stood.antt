@@ -1,7 +1,8 @@
 -- What typing gives for statements.
 use Rattle.std.specs.Prelude.{List, [], ◌∷◌, ◌++◌, Bool}
 use Rattle.pawn_tree.specs.declared.name.At.{At}
-use Rattle.pawn_program.specs.Program.{Stmt, Block, Local, LocalArray, Empty, Stmts, no_stmts, then_stmt, Slot, StaticObject}
+use Rattle.pawn_program.specs.Program.{Stmt, Block, Local, LocalArray, Empty, Stmts, no_stmts}
+use Rattle.pawn_program.specs.Program.{then_stmt, Slot, StaticObject}
 
 -- a `return`, and whether it gives a value
 pub record Returned : Type 0 where
@@ -22,6 +23,7 @@ abbrev pub stood : List Stmt → List StaticObject → List At → Stood
 stood stmts objects warned =
     record { stmts = stmts; slots = []; objects = objects; returns = []; warned = warned }
 
+-- no statement
 abbrev pub nothing_stood : Stood
 nothing_stood = stood [] [] []
 
@@ -52,5 +54,6 @@ one (LocalArray s o ∷ []) = Block (then_stmt (LocalArray s o) no_stmts)
 one (s ∷ []) = s
 one (s ∷ next ∷ more) = Block (stmts_in (s ∷ next ∷ more))
 
+-- what stands, as one statement
 abbrev pub one_of : Stood → Stmt
 one_of x = one x.stmts

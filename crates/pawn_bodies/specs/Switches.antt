@@ -1,6 +1,7 @@
 -- The values of a `switch` (Language Guide, "Statements"): constants and ranges, none of which
 -- stands twice.
-use Rattle.std.specs.Prelude.{ℕ, ℤ, List, [], ◌∷◌, ◌++◌, Bool, false, ◌&&◌, ◌||◌, if◌then◌else◌, int_lt, int_le, Option, None, Some}
+use Rattle.std.specs.Prelude.{ℕ, ℤ, List, [], ◌∷◌, ◌++◌, Bool, false, ◌&&◌, ◌||◌, if◌then◌else◌}
+use Rattle.std.specs.Prelude.{int_lt, int_le, Option, None, Some}
 use Rattle.std.specs.List.{list_any}
 use Rattle.pawn_tree.specs.declared.name.At.{At}
 use Rattle.pawn_tree.specs.Statements.{Range}
@@ -43,10 +44,12 @@ pub record Ends : Type 0 where
   pub last : Option Typed
 
 module _ (cx : Around) (scope : Scope) where
+  -- the end of a range, which a single value has none of
   abbrev pub last_part : Option Expr → Verdict (Option Typed)
   last_part None = Stands None
   last_part (Some e) = after (expr cx scope 0 e) (λ x. Stands (Some x))
 
+  -- the expressions that a value or range of a case is made of
   abbrev pub ends : Range → Verdict Ends
   ends range =
       both (expr cx scope 0 range.first) (last_part range.last)
@@ -54,9 +57,11 @@ module _ (cx : Around) (scope : Scope) where
 
 -- each end is tested against the value that is switched on, which has this tag
 module _ (cx : Around) (at : At) (tag : ℕ) where
+  -- a single value, a range from and to itself
   abbrev pub one_value : Constant → Labels
   one_value it = record { ranges = (it.value, it.value) ∷ []; warned = constant_warned cx tag it }
 
+  -- a range by its ends
   abbrev pub two_values : Constant → Constant → Labels
   two_values x y =
       record {
@@ -64,6 +69,7 @@ module _ (cx : Around) (at : At) (tag : ℕ) where
         warned = constant_warned cx tag x ++ constant_warned cx tag y;
       }
 
+  -- the value or range of a case, each end a constant expression
   abbrev pub label_by : Typed → Option Typed → Verdict Labels
   label_by first None = after (constant_rule at first) (λ x. Stands (one_value x))
   label_by first (Some last) =

@@ -22,7 +22,8 @@ use Rattle.pawn_typing.specs.Assignments.{set_rule, step_rule}
 use Rattle.pawn_calls.specs.Given.{plain_given, reference_given, array_given, rest_rule}
 use Rattle.pawn_calls.specs.Defaults.{args_of}
 use Rattle.pawn_calls.specs.Calls.{call_rule}
-use Rattle.pawn_calls.proofs.Samples.{at, name, number, var, text, binary, index, call, kinds, worth, form, warned}
+use Rattle.pawn_calls.proofs.Samples.{at, name, number, var, text, binary, index, call, kinds}
+use Rattle.pawn_calls.proofs.Samples.{worth, form, warned}
 
 abbrev x : Expr
 x = var 1 (codes "x")
@@ -60,7 +61,8 @@ refused : map kinds (
     ∷ (56 ∷ []) ∷ []
     ∷ (53 ∷ []) ∷ (54 ∷ []) ∷ (54 ∷ []) ∷ (52 ∷ []) ∷ (52 ∷ []) ∷ (52 ∷ []) ∷ (54 ∷ []) ∷ (54 ∷ [])
     ∷ []
-unfolding text_rule found thread operator_rule logical_rule comma_rule index_rule character_rule set_rule step_rule cells.binary int_wrap
+unfolding text_rule found thread operator_rule logical_rule comma_rule index_rule character_rule
+    set_rule step_rule cells.binary int_wrap
 refused = refl
 
 -- `-7`, `(3)`, `1 < 2 < 3`, `n ? 2 : 3`, `sizeof m[]`, `sizeof a`, `sizeof k`, `sizeof "ab"`, and
@@ -78,7 +80,8 @@ constants : map worth (
     ≡ Some (negsuc 6) ∷ Some (pos 3) ∷ Some (pos 1) ∷ Some (pos 2) ∷ Some (pos 3) ∷ Some (pos 3)
     ∷ Some (pos 1)
     ∷ Some (pos 3) ∷ None ∷ []
-unfolding text_rule found negate_rule chain_rule links_code links_warned links_value choice_rule sizeof_rule logical_rule cells.chain_holds int_wrap
+unfolding text_rule found negate_rule chain_rule links_code links_warned links_value choice_rule
+    sizeof_rule logical_rule cells.chain_holds int_wrap
 constants = refl
 
 -- nothing is folded: `-7` is an operator on 7
@@ -94,7 +97,8 @@ unfolding text_rule found index_rule
 literal = refl
 
 -- a tag before an operand is transparent: `Fixed:x` is the place x
-place : form (e.Tagged (at 1) (codes "Fixed") (var 2 (codes "x"))) ≡ Some (typed.Place (code.Global 0) false)
+place : form (e.Tagged (at 1) (codes "Fixed") (var 2 (codes "x")))
+    ≡ Some (typed.Place (code.Global 0) false)
 unfolding text_rule found
 place = refl
 
@@ -138,7 +142,8 @@ refused_calls : map kinds (
     ≡ (59 ∷ []) ∷ (61 ∷ []) ∷ (60 ∷ []) ∷ (50 ∷ []) ∷ (50 ∷ []) ∷ (58 ∷ []) ∷ (58 ∷ []) ∷ (58 ∷ [])
     ∷ (58 ∷ [])
     ∷ (55 ∷ []) ∷ (59 ∷ []) ∷ []
-unfolding text_rule found thread call_rule args_of plain_given reference_given array_given rest_rule sent
+unfolding text_rule found thread call_rule args_of plain_given reference_given array_given
+    rest_rule sent
 refused_calls = refl
 
 -- a call has no fault of its own above an argument that doesn't stand: `x(zz)`
@@ -170,7 +175,9 @@ unfolding text_rule found thread call_rule args_of plain_given array_given index
 sizes = refl
 
 -- `w(x, k, a, 3)`: a variable goes by reference, a constant one and a value in cells of their own
-rest : form (call 1 (codes "w") (given (var 3 (codes "x")) ∷ given (var 5 (codes "k")) ∷ given (var 7 (codes "a")) ∷ given (number 9 3) ∷ []))
+rest : form (call 1 (codes "w")
+    (given (var 3 (codes "x")) ∷ given (var 5 (codes "k")) ∷ given (var 7 (codes "a"))
+    ∷ given (number 9 3) ∷ []))
     ≡ Some (typed.Value (code.Native 0
     (code.then_arg (code.Ref (code.Global 0)) (code.then_arg (code.Temp (code.Read (code.Global 1)))
     (code.then_arg (code.Whole (code.Object 2))

@@ -1,6 +1,7 @@
 -- An expression that stands has as many literals as are counted in its tree: so the count before a
 -- node is the number of objects there.
-use Rattle.std.proofs.Common.{◌≡◌, ◌+◌, ℕ, List, [], ◌∷◌, ◌++◌, Bool, true, false, Option, None, Some, refl, arith}
+use Rattle.std.proofs.Common.{◌≡◌, ◌+◌, ℕ, List, [], ◌∷◌, ◌++◌, Bool, true, false, Option, None}
+use Rattle.std.proofs.Common.{Some, refl, arith}
 use Rattle.std.specs.Prelude.{length, if◌then◌else◌, flat_map, slice_get}
 use Rattle.std.proofs.lemmas.List.{length-append}
 use Rattle.pawn_token.specs.declared.sign.Sign.{Sign}
@@ -18,13 +19,18 @@ use Rattle.pawn_scopes.specs.Signs.{Between, Operates, Decides, Takes, Nothing, 
 use Rattle.pawn_typing.specs.Typed.{Typed, Form, Held, cell, array}
 use Rattle.pawn_typing.specs.Typed as typed
 use Rattle.pawn_typing.specs.Around.{Around}
-use Rattle.pawn_typing.specs.Scope.{Meaning, Constant, Variable, Function, Native, Entering, Taken, Unknown, Scope}
+use Rattle.pawn_typing.specs.Scope.{Meaning, Constant, Variable, Function, Native, Entering, Taken}
+use Rattle.pawn_typing.specs.Scope.{Unknown, Scope}
 use Rattle.pawn_typing.specs.Scope as means
 use Rattle.pawn_typing.specs.Names.{text_rule, name_rule, sizeof_rule, tagof_rule, size_in, tag_in}
-use Rattle.pawn_typing.specs.Operators.{operate, operator_rule, logical_rule, comma_rule, between_rule, operate_one, not_rule, negate_rule, invert_rule, chosen, chosen_for_one, divides_by_zero}
+use Rattle.pawn_typing.specs.Operators.{operate, operator_rule, logical_rule, comma_rule}
+use Rattle.pawn_typing.specs.Operators.{between_rule, operate_one, not_rule, negate_rule}
+use Rattle.pawn_typing.specs.Operators.{invert_rule, chosen, chosen_for_one, divides_by_zero}
 use Rattle.pawn_tags.specs.declared.op.Op.TheVariants as op
 use Rattle.pawn_typing.specs.Prefixes.{prefix_rule, postfix_rule}
-use Rattle.pawn_typing.specs.Assignments.{target, unless_constant, assign_cell, copied_cells, literal_cells, known_line, copy_from, assign_to, updated, update_rule, update_by, step_rule}
+use Rattle.pawn_typing.specs.Assignments.{target, unless_constant, assign_cell, copied_cells}
+use Rattle.pawn_typing.specs.Assignments.{literal_cells, known_line, copy_from, assign_to, updated}
+use Rattle.pawn_typing.specs.Assignments.{update_rule, update_by, step_rule}
 use Rattle.pawn_scopes.specs.Signs.{Link, Compares, No_link, link_of}
 use Rattle.pawn_typing.specs.Rule.{pair, thread}
 use Rattle.pawn_typing.specs.Around.{Head, Param}
@@ -34,14 +40,20 @@ use Rattle.pawn_typing.specs.Choices.{choice_rule}
 use Rattle.pawn_typing.specs.Assignments.{assign_rule, set_rule}
 use Rattle.pawn_typing.specs.Signs.{updater_of}
 use Rattle.pawn_calls.specs.Given.{given_rule}
-use Rattle.pawn_calls.specs.Filling.{Offer, Positional, Skipped, Filling, Argument, Default, in_slot, nothing_filled, put, for_param, for_rest, positional, skipped_rest, skipped, named_param, named, number_of_param, offer_step}
+use Rattle.pawn_calls.specs.Filling.{Offer, Positional, Skipped, Filling, Argument, Default}
+use Rattle.pawn_calls.specs.Filling.{in_slot, nothing_filled, put, for_param, for_rest, positional}
+use Rattle.pawn_calls.specs.Filling.{skipped_rest, skipped, named_param, named, number_of_param}
+use Rattle.pawn_calls.specs.Filling.{offer_step}
 use Rattle.pawn_calls.specs.Filling as filling
 use Rattle.pawn_calls.specs.Defaults.{args_of}
-use Rattle.pawn_calls.specs.Calls.{Callee, callee_rule, args_in, judged, offer_literals, call_by, call_rule}
-use Rattle.pawn_calls.specs.Literals.{literals, link_literals, literals_of_link, arg_literals, literals_of_arg}
+use Rattle.pawn_calls.specs.Calls.{Callee, callee_rule, args_in, judged, offer_literals, call_by}
+use Rattle.pawn_calls.specs.Calls.{call_rule}
+use Rattle.pawn_calls.specs.Literals.{literals, link_literals, literals_of_link, arg_literals}
+use Rattle.pawn_calls.specs.Literals.{literals_of_arg}
 use Rattle.pawn_calls.specs.Expressions.{expr, chain, linked, offers, offer}
 use Rattle.pawn_typing.specs.Indexes.{index_rule, character_in, character_rule}
-use Rattle.pawn_typing.proofs.VerdictLaws.{Holds, stands_itself, breaks_holds, holds_after, holds_both, holds_all}
+use Rattle.pawn_typing.proofs.VerdictLaws.{Holds, stands_itself, breaks_holds, holds_after}
+use Rattle.pawn_typing.proofs.VerdictLaws.{holds_both, holds_all}
 
 -- so many literals
 pub record Made (n : ℕ) (x : Typed) : Type 0 where
@@ -91,7 +103,8 @@ tagof_made cx scope at operand =
 
 -- ---- operators
 
-operate_made : (cx : Around) (at : At) (it : Operator) (x y : Typed) (l r : Expr) (m n : ℕ) (by : Option Choice)
+operate_made : (cx : Around) (at : At) (it : Operator) (x y : Typed) (l r : Expr) (m n : ℕ)
+    (by : Option Choice)
     → Made m x → Made n y → Holds (Made (m + n)) (operate cx at it x y l r by)
 operate_made cx at it x y l r m n None p q =
     if_holds (divides_by_zero it y.value) (breaks_holds _ _)
@@ -138,7 +151,8 @@ character_made at x i m n p q =
 
 -- ---- one operand
 
-operate_one_made : (cx : Around) (at : At) (x : Typed) (e : Expr) (built : Typed) (n : ℕ) (by : Option Choice)
+operate_one_made : (cx : Around) (at : At) (x : Typed) (e : Expr) (built : Typed) (n : ℕ)
+    (by : Option Choice)
     → Made n x → Made n built → Made n (operate_one cx at x e built by)
 operate_one_made cx at x e built n None p q = q
 operate_one_made cx at x e built n (Some by) p q = record { count = p.count }
@@ -148,10 +162,12 @@ prefix_made : (cx : Around) (at : At) (s : Sign) (x : Typed) (n : ℕ) → Made 
 unfolding not_rule negate_rule invert_rule step_rule
 prefix_made cx at sign.Exclamation x n p =
     holds_after (holds_all (cell at x)) (λ e t.
-    stands_itself _ _ (operate_one_made cx at x e _ n (chosen_for_one cx op.Not x.tag) p (record { count = p.count })))
+    stands_itself _ _ (operate_one_made cx at x e _ n (chosen_for_one cx op.Not x.tag) p
+    (record { count = p.count })))
 prefix_made cx at sign.Minus x n p =
     holds_after (holds_all (cell at x)) (λ e t.
-    stands_itself _ _ (operate_one_made cx at x e _ n (chosen_for_one cx op.Neg x.tag) p (record { count = p.count })))
+    stands_itself _ _ (operate_one_made cx at x e _ n (chosen_for_one cx op.Neg x.tag) p
+    (record { count = p.count })))
 prefix_made cx at sign.Tilde x n p = holds_after (holds_all (cell at x)) (λ e t. stands _ p.count)
 prefix_made cx at sign.Increment x n p =
     holds_after (holds_all (target at x)) (λ e t. stands _ p.count)
@@ -176,7 +192,8 @@ cell_assigned_made cx at x y m n p q =
     holds_both (holds_all (target at x)) (holds_all (cell at y)) (λ a e t u.
     stands _ (two x.literals y.literals m n p.count q.count))
 
-copy_made : (cx : Around) (at : At) (x y : Typed) (to : Array) (extent : Extent) (form : Form) (m n : ℕ)
+copy_made : (cx : Around) (at : At) (x y : Typed) (to : Array) (extent : Extent) (form : Form)
+    (m n : ℕ)
     → Made m x → Made n y → Holds (Made (m + n)) (copy_from cx at x y to extent form)
 copy_made cx at x y to extent (typed.Value e) m n p q = breaks_holds _ _
 copy_made cx at x y to extent (typed.Place a constant) m n p q = breaks_holds _ _
@@ -196,7 +213,8 @@ set_to_made cx at x y (typed.Whole a extent constant) m n p q =
     holds_after (holds_all (unless_constant at constant a))
     (λ to t. copy_made cx at x y to extent y.form m n p q)
 
-updated_made : (cx : Around) (at : At) (it : Operator) (x y : Typed) (a : Scalar) (e : Expr) (by : Option Choice) (m n : ℕ)
+updated_made : (cx : Around) (at : At) (it : Operator) (x y : Typed) (a : Scalar) (e : Expr)
+    (by : Option Choice) (m n : ℕ)
     → Made m x → Made n y → Holds (Made (m + n)) (updated cx at it x y a e by)
 updated_made cx at it x y a e (Some by) m n p q =
     stands _ (two x.literals y.literals m n p.count q.count)
@@ -220,7 +238,8 @@ choice_made : (cx : Around) (at : At) (x y z : Typed) (m n o : ℕ) → Made m x
 unfolding choice_rule
 choice_made cx at x y z m n o p q r =
     holds_both (holds_all (cell at x)) (holds_all (pair (cell at y) (cell at z))) (λ c parts t u.
-    stands _ (two x.literals (y.literals ++ z.literals) m (n + o) p.count (two y.literals z.literals n o q.count r.count)))
+    stands _ (two x.literals (y.literals ++ z.literals) m (n + o) p.count
+    (two y.literals z.literals n o q.count r.count)))
 
 record LinkMade (n : ℕ) (it : Compared) : Type 0 where
   pub count : length it.operand.literals ≡ n
@@ -239,7 +258,8 @@ chain_made : (cx : Around) (at : At) (x : Typed) (links : List Compared) (m n : 
 unfolding chain_rule
 chain_made cx at x links m n p q =
     holds_both (holds_all (cell at x)) (holds_all (links_code cx at x.tag links)) (λ e more t u.
-    stands _ (two x.literals (flat_map (λ (it : Compared). it.operand.literals) links) m n p.count q.count))
+    stands _ (two x.literals (flat_map (λ (it : Compared). it.operand.literals) links) m n p.count
+    q.count))
 
 -- ---- calls
 
@@ -334,7 +354,8 @@ judged_made : (cx : Around) (at : At) (callee : Callee) (offers : List Offer) (h
     → Holds (Made n) (judged cx at callee offers head)
 judged_made cx at callee offers head n p =
     holds_after (thread_more cx at head (nothing_filled head) offers) (λ it q.
-    holds_after (holds_all (args_of cx at head.params it.slots head.params it.slots (args_in it.rest))) (λ args t.
+    holds_after (holds_all (args_of cx at head.params it.slots head.params it.slots
+    (args_in it.rest))) (λ args t.
     stands _ (omega (arith, q.count, p.count))))
 
 call_by_made : (cx : Around) (at : At) (callee : Callee) (offers : List Offer) (head : Option Head)

@@ -10,7 +10,8 @@ use Rattle.pawn_program.specs.Program as code
 use Rattle.pawn_scopes.specs.Verdict.{Verdict, Fault, Stands, Breaks, faults_of}
 use Rattle.pawn_typing.specs.Typed.{Typed, Form}
 use Rattle.pawn_typing.specs.Around.{Around, Param, Default, NoDefault, Always, SizeOf}
-use Rattle.pawn_typing.specs.Scope.{Scope, Entry, Meaning, Constant, Variable, Array, Function, Native, Taken, Unknown}
+use Rattle.pawn_typing.specs.Scope.{Scope, Entry, Meaning, Constant, Variable, Array, Function}
+use Rattle.pawn_typing.specs.Scope.{Native, Taken, Unknown}
 use Rattle.pawn_calls.specs.Expressions.{expr}
 
 -- ---- spellings
@@ -89,7 +90,11 @@ around = record {
         number = 0;
         tag = 0;
         head =
-            Some (record { params = plain (codes "p") NoDefault ∷ plain (codes "q") (Always (pos 2) 0) ∷ []; rest = None });
+            Some (record {
+              params = plain (codes "p") NoDefault
+                  ∷ plain (codes "q") (Always (pos 2) 0) ∷ [];
+              rest = None;
+            });
       }
       ∷ record {
         number = 1;

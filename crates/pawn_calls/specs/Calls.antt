@@ -1,26 +1,30 @@
 -- Calls (Language Guide, "Functions").
-use Rattle.std.specs.Prelude.{ℕ, pos, List, [], ◌∷◌, flat_map, Bool, true, false, Option, None, Some, slice_get}
+use Rattle.std.specs.Prelude.{ℕ, pos, List, [], ◌∷◌, flat_map, Bool, true, false, Option, None}
+use Rattle.std.specs.Prelude.{Some, slice_get}
 use Rattle.pawn_tree.specs.declared.name.At.{At}
-use Rattle.pawn_program.specs.Program.{StaticObject, Expr, Const, Call, Native, Arg, Args, no_args, then_arg}
+use Rattle.pawn_program.specs.Program.{StaticObject, Expr, Const, Call, Native, Arg, Args, no_args}
+use Rattle.pawn_program.specs.Program.{then_arg}
 use Rattle.pawn_typing.specs.declared.fault.TheConstants.{UNDEFINED}
 use Rattle.pawn_scopes.specs.Verdict.{Verdict, Stands, after}
 use Rattle.pawn_typing.specs.Rule.{broken, fallen}
 use Rattle.pawn_typing.specs.Typed.{Typed, Value}
 use Rattle.pawn_typing.specs.Around.{Around, Callable, Head}
-use Rattle.pawn_typing.specs.Scope.{Meaning, Constant, Variable, Array, Function, Entering, Taken, Unknown}
+use Rattle.pawn_typing.specs.Scope.{Meaning, Constant, Variable, Array, Function, Entering, Taken}
+use Rattle.pawn_typing.specs.Scope.{Unknown}
 use Rattle.pawn_typing.specs.Scope as means
 use Rattle.pawn_calls.specs.Filling.{Offer, Positional, Skipped, Filling, fill}
 use Rattle.pawn_calls.specs.Filling as filling
 use Rattle.pawn_calls.specs.Defaults.{args_of}
 
--- what is called: whether it is a native, its number, the tag of what it gives, and its head, unless
--- that is broken or isn't known yet
+-- what is called: whether it is a native, its number, the tag of what it gives, and its head,
+-- unless that is broken or isn't known yet
 pub record Callee : Type 0 where
   pub is_native : Bool
   pub number : ℕ
   pub tag : ℕ
   pub head : Option Head
 
+-- the function or native that a name is known as
 abbrev pub callable : At → Bool → Option Callable → Verdict Callee
 callable at is_native None = broken UNDEFINED at
 callable at is_native (Some it) =
@@ -38,6 +42,7 @@ callee_rule cx at (Some (Entering tag)) = broken UNDEFINED at
 callee_rule cx at (Some Taken) = broken UNDEFINED at
 callee_rule cx at (Some Unknown) = fallen
 
+-- a call of a native or of a function
 abbrev pub call_code : Bool → ℕ → Args → Expr
 call_code true number args = Native number args
 call_code false number args = Call number args
@@ -47,6 +52,7 @@ abbrev pub args_in : List Arg → Args
 args_in [] = no_args
 args_in (arg ∷ more) = then_arg arg (args_in more)
 
+-- a call that stands: its value has the function's tag, and is no constant
 abbrev pub called : At → Callee → Filling → Args → Typed
 called at callee filling args = record {
   at = at;
@@ -67,19 +73,21 @@ judged cx at callee offers head =
 
 -- ---- without a head
 
+-- those of a value; `_` has none
 abbrev pub offer_literals : Offer → List StaticObject
 offer_literals (Positional x) = x.literals
 offer_literals Skipped = []
 offer_literals (filling.Named name x) = x.literals
 
+-- what a value warns of; `_` warns of nothing
 abbrev pub offer_warned : Offer → List At
 offer_warned (Positional x) = x.warned
 offer_warned Skipped = []
 offer_warned (filling.Named name x) = x.warned
 
--- arguments for a head that is broken or isn't known yet aren't judged: what is known of the call is
--- its tag, and that it isn't constant. No program has it, since the declaration of such a head is
--- judged where all heads are known
+-- arguments for a head that is broken or isn't known yet aren't judged: what is known of the call
+-- is its tag, and that it isn't constant. No program has it, since the declaration of such a head
+-- is judged where all heads are known
 abbrev pub unjudged : At → ℕ → List Offer → Typed
 unjudged at tag offers = record {
   at = at;
@@ -92,9 +100,11 @@ unjudged at tag offers = record {
 
 -- ---- a call with what is offered to it
 
+-- a call by the callee's head, which is unknown where that doesn't stand
 abbrev pub call_by : Around → At → Callee → List Offer → Option Head → Verdict Typed
 call_by cx at callee offers None = Stands (unjudged at callee.tag offers)
 call_by cx at callee offers (Some head) = judged cx at callee offers head
 
+-- a call with the arguments as they stand
 unfoldable pub call_rule : Around → At → Callee → List Offer → Verdict Typed
 call_rule cx at callee offers = call_by cx at callee offers callee.head

@@ -9,6 +9,7 @@ use Rattle.pawn_typing.specs.Scope.{Scope}
 use Rattle.pawn_calls.specs.Literals.{literals}
 use Rattle.pawn_calls.specs.Expressions.{expr}
 
+-- typing makes the literals that the tree has
 abbrev pub LiteralsAreCounted : Type 0
 LiteralsAreCounted =
     (cx : Around) (scope : Scope) (before : ℕ) (e : Expr) (x : Typed)

@@ -1,6 +1,7 @@
 -- Parameters without an argument take their default (Language Guide, "Functions", on default
 -- values): a value, or the size or tag of another parameter's argument.
-use Rattle.std.specs.Prelude.{ℕ, ℤ, pos, List, [], ◌∷◌, if◌then◌else◌, Option, None, Some, slice_get, unwrap_or, option_map}
+use Rattle.std.specs.Prelude.{ℕ, ℤ, pos, List, [], ◌∷◌, if◌then◌else◌, Option, None, Some}
+use Rattle.std.specs.Prelude.{slice_get, unwrap_or, option_map}
 use Rattle.pawn_cells.specs.Cells.{cell_of}
 use Rattle.pawn_tree.specs.declared.name.At.{At}
 use Rattle.pawn_tags.specs.Tags.{untagged}
@@ -8,19 +9,22 @@ use Rattle.pawn_program.specs.Program.{Expr, Const, OperateOne, Arg, Value, Temp
 use Rattle.pawn_typing.specs.declared.fault.TheConstants.{ARGUMENT_MISSING}
 use Rattle.pawn_scopes.specs.Verdict.{Verdict, Stands, both}
 use Rattle.pawn_typing.specs.Rule.{broken}
-use Rattle.pawn_typing.specs.Around.{Around, Param, Head, NoDefault, Always, SizeOf, TagOf, first_tag}
+use Rattle.pawn_typing.specs.Around.{Around, Param, Head, NoDefault, Always, SizeOf, TagOf}
+use Rattle.pawn_typing.specs.Around.{first_tag}
 use Rattle.pawn_typing.specs.Around as around
 use Rattle.pawn_typing.specs.Tests.{converter_to}
 use Rattle.pawn_calls.specs.Filling.{Filled, Argument, Default}
 
 -- ---- the size and tag of what a parameter got: without an argument 1, and the parameter's own tag
 
+-- the size of a parameter's argument: 1 where none is given
 abbrev pub size_given : Option (Option Filled) → ℕ
 size_given (Some (Some (Argument given))) = given.size
 size_given (Some (Some Default)) = 1
 size_given (Some None) = 1
 size_given None = 1
 
+-- the tag of a parameter's argument: the parameter's own where none is given
 abbrev pub tag_given : ℕ → Option (Option Filled) → ℕ
 tag_given own (Some (Some (Argument given))) = given.tag
 tag_given own (Some (Some Default)) = own
@@ -34,6 +38,7 @@ own_tag params i =
 
 -- ---- the argument that a default is
 
+-- a default, by the user operator that converts it if any
 abbrev pub converted : ℤ → Option ℕ → Expr
 converted v None = Const v
 converted v (Some f) = OperateOne f (Const v)
@@ -45,6 +50,7 @@ default_arg cx param v tag =
     if param.reference then Temp (Const v) else Value (converted v (converter_to cx param.tags tag))
 
 module _ (cx : Around) (at : At) (params : List Param) (slots : List (Option Filled)) where
+  -- what a parameter without an argument takes
   abbrev pub default_of : Param → around.Default → Verdict Arg
   default_of param NoDefault = broken ARGUMENT_MISSING at
   default_of param (Always v tag) = Stands (default_arg cx param v tag)

@@ -1,7 +1,10 @@
 -- Which typed node each expression is, behind so many objects: a literal is the object that is
 -- counted so.
 use Rattle.std.specs.Prelude.{ℕ, ◌+◌, List, [], ◌∷◌}
-use Rattle.pawn_tree.specs.Expressions.{Expr, Number, Text, Name, Paren, Sizeof, Tagof, Prefix, Tagged, Postfix, Index, Character, Binary, Chain, Choice, Assign, Call, Arg, Value, Default, Named, Args, no_args, then_arg, Link, Compare, Links, no_links, then_link}
+use Rattle.pawn_tree.specs.Expressions.{Expr, Number, Text, Name, Paren, Sizeof, Tagof, Prefix}
+use Rattle.pawn_tree.specs.Expressions.{Tagged, Postfix, Index, Character, Binary, Chain, Choice}
+use Rattle.pawn_tree.specs.Expressions.{Assign, Call, Arg, Value, Default, Named, Args, no_args}
+use Rattle.pawn_tree.specs.Expressions.{then_arg, Link, Compare, Links, no_links, then_link}
 use Rattle.pawn_scopes.specs.Verdict.{Verdict, Stands, after, both}
 use Rattle.pawn_typing.specs.Rule.{pair}
 use Rattle.pawn_typing.specs.Typed.{Typed}
@@ -21,6 +24,7 @@ use Rattle.pawn_calls.specs.Literals.{literals, literals_of_arg, literals_of_lin
 
 module _ (cx : Around) (scope : Scope) where
   abbrev mutual
+    -- an expression, by the typed nodes of its parts
     pub expr : ℕ → Expr → Verdict Typed
     expr before (Number at v) = Stands (number_rule at v)
     expr before (Text at bytes packed) = text_rule before at bytes packed
@@ -55,6 +59,7 @@ module _ (cx : Around) (scope : Scope) where
         both (linked before link) (chain (before + literals_of_link link) more)
         (λ x rest. Stands (x ∷ rest))
 
+    -- a comparison of a chain
     pub linked : ℕ → Link → Verdict Compared
     linked before (Compare sign e) = after (expr before e) (λ x. link_rule x.at sign x)
 
@@ -65,6 +70,7 @@ module _ (cx : Around) (scope : Scope) where
         both (offer before arg) (offers (before + literals_of_arg arg) more)
         (λ x rest. Stands (x ∷ rest))
 
+    -- an argument of a call as it stands
     pub offer : ℕ → Arg → Verdict Offer
     offer before (Value e) = after (expr before e) (λ x. Stands (Positional x))
     offer before (Default at) = Stands Skipped

@@ -1,10 +1,12 @@
 -- The arguments of a call in their order, each put to its parameter (Language Guide, "Functions",
 -- on positional and named arguments).
-use Rattle.std.specs.Prelude.{ℕ, ◌+◌, List, [], ◌∷◌, ◌++◌, Option, None, Some, map, position, slice_get, slice_set}
+use Rattle.std.specs.Prelude.{ℕ, ◌+◌, List, [], ◌∷◌, ◌++◌, Option, None, Some, map, position}
+use Rattle.std.specs.Prelude.{slice_get, slice_set}
 use Rattle.std.specs.Str.{bytes_eq}
 use Rattle.pawn_tree.specs.declared.name.At.{At}
 use Rattle.pawn_program.specs.Program.{Arg, StaticObject}
-use Rattle.pawn_typing.specs.declared.fault.TheConstants.{UNDEFINED, ARGUMENT_MISSING, ARGUMENT_TWICE, TOO_MANY_ARGUMENTS}
+use Rattle.pawn_typing.specs.declared.fault.TheConstants.{UNDEFINED, ARGUMENT_MISSING}
+use Rattle.pawn_typing.specs.declared.fault.TheConstants.{ARGUMENT_TWICE, TOO_MANY_ARGUMENTS}
 use Rattle.pawn_scopes.specs.Verdict.{Verdict, Stands, after}
 use Rattle.pawn_typing.specs.Rule.{broken, thread}
 use Rattle.pawn_typing.specs.Typed.{Typed}
@@ -17,12 +19,14 @@ pub data Offer : Type 0 where
   Skipped : Offer
   Named : List ℕ → Typed → Offer
 
--- an argument in its slot: in the program, and what `sizeof` and `tagof` of the parameter are with it
+-- an argument in its slot: in the program, and what `sizeof` and `tagof` of the parameter are with
+-- it
 pub record Argued : Type 0 where
   pub code : Arg
   pub size : ℕ
   pub tag : ℕ
 
+-- an argument as it is kept for its parameter
 abbrev pub in_slot : Given → Argued
 in_slot given = record { code = given.code; size = given.size; tag = given.tag }
 
@@ -54,6 +58,7 @@ nothing_filled head =
 
 -- ---- a slot is filled
 
+-- a parameter takes one argument at most, and no argument stands behind the last parameter
 abbrev pub put_in : At → ℕ → Filled → List (Option Filled) → Option (Option Filled)
     → Verdict (List (Option Filled))
 put_in at i it slots None = broken TOO_MANY_ARGUMENTS at
@@ -95,6 +100,7 @@ module _ (cx : Around) (at : At) (head : Head) where
         warned = done.warned ++ given.warned;
       })
 
+  -- the next parameter takes an argument, else the further arguments do
   abbrev pub positional : Filling → Option Param → Typed → Verdict Filling
   positional done None x = for_rest done head.rest x
   positional done (Some param) x = for_param done done.next param x (done.next + 1)
@@ -104,6 +110,7 @@ module _ (cx : Around) (at : At) (head : Head) where
   skipped_rest None = broken TOO_MANY_ARGUMENTS at
   skipped_rest (Some tags) = broken ARGUMENT_MISSING at
 
+  -- `_` leaves the next parameter its default
   abbrev pub skipped : Filling → Option Param → Verdict Filling
   skipped done None = skipped_rest head.rest
   skipped done (Some param) =
@@ -115,10 +122,12 @@ module _ (cx : Around) (at : At) (head : Head) where
   named_param done i None x = broken UNDEFINED at
   named_param done i (Some param) x = for_param done i param x done.next
 
+  -- an argument with a name goes to the parameter of that name
   abbrev pub named : Filling → Option ℕ → Typed → Verdict Filling
   named done None x = broken UNDEFINED at
   named done (Some i) x = named_param done i (slice_get head.params i) x
 
+  -- the place of a name among the head's parameters
   abbrev pub number_of_param : List ℕ → Option ℕ
   number_of_param name = position (λ (param : Param). bytes_eq param.name name) head.params
 

@@ -1,8 +1,10 @@
 -- What a parameter is given by an argument (Language Guide, "Functions", "Tag names").
-use Rattle.std.specs.Prelude.{ℕ, List, [], ◌∷◌, ◌++◌, Bool, true, false, ◌&&◌, ◌||◌, if◌then◌else◌, Option, None, Some, nat_eq}
+use Rattle.std.specs.Prelude.{ℕ, List, [], ◌∷◌, ◌++◌, Bool, true, false, ◌&&◌, ◌||◌, if◌then◌else◌}
+use Rattle.std.specs.Prelude.{Option, None, Some, nat_eq}
 use Rattle.std.specs.Str.{bytes_eq}
 use Rattle.pawn_tree.specs.declared.name.At.{At}
-use Rattle.pawn_program.specs.Program.{Scalar, Global, Own, Through, Element, Char, Array, From, Expr, Read, Arg, Value, Ref, Whole, Temp}
+use Rattle.pawn_program.specs.Program.{Scalar, Global, Own, Through, Element, Char, Array, From}
+use Rattle.pawn_program.specs.Program.{Expr, Read, Arg, Value, Ref, Whole, Temp}
 use Rattle.pawn_program.specs.Program as code
 use Rattle.pawn_program.specs.Scope.{Extent}
 use Rattle.pawn_typing.specs.declared.fault.TheConstants.{ARGUMENT_KIND, SIZES_DIFFER}
@@ -34,16 +36,19 @@ keeps_constant at constant wanted = Stands wanted
 
 -- ---- a plain parameter
 
+-- one cell for a parameter that takes a value
 abbrev pub value_in : At → Form → Verdict Expr
 value_in at (typed.Value e) = Stands e
 value_in at (typed.Place p constant) = Stands (Read p)
 value_in at (typed.Whole a extent constant) = broken ARGUMENT_KIND at
 value_in at (typed.Literal object cells) = broken ARGUMENT_KIND at
 
+-- a value passed by value, converted to the parameter's tag if a user operator does so
 abbrev pub converted_given : Typed → Sent → Given
 converted_given x it =
     record { code = Value it.code; size = 1; tag = x.tag; warned = it.warned ++ x.warned }
 
+-- an argument passed by value
 unfoldable pub plain_given : Around → At → Param → Typed → Verdict Given
 plain_given cx at param x =
     after (value_in at x.form) (λ e. Stands (converted_given x (sent cx param.tags x.tag x.at e)))
@@ -62,6 +67,7 @@ is_char (Char a e) = true
 abbrev pub cell_of_memory : At → Scalar → Verdict Scalar
 cell_of_memory at p = if is_char p then broken ARGUMENT_KIND at else Stands p
 
+-- a cell in memory for a parameter with `&`, one that isn't constant unless it takes such
 abbrev pub place_in : At → Bool → Form → Verdict Scalar
 place_in at wanted (typed.Value e) = broken ARGUMENT_KIND at
 place_in at wanted (typed.Place p constant) =
@@ -69,6 +75,7 @@ place_in at wanted (typed.Place p constant) =
 place_in at wanted (typed.Whole a extent constant) = broken ARGUMENT_KIND at
 place_in at wanted (typed.Literal object cells) = broken ARGUMENT_KIND at
 
+-- an argument passed by reference
 unfoldable pub reference_given : Around → At → Param → Typed → Verdict Given
 reference_given cx at param x =
     after (place_in at param.constant x.form) (λ p. Stands (tested_given cx param.tags x (Ref p) 1))
@@ -95,6 +102,7 @@ is_open_line None [] = true
 is_open_line None (size ∷ inner) = false
 is_open_line (Some first) inner = false
 
+-- an element stands for the array from there on, where the parameter is open in one dimension
 abbrev pub rest_from : At → Extent → Scalar → Verdict Array
 rest_from at wanted (Global o) = broken ARGUMENT_KIND at
 rest_from at wanted (Own s) = broken ARGUMENT_KIND at
@@ -108,9 +116,11 @@ pub record Passed : Type 0 where
   pub array : Array
   pub size : ℕ
 
+-- an array that fits, with the size that `sizeof` gives for it
 abbrev pub passed : Verdict Array → ℕ → Verdict Passed
 passed a size = after a (λ it. Stands (record { array = it; size = size }))
 
+-- an array for a parameter that takes one, whole or from an element on
 abbrev pub array_in : At → Bool → Extent → Form → Verdict Passed
 array_in at keeps wanted (typed.Value e) = broken ARGUMENT_KIND at
 array_in at keeps wanted (typed.Place p constant) =
@@ -121,6 +131,7 @@ array_in at keeps wanted (typed.Whole a extent constant) =
 array_in at keeps wanted (typed.Literal object cells) =
     passed (fitting at wanted (line cells) (code.Object object)) cells
 
+-- an argument for a parameter that is an array
 unfoldable pub array_given : Around → At → Param → Extent → Typed → Verdict Given
 array_given cx at param wanted x =
     after (array_in at param.constant wanted x.form)
@@ -128,6 +139,7 @@ array_given cx at param wanted x =
 
 -- ---- all kinds
 
+-- by what the parameter takes: an array, a reference or a value
 abbrev pub given_by : Around → At → Param → Option Extent → Typed → Verdict Given
 given_by cx at param (Some wanted) x = array_given cx at param wanted x
 given_by cx at param None x =
@@ -144,11 +156,13 @@ given_rule cx at param x = given_by cx at param param.extent x
 abbrev pub rest_place : Bool → Scalar → Arg
 rest_place constant p = if constant || is_char p then Temp (Read p) else Ref p
 
+-- a further argument, which is passed by reference: a value by a cell of its own
 abbrev pub rest_arg : Form → Arg
 rest_arg (typed.Value e) = Temp e
 rest_arg (typed.Place p constant) = rest_place constant p
 rest_arg (typed.Whole a extent constant) = Whole a
 rest_arg (typed.Literal object cells) = Whole (code.Object object)
 
+-- an argument behind the last parameter, for `...` with these tags
 unfoldable pub rest_rule : Around → List ℕ → Typed → Given
 rest_rule cx tags x = tested_given cx tags x (rest_arg x.form) 1

@@ -1,8 +1,12 @@
 -- How many literals stand in an expression. A text under `sizeof` is none.
 use Rattle.std.specs.Prelude.{ℕ, ◌+◌}
-use Rattle.pawn_tree.specs.Expressions.{Expr, Number, Text, Name, Paren, Sizeof, Tagof, Prefix, Tagged, Postfix, Index, Character, Binary, Chain, Choice, Assign, Call, Arg, Value, Default, Named, Args, no_args, then_arg, Link, Compare, Links, no_links, then_link}
+use Rattle.pawn_tree.specs.Expressions.{Expr, Number, Text, Name, Paren, Sizeof, Tagof, Prefix}
+use Rattle.pawn_tree.specs.Expressions.{Tagged, Postfix, Index, Character, Binary, Chain, Choice}
+use Rattle.pawn_tree.specs.Expressions.{Assign, Call, Arg, Value, Default, Named, Args, no_args}
+use Rattle.pawn_tree.specs.Expressions.{then_arg, Link, Compare, Links, no_links, then_link}
 
 abbrev mutual
+  -- one for each text that is a value
   pub literals : Expr → ℕ
   literals (Number at v) = 0
   literals (Text at bytes packed) = 1
@@ -26,6 +30,7 @@ abbrev mutual
   link_literals no_links = 0
   link_literals (then_link link more) = literals_of_link link + link_literals more
 
+  -- those in a comparison of a chain
   pub literals_of_link : Link → ℕ
   literals_of_link (Compare sign e) = literals e
 
@@ -34,6 +39,7 @@ abbrev mutual
   arg_literals no_args = 0
   arg_literals (then_arg arg more) = literals_of_arg arg + arg_literals more
 
+  -- `_` has none
   pub literals_of_arg : Arg → ℕ
   literals_of_arg (Value e) = literals e
   literals_of_arg (Default at) = 0

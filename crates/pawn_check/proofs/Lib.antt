@@ -1,3 +1,4 @@
 pub mod DeclaredLaws
+pub mod FunctionLaws
 pub mod NameLaws
 pub mod WholeLaws

@@ -1,4 +1,4 @@
-pub mod NameFault
+pub mod FunctionNames
 pub mod Parts
 pub mod Reads
 pub mod View

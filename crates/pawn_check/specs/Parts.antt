@@ -12,7 +12,8 @@ use Rattle.pawn_typed.specs.Sources.{Source, all_stated, around_of, beginning, w
 use Rattle.pawn_typed.specs.Declarations.{Bodied, Done, declarations}
 use Rattle.pawn_typed.specs.Functions.{group_faults}
 use Rattle.pawn_typed.specs.Programs.{program_of}
-use Rattle.pawn_typed.specs.Whole.{Checked, dynamic_faults, entry_faults, return_faults, unless, within_sums}
+use Rattle.pawn_typed.specs.Whole.{Checked, dynamic_faults, entry_faults, return_faults, unless}
+use Rattle.pawn_typed.specs.Whole.{within_sums}
 
 module _ (source : Source) (tree : Tree) where
   -- all heads in order

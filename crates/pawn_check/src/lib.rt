@@ -4,6 +4,7 @@
 mod checked;
 mod checking;
 mod declared;
+mod functions;
 mod names;
 mod reading;
 mod together;
@@ -11,4 +12,5 @@ mod whole;
 
 pub use checked::Checked;
 pub use checking::check;
+pub use functions::function_names;
 pub use pawn_verdict::CheckFault;

@@ -1,5 +1,6 @@
 -- Heads by computation: which rules they break, their parameters, and which are equal.
-use Rattle.std.specs.Prelude.{◌≡◌, ℕ, pos, List, [], ◌∷◌, map, codes, Bool, true, false, Option, None, Some, refl}
+use Rattle.std.specs.Prelude.{◌≡◌, ℕ, pos, List, [], ◌∷◌, map, codes, Bool, true, false, Option}
+use Rattle.std.specs.Prelude.{None, Some, refl}
 use Rattle.std.specs.Int.{int_wrap}
 use Rattle.pawn_cells.specs.Operators as cells
 use Rattle.pawn_token.specs.declared.sign.Sign.TheVariants as sign
@@ -88,7 +89,8 @@ abbrev same : List Param → List Param → Bool
 same x y = same_params (params_in (headed x)) (params_in (headed y))
 
 -- the names of parameters count, and the values of defaults
-equal : same (plain (codes "p") (Some (number 3 1)) ∷ []) (plain (codes "p") (Some (e.Paren (at 3) (number 4 1))) ∷ []) ≡ true
+equal : same (plain (codes "p") (Some (number 3 1)) ∷ [])
+    (plain (codes "p") (Some (e.Paren (at 3) (number 4 1))) ∷ []) ≡ true
 unfolding params found constant_rule
 equal = refl
 
@@ -96,6 +98,7 @@ other_name : same (plain (codes "p") None ∷ []) (plain (codes "q") None ∷ []
 unfolding params found constant_rule
 other_name = refl
 
-other_value : same (plain (codes "p") (Some (number 3 1)) ∷ []) (plain (codes "p") (Some (number 3 2)) ∷ []) ≡ false
+other_value : same (plain (codes "p") (Some (number 3 1)) ∷ [])
+    (plain (codes "p") (Some (number 3 2)) ∷ []) ≡ false
 unfolding params found constant_rule
 other_value = refl

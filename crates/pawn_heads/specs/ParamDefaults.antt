@@ -1,6 +1,7 @@
 -- Defaults of parameters (Language Guide, "Functions", on default values): a constant, or `sizeof`
 -- or `tagof` of a parameter before it, which is computed from that one's argument.
-use Rattle.std.specs.Prelude.{ℕ, zero, suc, List, [], ◌++◌, Bool, true, false, Option, None, Some, option_map}
+use Rattle.std.specs.Prelude.{ℕ, zero, suc, List, [], ◌++◌, Bool, true, false, Option, None, Some}
+use Rattle.std.specs.Prelude.{option_map}
 use Rattle.std.specs.Option.{option_and_then}
 use Rattle.pawn_tree.specs.declared.name.At.{At}
 use Rattle.pawn_tree.specs.declared.expression.SizeofOperand.{SizeofOperand}
@@ -8,11 +9,13 @@ use Rattle.pawn_tree.specs.declared.expression.SizeofOperand.TheVariants as size
 use Rattle.pawn_tree.specs.declared.expression.TagofOperand.{TagofOperand}
 use Rattle.pawn_tree.specs.declared.expression.TagofOperand.TheVariants as tagged
 use Rattle.pawn_tree.specs.Expressions.{Expr, Paren, Sizeof, Tagof}
-use Rattle.pawn_program.specs.Program.{Scalar, Global, Own, Through, Element, Char, Array, Object, SlotArray, ParamArray, Row, From}
+use Rattle.pawn_program.specs.Program.{Scalar, Global, Own, Through, Element, Char, Array, Object}
+use Rattle.pawn_program.specs.Program.{SlotArray, ParamArray, Row, From}
 use Rattle.pawn_scopes.specs.Verdict.{Verdict, Stands, after}
 use Rattle.pawn_typing.specs.Typed.{Typed}
 use Rattle.pawn_typing.specs.Around.{Around, Default, NoDefault, Always, SizeOf, TagOf}
-use Rattle.pawn_typing.specs.Scope.{Scope, Meaning, Constant, Variable, Function, Native, Entering, Taken, Unknown, found}
+use Rattle.pawn_typing.specs.Scope.{Scope, Meaning, Constant, Variable, Function, Native, Entering}
+use Rattle.pawn_typing.specs.Scope.{Taken, Unknown, found}
 use Rattle.pawn_typing.specs.Scope as means
 use Rattle.pawn_typing.specs.Tests.{tested, converter_to}
 use Rattle.pawn_calls.specs.Expressions.{expr}
@@ -20,6 +23,7 @@ use Rattle.pawn_values.specs.Constants as constants
 
 -- ---- which parameter a name means: in a head each slot is a parameter's
 
+-- the parameter whose cell it is, or whose reference it goes through
 abbrev pub param_of_place : Scalar → Option ℕ
 param_of_place (Global o) = None
 param_of_place (Own i) = Some i
@@ -27,6 +31,7 @@ param_of_place (Through i) = Some i
 param_of_place (Element a e) = None
 param_of_place (Char a e) = None
 
+-- an array that a parameter refers to, and no part of one
 abbrev pub param_of_array : Array → Option ℕ
 param_of_array (Object o) = None
 param_of_array (SlotArray s) = None
@@ -34,6 +39,7 @@ param_of_array (ParamArray i known) = Some i
 param_of_array (Row a e) = None
 param_of_array (From a e) = None
 
+-- a cell or an array that is a parameter, by its number
 abbrev pub param_meant : Meaning → Option ℕ
 param_meant (Constant v tag) = None
 param_meant (Variable p tag constant) = param_of_place p
@@ -46,12 +52,14 @@ param_meant Unknown = None
 
 -- ---- the default
 
+-- `sizeof` of a parameter, without brackets
 abbrev pub size_default : Scope → SizeofOperand → Option Default
 size_default scope (sized.Name name zero) =
     option_map (λ i. SizeOf i) (option_and_then param_meant (found scope name.bytes))
 size_default scope (sized.Name name (suc brackets)) = None
 size_default scope (sized.Text text brackets) = None
 
+-- `tagof` of a parameter; that of a tag is a constant
 abbrev pub tag_default : Scope → TagofOperand → Option Default
 tag_default scope (tagged.Name name) =
     option_map (λ i. TagOf i) (option_and_then param_meant (found scope name.bytes))
@@ -64,9 +72,11 @@ computed scope (Sizeof at operand) = size_default scope operand
 computed scope (Tagof at operand) = tag_default scope operand
 computed scope _ = None
 
+-- a constant as a default
 abbrev pub always : constants.Constant → Default
 always it = Always it.value it.tag
 
+-- the size or tag of another argument, else a constant
 abbrev pub default_by : At → Typed → Option Default → Verdict Default
 default_by at x None = after (constants.constant_rule at x) (λ it. Stands (always it))
 default_by at x (Some it) = Stands it
@@ -76,6 +86,7 @@ pub record Defaulted : Type 0 where
   pub default : Default
   pub warned : List At
 
+-- a default that a user operator converts isn't tested
 abbrev pub unless_converted : Around → List ℕ → Typed → Option ℕ → List At
 unless_converted cx tags x None = tested cx tags x.tag x.at
 unless_converted cx tags x (Some f) = []
@@ -86,10 +97,12 @@ abbrev pub default_tested : Around → Bool → List ℕ → Typed → List At
 default_tested cx true tags x = tested cx tags x.tag x.at
 default_tested cx false tags x = unless_converted cx tags x (converter_to cx tags x.tag)
 
+-- what stands for a missing argument, tested against the parameter's tags
 abbrev pub defaulted : Around → Bool → List ℕ → Typed → Default → Defaulted
 defaulted cx reference tags x it =
     record { default = it; warned = default_tested cx reference tags x ++ x.warned }
 
+-- the default of a parameter with these tags, which may have none
 abbrev pub default_rule : Around → Scope → At → Bool → List ℕ → Option Expr → Verdict Defaulted
 default_rule cx scope at reference tags None = Stands (record { default = NoDefault; warned = [] })
 default_rule cx scope at reference tags (Some e) =

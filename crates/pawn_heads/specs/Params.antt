@@ -1,12 +1,14 @@
 -- Parameters (Language Guide, "Functions", "Function arguments"). Each is known to those behind it.
-use Rattle.std.specs.Prelude.{ℕ, ◌+◌, List, [], ◌∷◌, ◌++◌, map, Bool, true, false, is_some, Option, None, Some}
+use Rattle.std.specs.Prelude.{ℕ, ◌+◌, List, [], ◌∷◌, ◌++◌, map, Bool, true, false, is_some, Option}
+use Rattle.std.specs.Prelude.{None, Some}
 use Rattle.pawn_tree.specs.declared.name.At.{At}
 use Rattle.pawn_tree.specs.declared.name.Name as n
 use Rattle.pawn_tree.specs.Expressions.{Expr}
 use Rattle.pawn_tree.specs.Variables.{Dim}
 use Rattle.pawn_tree.specs.Declarations as tree
 use Rattle.pawn_tags.specs.Tags.{untagged}
-use Rattle.pawn_program.specs.Program.{Own, Through, ParamArray, Slot, ScalarSlot, ReferenceSlot, ArraySlot, OpenSlot}
+use Rattle.pawn_program.specs.Program.{Own, Through, ParamArray, Slot, ScalarSlot, ReferenceSlot}
+use Rattle.pawn_program.specs.Program.{ArraySlot, OpenSlot}
 use Rattle.pawn_program.specs.Scope.{Extent}
 use Rattle.pawn_scopes.specs.Verdict.{Verdict, Stands, Breaks, after, both}
 use Rattle.pawn_typing.specs.declared.fault.TheConstants.{CONSTANT_NEEDED, ARGUMENT_KIND}
@@ -15,7 +17,8 @@ use Rattle.pawn_typing.specs.Around.{Around, Param, Head, Default, NoDefault, fi
 use Rattle.pawn_typing.specs.Scope.{Scope, Meaning, Variable, Unknown, Entry, with_entries}
 use Rattle.pawn_typing.specs.Scope as means
 use Rattle.pawn_values.specs.Sizes.{Dimensions, dimensions, within}
-use Rattle.pawn_values.specs.Parts.{Judged, judged, with_part, all_parts, maybe_judged, expr_part, dim_part}
+use Rattle.pawn_values.specs.Parts.{Judged, judged, with_part, all_parts, maybe_judged, expr_part}
+use Rattle.pawn_values.specs.Parts.{dim_part}
 use Rattle.pawn_bodies.specs.Locals.{fresh_name}
 use Rattle.pawn_heads.specs.ParamDefaults.{default_rule}
 
@@ -37,6 +40,16 @@ abbrev pub tag_numbers : Around → List n.Name → List ℕ
 tag_numbers cx [] = untagged ∷ []
 tag_numbers cx (tag ∷ tags) = map (λ (it : n.Name). tag_number cx it.bytes) (tag ∷ tags)
 
+-- the tags of `...`, of which there is one at most
+abbrev pub either : Option (List ℕ) → Option (List ℕ) → Option (List ℕ)
+either None rest = rest
+either (Some tags) rest = Some tags
+
+-- the slot of a parameter of one cell, by whether it is a reference
+abbrev pub cell_slot : Bool → Slot
+cell_slot true = ReferenceSlot
+cell_slot false = ScalarSlot
+
 -- ---- arrays
 
 -- how far an array reaches, and what its sizes warn of
@@ -50,7 +63,10 @@ reach_by at it None =
     Stands (record { extent = record { first = None; inner = it.inner }; warned = it.warned })
 reach_by at it (Some first) =
     after (within at (first ∷ it.inner)) (λ sizes.
-    Stands (record { extent = record { first = Some first; inner = it.inner }; warned = it.warned }))
+    Stands (record {
+      extent = record { first = Some first; inner = it.inner };
+      warned = it.warned;
+    }))
 
 -- how far an array of these dimensions reaches
 abbrev pub reach : Around → Scope → At → Dim → List Dim → Verdict Reach
@@ -116,11 +132,6 @@ module _ (cx : Around) (at : At) where
     warned = warned;
   }
 
-  -- the slot of a parameter of one cell, by whether it is a reference
-  abbrev pub cell_slot : Bool → Slot
-  cell_slot true = ReferenceSlot
-  cell_slot false = ScalarSlot
-
   -- an array is no reference, and has no default
   abbrev pub no_default : Option Expr → Verdict Default
   no_default None = Stands NoDefault
@@ -154,11 +165,6 @@ module _ (cx : Around) (at : At) where
 
   -- ---- all parameters
 
-  -- the tags of `...`, of which there is one at most
-  abbrev pub either : Option (List ℕ) → Option (List ℕ) → Option (List ℕ)
-  either None rest = rest
-  either (Some tags) rest = Some tags
-
   -- parameters behind others
   abbrev pub headed_behind : Headed → Headed → Headed
   headed_behind x y = record {
@@ -168,6 +174,7 @@ module _ (cx : Around) (at : At) where
     warned = x.warned ++ y.warned;
   }
 
+  -- all parameters, from a number on
   unfoldable pub params : Scope → ℕ → List tree.Param → Verdict Headed
   params scope i [] = Stands no_params
   params scope i (param ∷ more) =

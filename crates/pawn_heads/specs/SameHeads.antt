@@ -6,6 +6,7 @@ use Rattle.std.specs.Str.{bytes_eq}
 use Rattle.pawn_program.specs.Scope.{Extent}
 use Rattle.pawn_typing.specs.Around.{Default, NoDefault, Always, SizeOf, TagOf, Param, Head}
 
+-- whether both are so or neither is
 abbrev pub same_truth : Bool → Bool → Bool
 same_truth true b = b
 same_truth false true = false
@@ -19,21 +20,25 @@ same_default (SizeOf i) (SizeOf j) = nat_eq i j
 same_default (TagOf i) (TagOf j) = nat_eq i j
 same_default _ _ = false
 
+-- first sizes agree: both unknown, or the same number
 abbrev pub same_first : Option ℕ → Option ℕ → Bool
 same_first None None = true
 same_first (Some m) (Some n) = nat_eq m n
 same_first _ _ = false
 
+-- both are no arrays, or arrays of the same sizes
 abbrev pub same_extent : Option Extent → Option Extent → Bool
 same_extent None None = true
 same_extent (Some x) (Some y) = same_first x.first y.first && bytes_eq x.inner y.inner
 same_extent _ _ = false
 
+-- both take no further arguments, or further ones of the same tags
 abbrev pub same_rest : Option (List ℕ) → Option (List ℕ) → Bool
 same_rest None None = true
 same_rest (Some x) (Some y) = bytes_eq x y
 same_rest _ _ = false
 
+-- two parameters agree in all that calls see of them
 abbrev pub same_param : Param → Param → Bool
 same_param x y =
     bytes_eq x.name y.name
@@ -41,6 +46,7 @@ same_param x y =
     && (bytes_eq x.tags y.tags
     && (same_extent x.extent y.extent && same_default x.default y.default))))
 
+-- as many parameters, each like the other's
 abbrev pub same_params : List Param → List Param → Bool
 same_params [] [] = true
 same_params [] (y ∷ ys) = false

@@ -1,5 +1,6 @@
 -- Assignments and copies that stand are valid.
-use Rattle.std.proofs.Common.{◌≡◌, ◌≤◌, ℕ, List, [], ◌∷◌, Bool, true, false, Option, None, Some, refl, ◌∙◌, ap, arith}
+use Rattle.std.proofs.Common.{◌≡◌, ◌≤◌, ℕ, List, [], ◌∷◌, Bool, true, false, Option, None, Some}
+use Rattle.std.proofs.Common.{refl, ◌∙◌, ap, arith}
 use Rattle.std.specs.Prelude.{IfSome, nat_eq, nat_le}
 use Rattle.std.specs.List.{list_any}
 use Rattle.std.proofs.lemmas.Bool.{eqb-true, leb-true}
@@ -24,14 +25,19 @@ use Rattle.pawn_typing.specs.Tests.{sent, sent_by, converter, converter_to}
 use Rattle.pawn_typing.specs.Operators.{divides_by_zero, chosen}
 use Rattle.pawn_typing.specs.Signs.{updater_of, updates_by}
 use Rattle.pawn_typing.specs.Signs as typing_signs
-use Rattle.pawn_typing.specs.Assignments.{unless_constant, assign_cell, known_by, known_line, cells_or_broken, copied_cells, literal_cells, copy_from, assign_to, set_rule, updated, update_rule, update_by, assign_rule}
-use Rattle.pawn_typing.proofs.VerdictLaws.{Holds, stands_itself, breaks_holds, holds_after, holds_both}
+use Rattle.pawn_typing.specs.Assignments.{unless_constant, assign_cell, known_by, known_line}
+use Rattle.pawn_typing.specs.Assignments.{cells_or_broken, copied_cells, literal_cells, copy_from}
+use Rattle.pawn_typing.specs.Assignments.{assign_to, set_rule, updated, update_rule, update_by}
+use Rattle.pawn_typing.specs.Assignments.{assign_rule}
+use Rattle.pawn_typing.proofs.VerdictLaws.{Holds, stands_itself, breaks_holds, holds_after}
+use Rattle.pawn_typing.proofs.VerdictLaws.{holds_both}
 use Rattle.pawn_sound.specs.Meant.{IsReached}
 use Rattle.pawn_sound.specs.Known.{KnowsAround}
 use Rattle.pawn_sound.specs.ValidExpressions.{IsValidForm}
 use Rattle.pawn_sound.proofs.CellLaws.{if_holds, unless_some}
 use Rattle.pawn_sound.proofs.BasicLaws.{Sound, stands, cell_sound}
-use Rattle.pawn_sound.proofs.OperatorLaws.{IsBinaryBetween, between_binary, chosen_takes, target_sound}
+use Rattle.pawn_sound.proofs.OperatorLaws.{IsBinaryBetween, between_binary, chosen_takes}
+use Rattle.pawn_sound.proofs.OperatorLaws.{target_sound}
 
 -- ---- the cells of one dimension
 

@@ -1,5 +1,6 @@
 -- Cells, arrays, names, `sizeof`, `tagof` and indexes that stand are valid.
-use Rattle.std.proofs.Common.{◌≡◌, ◌≤◌, ℕ, zero, suc, pos, List, [], ◌∷◌, Bool, Option, None, Some, refl, sym, ◌∙◌, subst, ap, arith}
+use Rattle.std.proofs.Common.{◌≡◌, ◌≤◌, ℕ, zero, suc, pos, List, [], ◌∷◌, Bool, Option, None, Some}
+use Rattle.std.proofs.Common.{refl, sym, ◌∙◌, subst, ap, arith}
 use Rattle.std.specs.Prelude.{length, slice_get, nat_eq, nat_le, is_some, IfSome}
 use Rattle.std.proofs.lemmas.Bool.{leb-true}
 use Rattle.pawn_cells.specs.Cells.{IsCell}
@@ -9,19 +10,25 @@ use Rattle.pawn_tree.specs.declared.expression.SizeofOperand.{SizeofOperand}
 use Rattle.pawn_tree.specs.declared.expression.SizeofOperand.TheVariants as sizeof
 use Rattle.pawn_tree.specs.declared.expression.TagofOperand.{TagofOperand}
 use Rattle.pawn_program.specs.Program.{Object, Expr, StaticObject}
-use Rattle.pawn_program.specs.Scope.{Extent, extent, known_extent, object_extent, row_extent, IsLine}
+use Rattle.pawn_program.specs.Scope.{Extent, extent, known_extent, object_extent, row_extent}
+use Rattle.pawn_program.specs.Scope.{IsLine}
 use Rattle.pawn_program.specs.Scope as program
 use Rattle.pawn_program.specs.ValidExprs.{IsValidExpr}
 use Rattle.pawn_scopes.specs.Verdict.{Stands}
-use Rattle.pawn_typing.specs.Typed.{Typed, Form, Held, cell_in, cell, array_in, array_or_broken, array, line}
+use Rattle.pawn_typing.specs.Typed.{Typed, Form, Held, cell_in, cell, array_in, array_or_broken}
+use Rattle.pawn_typing.specs.Typed.{array, line}
 use Rattle.pawn_typing.specs.Typed as typed
 use Rattle.pawn_typing.specs.Around.{Around}
-use Rattle.pawn_typing.specs.Scope.{Meaning, Constant, Variable, Function, Native, Entering, Taken, Unknown, Scope, found}
+use Rattle.pawn_typing.specs.Scope.{Meaning, Constant, Variable, Function, Native, Entering, Taken}
+use Rattle.pawn_typing.specs.Scope.{Unknown, Scope, found}
 use Rattle.pawn_typing.specs.Scope as means
 use Rattle.pawn_typing.specs.Texts.{text_cells, text_object}
-use Rattle.pawn_typing.specs.Names.{text_rule, name_rule, first_size, size_at, size_or_broken, size_of_cell, size_of, size_in, sizeof_rule, tag_in, tagof_rule}
-use Rattle.pawn_typing.specs.Indexes.{is_outside, characters, part_extent, part, index_rule, character_in, character_rule}
-use Rattle.pawn_typing.proofs.VerdictLaws.{Holds, stands_itself, breaks_holds, holds_after, holds_both, holds_all}
+use Rattle.pawn_typing.specs.Names.{text_rule, name_rule, first_size, size_at, size_or_broken}
+use Rattle.pawn_typing.specs.Names.{size_of_cell, size_of, size_in, sizeof_rule, tag_in, tagof_rule}
+use Rattle.pawn_typing.specs.Indexes.{is_outside, characters, part_extent, part, index_rule}
+use Rattle.pawn_typing.specs.Indexes.{character_in, character_rule}
+use Rattle.pawn_typing.proofs.VerdictLaws.{Holds, stands_itself, breaks_holds, holds_after}
+use Rattle.pawn_typing.proofs.VerdictLaws.{holds_both, holds_all}
 use Rattle.pawn_sound.specs.Meant.{AreCells, IsReached, IsMeant, KnowsPath}
 use Rattle.pawn_sound.specs.Placed.{IsShort}
 use Rattle.pawn_sound.specs.ValidExpressions.{IsValidForm}

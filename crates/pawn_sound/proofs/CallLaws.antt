@@ -1,5 +1,6 @@
 -- Calls that stand are valid.
-use Rattle.std.proofs.Common.{◌≡◌, ◌<◌, ℕ, suc, zero, ℤ, pos, List, [], ◌∷◌, Bool, true, false, Option, None, Some, refl, sym, subst, ap, arith}
+use Rattle.std.proofs.Common.{◌≡◌, ◌<◌, ℕ, suc, zero, ℤ, pos, List, [], ◌∷◌, Bool, true, false}
+use Rattle.std.proofs.Common.{Option, None, Some, refl, sym, subst, ap, arith}
 use Rattle.std.specs.Prelude.{if◌then◌else◌, length, map, slice_get}
 use Rattle.pawn_cells.specs.Cells.{IsCell, cell_of}
 use Rattle.pawn_tree.specs.declared.name.At.{At}
@@ -7,22 +8,29 @@ use Rattle.pawn_tags.specs.Tags.{untagged}
 use Rattle.pawn_program.specs.Program.{Expr, Const, Arg, Value, Temp, Args, no_args, then_arg, Slot}
 use Rattle.pawn_program.specs.Scope.{Extent}
 use Rattle.pawn_program.specs.Scope as program
-use Rattle.pawn_program.specs.ValidExprs.{IsOperator, ArgAgrees, ArgsAgree, IsValidExpr, IsValidArg, AreValidArgs}
-use Rattle.pawn_typing.specs.Around.{Around, Callable, Head, Param, NoDefault, Always, SizeOf, TagOf}
+use Rattle.pawn_program.specs.ValidExprs.{IsOperator, ArgAgrees, ArgsAgree, IsValidExpr, IsValidArg}
+use Rattle.pawn_program.specs.ValidExprs.{AreValidArgs}
+use Rattle.pawn_typing.specs.Around.{Around, Callable, Head, Param, NoDefault, Always, SizeOf}
+use Rattle.pawn_typing.specs.Around.{TagOf}
 use Rattle.pawn_typing.specs.Around as around
-use Rattle.pawn_typing.specs.Scope.{Meaning, Constant, Variable, Function, Entering, Taken, Unknown, Scope, found}
+use Rattle.pawn_typing.specs.Scope.{Meaning, Constant, Variable, Function, Entering, Taken, Unknown}
+use Rattle.pawn_typing.specs.Scope.{Scope, found}
 use Rattle.pawn_typing.specs.Scope as means
 use Rattle.pawn_typing.specs.Tests.{converter_to}
-use Rattle.pawn_typing.proofs.VerdictLaws.{Holds, stands_itself, breaks_holds, holds_after, holds_both}
+use Rattle.pawn_typing.proofs.VerdictLaws.{Holds, stands_itself, breaks_holds, holds_after}
+use Rattle.pawn_typing.proofs.VerdictLaws.{holds_both}
 use Rattle.pawn_calls.specs.Filling.{Offer, Filled, Argument, Default}
-use Rattle.pawn_calls.specs.Defaults.{size_given, tag_given, own_tag, converted, default_arg, default_of, arg_of, args_of}
-use Rattle.pawn_calls.specs.Calls.{Callee, callable, callee_rule, call_code, args_in, judged, call_by, call_rule}
+use Rattle.pawn_calls.specs.Defaults.{size_given, tag_given, own_tag, converted, default_arg}
+use Rattle.pawn_calls.specs.Defaults.{default_of, arg_of, args_of}
+use Rattle.pawn_calls.specs.Calls.{Callee, callable, callee_rule, call_code, args_in, judged}
+use Rattle.pawn_calls.specs.Calls.{call_by, call_rule}
 use Rattle.pawn_sound.specs.Known.{slot_by, slot_of, IsDefault, HasDefaults, KnowsAround}
 use Rattle.pawn_sound.specs.Placed.{IsNumbered}
 use Rattle.pawn_sound.proofs.CellLaws.{cell_of_cell, small_cell}
 use Rattle.pawn_sound.proofs.BasicLaws.{Sound, stands}
 use Rattle.pawn_sound.proofs.AssignmentLaws.{converter_to_takes}
-use Rattle.pawn_sound.proofs.FillingLaws.{IsFilled, AreFilled, AreValidRest, AreSoundOffers, fill_sound}
+use Rattle.pawn_sound.proofs.FillingLaws.{IsFilled, AreFilled, AreValidRest, AreSoundOffers}
+use Rattle.pawn_sound.proofs.FillingLaws.{fill_sound}
 
 pub record SoundArg (scope : program.Scope) (slot : Slot) (arg : Arg) : Type 0 where
   pub valid : IsValidArg scope arg
@@ -141,7 +149,8 @@ module _ (scope : program.Scope) (cx : Around) (known : KnowsAround scope.progra
 
   -- ---- all arguments in order
 
-  module _ (at : At) (all : List Param) (slots : List (Option Filled)) (filled : AreFilled scope all slots) where
+  module _ (at : At) (all : List Param) (slots : List (Option Filled))
+      (filled : AreFilled scope all slots) where
     default_of_sound : (param : Param) (default : around.Default) → IsDefault param.extent default
         → Holds (SoundArg scope (slot_of param)) (default_of cx at all slots param default)
     default_of_sound param NoDefault h = breaks_holds _ _

@@ -1,5 +1,6 @@
 -- Numbers that are cells, and laws of verdicts that hang on a test.
-use Rattle.std.proofs.Common.{◌≡◌, ◌^◌, ◌<◌, ℕ, pos, Bool, true, false, Option, None, Some, refl, arith}
+use Rattle.std.proofs.Common.{◌≡◌, ◌^◌, ◌<◌, ℕ, pos, Bool, true, false, Option, None, Some, refl}
+use Rattle.std.proofs.Common.{arith}
 use Rattle.std.specs.Prelude.{if◌then◌else◌}
 use Rattle.std.proofs.lemmas.Int.{ints}
 use Rattle.pawn_cells.specs.Cells.{IsCell, cell_of}

@@ -12,7 +12,8 @@ use Rattle.pawn_program.specs.ValidExprs.{Takes, IsOperator, IsValidExpr, AreVal
 use Rattle.pawn_scopes.specs.Signs.{Link, Compares, No_link, link_of}
 use Rattle.pawn_typing.specs.Typed.{Typed}
 use Rattle.pawn_typing.specs.Around.{Around}
-use Rattle.pawn_typing.specs.Chains.{Compared, compared, link_choice, link_code, links_code, chain_rule}
+use Rattle.pawn_typing.specs.Chains.{Compared, compared, link_choice, link_code, links_code}
+use Rattle.pawn_typing.specs.Chains.{chain_rule}
 use Rattle.pawn_typing.specs.Choices.{choice_rule}
 use Rattle.pawn_typing.proofs.VerdictLaws.{Holds, stands_itself, breaks_holds, holds_both}
 use Rattle.pawn_sound.specs.Known.{operands, KnowsAround}

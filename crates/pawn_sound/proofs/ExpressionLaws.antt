@@ -13,12 +13,16 @@ use Rattle.pawn_calls.specs.Literals.{literals, literals_of_arg, literals_of_lin
 use Rattle.pawn_calls.specs.Expressions.{expr, chain, linked, offers, offer}
 use Rattle.pawn_sound.specs.Meant.{KnowsPath}
 use Rattle.pawn_sound.specs.Known.{KnowsAround}
-use Rattle.pawn_sound.specs.Placed.{IsPlaced, ArePlacedLinks, IsPlacedLink, ArePlacedArgs, IsPlacedArg}
+use Rattle.pawn_sound.specs.Placed.{IsPlaced, ArePlacedLinks, IsPlacedLink, ArePlacedArgs}
+use Rattle.pawn_sound.specs.Placed.{IsPlacedArg}
 use Rattle.pawn_sound.specs.ValidExpressions.{ExpressionsAreValid}
-use Rattle.pawn_sound.proofs.BasicLaws.{Sound, stands, sizeof_sound, tagof_sound, text_sound, name_sound, index_sound, character_sound}
-use Rattle.pawn_sound.proofs.OperatorLaws.{between_binary, between_sound, prefix_sound, postfix_sound}
+use Rattle.pawn_sound.proofs.BasicLaws.{Sound, stands, sizeof_sound, tagof_sound, text_sound}
+use Rattle.pawn_sound.proofs.BasicLaws.{name_sound, index_sound, character_sound}
+use Rattle.pawn_sound.proofs.OperatorLaws.{between_binary, between_sound, prefix_sound}
+use Rattle.pawn_sound.proofs.OperatorLaws.{postfix_sound}
 use Rattle.pawn_sound.proofs.AssignmentLaws.{assign_sound}
-use Rattle.pawn_sound.proofs.ChainLaws.{SoundLink, AreSoundLinks, link_binary, compared_sound, chain_sound, choice_sound}
+use Rattle.pawn_sound.proofs.ChainLaws.{SoundLink, AreSoundLinks, link_binary, compared_sound}
+use Rattle.pawn_sound.proofs.ChainLaws.{chain_sound, choice_sound}
 use Rattle.pawn_sound.proofs.FillingLaws.{IsSoundOffer, AreSoundOffers}
 use Rattle.pawn_sound.proofs.CallLaws.{callee_sound, call_sound}
 
@@ -37,7 +41,8 @@ record SoundOffer (scope : program.Scope) (it : Offer) : Type 0 where
 record SoundOffers (scope : program.Scope) (all : List Offer) : Type 0 where
   pub each : AreSoundOffers scope all
 
-module _ (scope : program.Scope) (cx : Around) (path : Scope) (known : KnowsAround scope.program cx) (knows : KnowsPath scope path) where
+module _ (scope : program.Scope) (cx : Around) (path : Scope) (known : KnowsAround scope.program cx)
+    (knows : KnowsPath scope path) where
   mutual
     pub expr_sound : (before : ℕ) (e : tree.Expr) → IsPlaced scope.program cx path before e
         → Holds (Sound scope) (expr cx path before e)

@@ -1,5 +1,6 @@
 -- The arguments of a call, each at its parameter, are valid and of the parameters' kinds.
-use Rattle.std.proofs.Common.{◌≡◌, ◌+◌, ℕ, zero, suc, List, [], ◌∷◌, ◌++◌, Option, None, Some, refl, sym, subst}
+use Rattle.std.proofs.Common.{◌≡◌, ◌+◌, ℕ, zero, suc, List, [], ◌∷◌, ◌++◌, Option, None, Some, refl}
+use Rattle.std.proofs.Common.{sym, subst}
 use Rattle.std.specs.Prelude.{pos, map, slice_get, slice_set}
 use Rattle.pawn_tree.specs.declared.name.At.{At}
 use Rattle.pawn_cells.specs.Cells.{IsCell}
@@ -11,7 +12,10 @@ use Rattle.pawn_typing.specs.Typed.{Typed}
 use Rattle.pawn_typing.specs.Around.{Around, Head, Param}
 use Rattle.pawn_typing.proofs.VerdictLaws.{Holds, stands_itself, breaks_holds, holds_after}
 use Rattle.pawn_calls.specs.Given.{Given, rest_rule}
-use Rattle.pawn_calls.specs.Filling.{Offer, Positional, Skipped, Filling, Filled, Argument, Default, nothing_filled, put_in, put, for_param, for_rest, positional, skipped_rest, skipped, named_param, named, number_of_param, offer_step, fill, Argued, in_slot}
+use Rattle.pawn_calls.specs.Filling.{Offer, Positional, Skipped, Filling, Filled, Argument, Default}
+use Rattle.pawn_calls.specs.Filling.{nothing_filled, put_in, put, for_param, for_rest, positional}
+use Rattle.pawn_calls.specs.Filling.{skipped_rest, skipped, named_param, named, number_of_param}
+use Rattle.pawn_calls.specs.Filling.{offer_step, fill, Argued, in_slot}
 use Rattle.pawn_calls.specs.Filling as filling
 use Rattle.pawn_sound.specs.Known.{slot_of, KnowsAround}
 use Rattle.pawn_sound.proofs.BasicLaws.{Sound}
@@ -85,7 +89,8 @@ rest_append : (scope : program.Scope) (xs : List Arg) (arg : Arg) → AreValidRe
 rest_append scope [] arg h p = (p, tt)
 rest_append scope (x ∷ xs) arg h p = (h.0, rest_append scope xs arg h.1 p)
 
-module _ (scope : program.Scope) (cx : Around) (known : KnowsAround scope.program cx) (at : At) (head : Head) where
+module _ (scope : program.Scope) (cx : Around) (known : KnowsAround scope.program cx) (at : At)
+    (head : Head) where
   put_in_sound : (i : ℕ) (it : Filled) (slots : List (Option Filled))
       (there : Option (Option Filled))
       → AreFilled scope head.params (slice_set slots i (Some it))

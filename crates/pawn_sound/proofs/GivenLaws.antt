@@ -1,23 +1,30 @@
 -- What a parameter is given by an argument is valid and of the parameter's kind.
-use Rattle.std.proofs.Common.{◌≡◌, ℕ, pos, List, [], ◌∷◌, Bool, true, false, Option, None, Some, refl, sym, ◌∙◌, subst, ap, arith}
+use Rattle.std.proofs.Common.{◌≡◌, ℕ, pos, List, [], ◌∷◌, Bool, true, false, Option, None, Some}
+use Rattle.std.proofs.Common.{refl, sym, ◌∙◌, subst, ap, arith}
 use Rattle.std.specs.Prelude.{if◌then◌else◌}
 use Rattle.std.specs.Str.{bytes_eq}
 use Rattle.std.proofs.lemmas.Bool.{eqb-true, and_parts}
 use Rattle.std.proofs.lemmas.Slice.Eq.{bytes_eq-Decides}
 use Rattle.pawn_cells.specs.Cells.{IsCell}
 use Rattle.pawn_tree.specs.declared.name.At.{At}
-use Rattle.pawn_program.specs.Program.{Scalar, Global, Own, Through, Element, Char, Array, From, Expr, Read, Arg, Value, Ref, Whole, Temp, Slot}
+use Rattle.pawn_program.specs.Program.{Scalar, Global, Own, Through, Element, Char, Array, From}
+use Rattle.pawn_program.specs.Program.{Expr, Read, Arg, Value, Ref, Whole, Temp, Slot}
 use Rattle.pawn_program.specs.Program as code
 use Rattle.pawn_program.specs.Scope.{Extent, extent, known_extent, rest_extent, IsLine, HasInner}
 use Rattle.pawn_program.specs.Scope as program
-use Rattle.pawn_program.specs.ValidExprs.{ArgAgrees, IsNoChar, IsValidScalar, IsValidArray, IsValidArg}
+use Rattle.pawn_program.specs.ValidExprs.{ArgAgrees, IsNoChar, IsValidScalar, IsValidArray}
+use Rattle.pawn_program.specs.ValidExprs.{IsValidArg}
 use Rattle.pawn_scopes.specs.Verdict.{Verdict}
 use Rattle.pawn_typing.specs.Typed.{Typed, Form, line}
 use Rattle.pawn_typing.specs.Typed as typed
 use Rattle.pawn_typing.specs.Around.{Around, Param}
 use Rattle.pawn_typing.specs.Names.{first_size}
-use Rattle.pawn_typing.proofs.VerdictLaws.{Holds, stands_itself, breaks_holds, holds_after, holds_also}
-use Rattle.pawn_calls.specs.Given.{Given, keeps_constant, value_in, plain_given, cell_of_memory, place_in, reference_given, first_fits, fits, fitting, is_open_line, rest_from, Passed, passed, array_in, array_given, given_by, given_rule, rest_place, rest_arg}
+use Rattle.pawn_typing.proofs.VerdictLaws.{Holds, stands_itself, breaks_holds, holds_after}
+use Rattle.pawn_typing.proofs.VerdictLaws.{holds_also}
+use Rattle.pawn_calls.specs.Given.{Given, keeps_constant, value_in, plain_given, cell_of_memory}
+use Rattle.pawn_calls.specs.Given.{place_in, reference_given, first_fits, fits, fitting}
+use Rattle.pawn_calls.specs.Given.{is_open_line, rest_from, Passed, passed, array_in, array_given}
+use Rattle.pawn_calls.specs.Given.{given_by, given_rule, rest_place, rest_arg}
 use Rattle.pawn_sound.specs.Meant.{IsReached}
 use Rattle.pawn_sound.specs.Known.{array_slot, slot_by, slot_of, KnowsAround}
 use Rattle.pawn_sound.specs.ValidExpressions.{IsValidForm}

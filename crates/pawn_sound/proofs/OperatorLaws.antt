@@ -1,5 +1,6 @@
 -- Operators on one and two operands that stand are valid.
-use Rattle.std.proofs.Common.{◌≡◌, ◌⊎◌, inl, inr, ℕ, pos, negsuc, Bool, true, false, Option, None, Some, refl, subst, ap}
+use Rattle.std.proofs.Common.{◌≡◌, ◌⊎◌, inl, inr, ℕ, pos, negsuc, Bool, true, false, Option, None}
+use Rattle.std.proofs.Common.{Some, refl, subst, ap}
 use Rattle.std.specs.Prelude.{if◌then◌else◌, option_map, replicate}
 use Rattle.std.specs.Option.{option_or}
 use Rattle.pawn_token.specs.declared.sign.Sign.{Sign}
@@ -21,10 +22,15 @@ use Rattle.pawn_scopes.specs.Signs as signs
 use Rattle.pawn_typing.specs.Typed.{Typed, Form, cell}
 use Rattle.pawn_typing.specs.Typed as typed
 use Rattle.pawn_typing.specs.Around.{Around}
-use Rattle.pawn_typing.specs.Operators.{divides_by_zero, chosen, operate, operator_rule, logical_code, logical_rule, comma_rule, between_rule, chosen_for_one, operate_one, not_rule, negate_rule, invert_rule}
+use Rattle.pawn_typing.specs.Operators.{divides_by_zero, chosen, operate, operator_rule}
+use Rattle.pawn_typing.specs.Operators.{logical_code, logical_rule, comma_rule, between_rule}
+use Rattle.pawn_typing.specs.Operators.{chosen_for_one, operate_one, not_rule, negate_rule}
+use Rattle.pawn_typing.specs.Operators.{invert_rule}
 use Rattle.pawn_typing.specs.Prefixes.{prefix_rule, postfix_rule}
-use Rattle.pawn_typing.specs.Assignments.{unless_constant, target_in, target, step_op, step_delta, step_code, step_rule}
-use Rattle.pawn_typing.proofs.VerdictLaws.{Holds, stands_itself, breaks_holds, holds_after, holds_both}
+use Rattle.pawn_typing.specs.Assignments.{unless_constant, target_in, target, step_op, step_delta}
+use Rattle.pawn_typing.specs.Assignments.{step_code, step_rule}
+use Rattle.pawn_typing.proofs.VerdictLaws.{Holds, stands_itself, breaks_holds, holds_after}
+use Rattle.pawn_typing.proofs.VerdictLaws.{holds_both}
 use Rattle.pawn_sound.specs.Known.{operands, KnowsAround}
 use Rattle.pawn_sound.specs.ValidExpressions.{IsValidForm}
 use Rattle.pawn_sound.proofs.CellLaws.{if_holds, when_some}

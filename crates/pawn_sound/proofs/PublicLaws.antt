@@ -1,7 +1,9 @@
 -- The publics of a program that stands are in the order of their names' bytes: each is put in its
 -- place.
-use Rattle.std.proofs.Common.{◌≡◌, ◌⊎◌, inl, inr, ◌+◌, ◌<◌, ℕ, zero, suc, ℤ, List, [], ◌∷◌, Bool, true, false, refl, sym, subst, arith}
-use Rattle.std.specs.Prelude.{length, map, ◌&&◌, ◌||◌, nat_lt, nat_eq, IsSorted, slice_index_or, if◌then◌else◌}
+use Rattle.std.proofs.Common.{◌≡◌, ◌⊎◌, inl, inr, ◌+◌, ◌<◌, ℕ, zero, suc, ℤ, List, [], ◌∷◌, Bool}
+use Rattle.std.proofs.Common.{true, false, refl, sym, subst, arith}
+use Rattle.std.specs.Prelude.{length, map, ◌&&◌, ◌||◌, nat_lt, nat_eq, IsSorted, slice_index_or}
+use Rattle.std.specs.Prelude.{if◌then◌else◌}
 use Rattle.std.specs.Ordering.{nat_cmp, is_lt, ordering_then}
 use Rattle.std.specs.declared.cmp.Ordering.{Ordering}
 use Rattle.std.specs.declared.cmp.Ordering.TheVariants.{Equal, Greater}
@@ -13,7 +15,8 @@ use Rattle.pawn_program.specs.Program.{Public}
 use Rattle.pawn_typing.proofs.VerdictLaws.{Holds, stands_itself, holds_after, holds_both, holds_all}
 use Rattle.pawn_typed.specs.Publics.{not_above, inserted, sorted, publics_from, publics}
 use Rattle.pawn_typed.specs.Sources.{Source, source_of}
-use Rattle.pawn_typed.specs.Whole.{Checked, unless, sum_faults, whole_faults, source_faults, done, checked_of, typed}
+use Rattle.pawn_typed.specs.Whole.{Checked, unless, sum_faults, whole_faults, source_faults, done}
+use Rattle.pawn_typed.specs.Whole.{checked_of, typed}
 use Rattle.pawn_sound.specs.SortedPublics.{PublicsAreSorted}
 
 -- ---- truth values

@@ -1,24 +1,25 @@
 -- What can be called is a function of the program with these parameters.
-use Rattle.std.specs.Prelude.{◌≡◌, ℕ, Bool, true, false, List, ◌∷◌, map, replicate, Option, None, Some, slice_get}
+use Rattle.std.specs.Prelude.{◌≡◌, ℕ, Bool, List, ◌∷◌, map, replicate, Option, None, Some}
+use Rattle.std.specs.Prelude.{slice_get}
 use Rattle.pawn_cells.specs.Cells.{IsCell}
 use Rattle.pawn_tags.specs.Overloads.{function_of}
 use Rattle.pawn_tags.specs.declared.op.Op.{Op}
 use Rattle.pawn_tags.specs.declared.op.Op.TheVariants as op
-use Rattle.pawn_program.specs.Program.{Slot, ScalarSlot, ReferenceSlot, ArraySlot, OpenSlot, Program}
+use Rattle.pawn_program.specs.Program.{Slot, ScalarSlot, ArraySlot, OpenSlot, Program}
 use Rattle.pawn_program.specs.Scope.{Extent}
 use Rattle.pawn_program.specs.ValidExprs.{Takes}
-use Rattle.pawn_typing.specs.Around.{Around, Callable, Head, Param, Default, NoDefault, Always, SizeOf, TagOf}
+use Rattle.pawn_typing.specs.Around.{Around, Callable, Head, Param, Default, NoDefault, Always}
+use Rattle.pawn_typing.specs.Around.{SizeOf, TagOf}
+use Rattle.pawn_heads.specs.Params.{cell_slot}
 
 -- ---- parameters
 
-abbrev pub cell_slot : Bool → Slot
-cell_slot true = ReferenceSlot
-cell_slot false = ScalarSlot
-
+-- a parameter that is an array, of which the first size may be unknown
 abbrev pub array_slot : List ℕ → Option ℕ → Slot
 array_slot inner None = OpenSlot inner
 array_slot inner (Some first) = ArraySlot (first ∷ inner)
 
+-- by what a parameter takes
 abbrev pub slot_by : Bool → Option Extent → Slot
 slot_by reference None = cell_slot reference
 slot_by reference (Some reach) = array_slot reach.inner reach.first
@@ -39,6 +40,7 @@ pub record IsHeaded (program : Program) (f : ℕ) (head : Head) : Type 0 where
   pub takes : Takes program f (map slot_of head.params)
   pub no_rest : head.rest ≡ None
 
+-- each default is a cell, and no parameter that is an array has one
 pub record HasDefaults (head : Head) : Type 0 where
   pub defaults : (i : ℕ) (param : Param) → slice_get head.params i ≡ Some param
       → IsDefault param.extent param.default
@@ -66,6 +68,7 @@ operands op.Assign = 1
 
 -- ---- the whole
 
+-- operators, functions and natives are such, and so are their defaults
 pub record KnowsAround (program : Program) (cx : Around) : Type 0 where
   pub operators : (it : Op) (left right f : ℕ) → function_of cx.operators it left right ≡ Some f
       → Takes program f (replicate (operands it) ScalarSlot)

@@ -6,7 +6,8 @@ use Rattle.pawn_program.specs.Program as code
 use Rattle.pawn_program.specs.Scope.{Extent, extent}
 use Rattle.pawn_program.specs.Scope as program
 use Rattle.pawn_program.specs.ValidExprs.{IsValidScalar, IsValidArray}
-use Rattle.pawn_typing.specs.Scope.{Meaning, Constant, Variable, Array, Function, Native, Entering, Taken, Unknown, Scope, found}
+use Rattle.pawn_typing.specs.Scope.{Meaning, Constant, Variable, Array, Function, Native, Entering}
+use Rattle.pawn_typing.specs.Scope.{Taken, Unknown, Scope, found}
 
 -- sizes that are known are cells
 pub record AreCells (reach : Extent) : Type 0 where
@@ -20,6 +21,7 @@ module _ (scope : program.Scope) where
     pub reaches : extent scope a ≡ Some reach
     pub cells : AreCells reach
 
+  -- constants are cells, places and arrays are valid; nothing is asked of functions
   abbrev pub IsMeant : Meaning → Type 0
   IsMeant (Constant v tag) = IsCell v
   IsMeant (Variable p tag constant) = IsValidScalar scope p

@@ -1,10 +1,13 @@
--- An expression and a program fit: numbers are cells, a chain has a link, each text is the object that
--- is counted so, and each native that is called has a number.
+-- An expression and a program fit: numbers are cells, a chain has a link, each text is the object
+-- that is counted so, and each native that is called has a number.
 use Rattle.std.specs.Prelude.{◌≡◌, ◌+◌, ◌<◌, ℕ, pos, List, Some, length, slice_get}
 use Rattle.pawn_cells.specs.Cells.{IsCell}
 use Rattle.pawn_tree.specs.declared.expression.SizeofOperand.{SizeofOperand}
 use Rattle.pawn_tree.specs.declared.expression.SizeofOperand.TheVariants as sizeof
-use Rattle.pawn_tree.specs.Expressions.{Expr, Number, Text, Name, Paren, Sizeof, Tagof, Prefix, Tagged, Postfix, Index, Character, Binary, Chain, Choice, Assign, Call, Arg, Value, Default, Named, Args, no_args, then_arg, Link, Compare, Links, no_links, then_link}
+use Rattle.pawn_tree.specs.Expressions.{Expr, Number, Text, Name, Paren, Sizeof, Tagof, Prefix}
+use Rattle.pawn_tree.specs.Expressions.{Tagged, Postfix, Index, Character, Binary, Chain, Choice}
+use Rattle.pawn_tree.specs.Expressions.{Assign, Call, Arg, Value, Default, Named, Args, no_args}
+use Rattle.pawn_tree.specs.Expressions.{then_arg, Link, Compare, Links, no_links, then_link}
 use Rattle.pawn_program.specs.Program.{Program}
 use Rattle.pawn_typing.specs.Around.{Around, Callable}
 use Rattle.pawn_typing.specs.Scope.{Native, Scope, found}
@@ -24,6 +27,7 @@ module _ (program : Program) (cx : Around) (path : Scope) where
 
   -- behind so many objects
   abbrev mutual
+    -- an expression behind so many objects
     pub IsPlaced : ℕ → Expr → Type 0
     IsPlaced before (Number at v) = IsCell v
     IsPlaced before (Text at bytes packed) =
@@ -46,19 +50,23 @@ module _ (program : Program) (cx : Around) (path : Scope) where
     IsPlaced before (Assign at sign l r) = IsPlaced before l × IsPlaced (before + literals l) r
     IsPlaced before (Call at name args bare) = IsNumbered name × ArePlacedArgs before args
 
+    -- the comparisons of a chain
     pub ArePlacedLinks : ℕ → Links → Type 0
     ArePlacedLinks before no_links = Unit {0}
     ArePlacedLinks before (then_link link more) =
         IsPlacedLink before link × ArePlacedLinks (before + literals_of_link link) more
 
+    -- one comparison of a chain
     pub IsPlacedLink : ℕ → Link → Type 0
     IsPlacedLink before (Compare sign e) = IsPlaced before e
 
+    -- each argument behind the literals of those before it
     pub ArePlacedArgs : ℕ → Args → Type 0
     ArePlacedArgs before no_args = Unit {0}
     ArePlacedArgs before (then_arg arg more) =
         IsPlacedArg before arg × ArePlacedArgs (before + literals_of_arg arg) more
 
+    -- `_` asks for nothing
     pub IsPlacedArg : ℕ → Arg → Type 0
     IsPlacedArg before (Value e) = IsPlaced before e
     IsPlacedArg before (Default at) = Unit {0}

@@ -7,6 +7,7 @@ use Rattle.pawn_tree.specs.Declarations.{Tree}
 use Rattle.pawn_program.specs.Program.{Public, Program}
 use Rattle.pawn_typed.specs.IsTyped.{IsTyped}
 
+-- so the host finds a public function by its name
 abbrev pub PublicsAreSorted : Type 0
 PublicsAreSorted =
     (tree : Tree) (dynamic : ℤ) (program : Program) (warnings : List Place)

@@ -13,12 +13,14 @@ use Rattle.pawn_sound.specs.Meant.{IsReached, KnowsPath}
 use Rattle.pawn_sound.specs.Known.{KnowsAround}
 use Rattle.pawn_sound.specs.Placed.{IsPlaced}
 
+-- by what an expression is to its surroundings
 abbrev pub IsValidForm : program.Scope → Form → Type 0
 IsValidForm scope (Value e) = IsValidExpr scope e
 IsValidForm scope (Place p constant) = IsValidScalar scope p
 IsValidForm scope (Whole a reach constant) = IsReached scope a reach
 IsValidForm scope (Literal object cells) = IsReached scope (Object object) (line cells)
 
+-- each expression that fits a program
 abbrev pub ExpressionsAreValid : Type 0
 ExpressionsAreValid =
     (scope : program.Scope) (cx : Around) (path : Scope) (before : ℕ) (e : Expr) (x : Typed)

@@ -1,6 +1,7 @@
 -- Declarations by computation: names of the file, enumerations, heads, user operators, public
 -- functions, automata.
-use Rattle.std.specs.Prelude.{◌≡◌, ℕ, pos, negsuc, List, [], ◌∷◌, map, codes, true, false, Option, None, Some, refl}
+use Rattle.std.specs.Prelude.{◌≡◌, ℕ, pos, negsuc, List, [], ◌∷◌, map, codes, true, false, Option}
+use Rattle.std.specs.Prelude.{None, Some, refl}
 use Rattle.std.specs.Int.{int_wrap}
 use Rattle.pawn_token.specs.Signs.{sign_spelling}
 use Rattle.pawn_token.specs.declared.sign.Sign.{Sign}
@@ -8,6 +9,7 @@ use Rattle.pawn_token.specs.declared.sign.Sign.TheVariants as sign
 use Rattle.pawn_tree.specs.declared.name.Name as n
 use Rattle.pawn_tree.specs.declared.declaration.HeadName.TheVariants as called
 use Rattle.pawn_tree.specs.declared.expression.SizeofOperand.TheVariants as size_operand
+use Rattle.pawn_tree.specs.declared.expression.TagofOperand.TheVariants as tag_operand
 use Rattle.pawn_tree.specs.Expressions as e
 use Rattle.pawn_tree.specs.Expressions.{Expr}
 use Rattle.pawn_tree.specs.Variables as v
@@ -21,7 +23,7 @@ use Rattle.pawn_scopes.specs.Verdict.{faults_of}
 use Rattle.pawn_typing.specs.Rule.{thread}
 use Rattle.pawn_typing.specs.Tests.{sent}
 use Rattle.pawn_typing.specs.Scope.{found}
-use Rattle.pawn_typing.specs.Names.{sizeof_rule}
+use Rattle.pawn_typing.specs.Names.{sizeof_rule, tagof_rule}
 use Rattle.pawn_typing.specs.Operators.{operator_rule}
 use Rattle.pawn_cells.specs.Operators as cells
 use Rattle.pawn_calls.specs.Given.{plain_given, rest_rule}
@@ -35,13 +37,16 @@ use Rattle.pawn_automata.specs.Groups.{grouped}
 use Rattle.pawn_automata.specs.Automata.{classified, entered}
 use Rattle.pawn_typed.specs.Enums.{behind_items, items_rule, items_parts}
 use Rattle.pawn_typed.specs.Paths.{heads}
-use Rattle.pawn_typed.specs.Sources.{functions_from, natives_from, operators_from, function_entries, native_entries}
+use Rattle.pawn_typed.specs.Sources.{functions_from, natives_from, operators_from, function_entries}
+use Rattle.pawn_typed.specs.Sources.{native_entries}
 use Rattle.pawn_typed.specs.Declarations.{globals, declarations}
 use Rattle.pawn_typed.specs.Publics.{sorted, publics_from}
 use Rattle.pawn_typed.specs.Programs as programs
 use Rattle.pawn_typed.specs.Whole.{typed}
 use Rattle.pawn_calls.proofs.Samples.{at, name, number, var, call}
-use Rattle.pawn_typed.proofs.Spellings.{head, param, function_with, function, state, in_states, block, nothing, main, variable, new, global, native, kind_and_line, faults, warnings_in, program_in}
+use Rattle.pawn_typed.proofs.Spellings.{head, param, function_with, function, state, in_states}
+use Rattle.pawn_typed.proofs.Spellings.{block, nothing, main, variable, new, global, native}
+use Rattle.pawn_typed.proofs.Spellings.{kind_and_line, faults, warnings_in, program_in}
 
 -- ---- names of the file
 
@@ -87,7 +92,11 @@ names : map faults (
     ≡ [] ∷ ((50, 9) ∷ []) ∷ ((51, 2) ∷ []) ∷ ((50, 3) ∷ []) ∷ ((51, 3) ∷ []) ∷ ((71, 1) ∷ [])
     ∷ ((65, 2) ∷ []) ∷ ((61, 3) ∷ [])
     ∷ ((57, 2) ∷ []) ∷ ((50, 3) ∷ []) ∷ []
-unfolding found thread constant_rule sizeof_rule behind_vars locals vars_parts params_parts params behind_params grouped classified entered heads functions_from natives_from operators_from function_entries native_entries globals declarations behind_items items_rule items_parts sorted publics_from programs.functions_from programs.tags_from sent sign_spelling call_rule args_of plain_given rest_rule cells.binary operator_rule int_wrap
+unfolding found thread constant_rule sizeof_rule behind_vars locals vars_parts params_parts params
+    behind_params grouped classified entered heads functions_from natives_from operators_from
+    function_entries native_entries globals declarations behind_items items_rule items_parts
+    sorted publics_from programs.functions_from programs.tags_from sent sign_spelling
+    call_rule args_of plain_given rest_rule cells.binary operator_rule int_wrap
 names = refl
 
 abbrev body_in : Option code.Program → List (List code.Body)
@@ -99,10 +108,15 @@ bodies tree = body_in (program_in (typed tree (pos 4096)))
 
 -- `enum T { a, b = 5, c } main() return T;`
 after_the_last : bodies (
-    enum 2 (codes "T") (item (codes "a") None ∷ item (codes "b") (Some (number 3 5)) ∷ item (codes "c") None ∷ [])
+    enum 2 (codes "T") (item (codes "a") None ∷ item (codes "b") (Some (number 3 5))
+    ∷ item (codes "c") None ∷ [])
     ∷ main (s.Return (at 4) (Some (var 5 (codes "T")))) ∷ [])
     ≡ (record { slots = []; stmt = code.Return (code.Const (pos 7)) } ∷ []) ∷ []
-unfolding found thread constant_rule sizeof_rule behind_vars locals vars_parts params_parts params behind_params grouped classified entered heads functions_from natives_from operators_from function_entries native_entries globals declarations behind_items items_rule items_parts sorted publics_from programs.functions_from programs.tags_from sent sign_spelling call_rule args_of plain_given rest_rule cells.binary operator_rule int_wrap
+unfolding found thread constant_rule sizeof_rule behind_vars locals vars_parts params_parts params
+    behind_params grouped classified entered heads functions_from natives_from operators_from
+    function_entries native_entries globals declarations behind_items items_rule items_parts
+    sorted publics_from programs.functions_from programs.tags_from sent sign_spelling
+    call_rule args_of plain_given rest_rule cells.binary operator_rule int_wrap
 after_the_last = refl
 
 -- `const Fixed:c = 1;` warns, and the value of an enumeration doesn't: `enum Fx { a = 5 }`
@@ -110,7 +124,11 @@ tests : map (λ tree. warnings_in (typed tree (pos 4096))) (
     (constant 2 (Some (name 2 (codes "Fixed"))) (codes "c") (number 3 1) ∷ main nothing ∷ [])
     ∷ (enum 2 (codes "Fx") (item (codes "a") (Some (number 3 5)) ∷ []) ∷ main nothing ∷ []) ∷ [])
     ≡ (3 ∷ []) ∷ [] ∷ []
-unfolding found thread constant_rule sizeof_rule behind_vars locals vars_parts params_parts params behind_params grouped classified entered heads functions_from natives_from operators_from function_entries native_entries globals declarations behind_items items_rule items_parts sorted publics_from programs.functions_from programs.tags_from sent sign_spelling call_rule args_of plain_given rest_rule cells.binary operator_rule int_wrap
+unfolding found thread constant_rule sizeof_rule behind_vars locals vars_parts params_parts params
+    behind_params grouped classified entered heads functions_from natives_from operators_from
+    function_entries native_entries globals declarations behind_items items_rule items_parts
+    sorted publics_from programs.functions_from programs.tags_from sent sign_spelling
+    call_rule args_of plain_given rest_rule cells.binary operator_rule int_wrap
 tests = refl
 
 -- ---- heads
@@ -129,7 +147,11 @@ heads_compared : map faults (
     ∷ main nothing ∷ [])
     ∷ [])
     ≡ ((65, 3) ∷ []) ∷ [] ∷ ((57, 3) ∷ []) ∷ []
-unfolding found thread constant_rule sizeof_rule behind_vars locals vars_parts params_parts params behind_params grouped classified entered heads functions_from natives_from operators_from function_entries native_entries globals declarations behind_items items_rule items_parts sorted publics_from programs.functions_from programs.tags_from sent sign_spelling call_rule args_of plain_given rest_rule cells.binary operator_rule int_wrap
+unfolding found thread constant_rule sizeof_rule behind_vars locals vars_parts params_parts params
+    behind_params grouped classified entered heads functions_from natives_from operators_from
+    function_entries native_entries globals declarations behind_items items_rule items_parts
+    sorted publics_from programs.functions_from programs.tags_from sent sign_spelling
+    call_rule args_of plain_given rest_rule cells.binary operator_rule int_wrap
 heads_compared = refl
 
 -- ---- user operators
@@ -151,13 +173,18 @@ operators_refused : map faults (
     ∷ (operator 2 None sign.Minus (param fixed_tag (codes "a") (Some (number 2 1)) ∷ [])
     ∷ main nothing ∷ [])
     ∷ (operator 2 None sign.Semicolon (param fixed_tag (codes "a") None ∷ []) ∷ main nothing ∷ [])
-    ∷ (d.Native (at 2) (head 2 None (called.Operator (at 2) sign.Minus) (param fixed_tag (codes "a") None ∷ [])) ∷ main nothing ∷ [])
+    ∷ (d.Native (at 2) (head 2 None (called.Operator (at 2) sign.Minus)
+    (param fixed_tag (codes "a") None ∷ [])) ∷ main nothing ∷ [])
     ∷ (operator 2 None sign.Minus (param fixed_tag (codes "a") None ∷ [])
     ∷ operator 3 None sign.Minus (param fixed_tag (codes "b") None ∷ []) ∷ main nothing ∷ [])
     ∷ [])
     ≡ ((66, 2) ∷ []) ∷ ((66, 2) ∷ []) ∷ ((66, 2) ∷ []) ∷ ((66, 2) ∷ []) ∷ ((66, 2) ∷ [])
     ∷ ((51, 3) ∷ (65, 3) ∷ []) ∷ []
-unfolding found thread constant_rule sizeof_rule behind_vars locals vars_parts params_parts params behind_params grouped classified entered heads functions_from natives_from operators_from function_entries native_entries globals declarations behind_items items_rule items_parts sorted publics_from programs.functions_from programs.tags_from sent sign_spelling call_rule args_of plain_given rest_rule cells.binary operator_rule int_wrap
+unfolding found thread constant_rule sizeof_rule behind_vars locals vars_parts params_parts params
+    behind_params grouped classified entered heads functions_from natives_from operators_from
+    function_entries native_entries globals declarations behind_items items_rule items_parts
+    sorted publics_from programs.functions_from programs.tags_from sent sign_spelling
+    call_rule args_of plain_given rest_rule cells.binary operator_rule int_wrap
 operators_refused = refl
 
 -- `Fixed:operator=(x) return Fixed:x; f(Fixed:x) { } main() { new Fixed:y = 3; f(4); }`: both
@@ -167,7 +194,8 @@ conversions : bodies (
     (param [] (codes "x") None ∷ []) None
     (s.Return (at 2) (Some (e.Tagged (at 2) (codes "Fixed") (var 2 (codes "x")))))
     ∷ function 3 (codes "f") (param fixed_tag (codes "x") None ∷ []) nothing
-    ∷ main (block (new 4 (variable (Some (name 4 (codes "Fixed"))) (codes "y") (Some (v.Value (number 4 3))) ∷ [])
+    ∷ main (block (new 4 (variable (Some (name 4 (codes "Fixed"))) (codes "y")
+    (Some (v.Value (number 4 3))) ∷ [])
     ∷ does (call 9 (codes "f") (e.Value (number 9 4) ∷ [])) ∷ [])) ∷ [])
     ≡ (record { slots = code.ScalarSlot ∷ []; stmt = code.Return (code.Read (code.Own 0)) } ∷ [])
     ∷ (record { slots = code.ScalarSlot ∷ []; stmt = code.Block code.no_stmts } ∷ [])
@@ -175,10 +203,15 @@ conversions : bodies (
       slots = code.ScalarSlot ∷ [];
       stmt = code.Block (
           code.then_stmt (code.Local 0 (code.OperateOne 0 (code.Const (pos 3))))
-          (code.then_stmt (code.Do (code.Call 1 (code.then_arg (code.Value (code.OperateOne 0 (code.Const (pos 4)))) code.no_args)))
+          (code.then_stmt (code.Do (code.Call 1
+          (code.then_arg (code.Value (code.OperateOne 0 (code.Const (pos 4)))) code.no_args)))
           code.no_stmts));
     } ∷ []) ∷ []
-unfolding found thread constant_rule sizeof_rule behind_vars locals vars_parts params_parts params behind_params grouped classified entered heads functions_from natives_from operators_from function_entries native_entries globals declarations behind_items items_rule items_parts sorted publics_from programs.functions_from programs.tags_from sent sign_spelling call_rule args_of plain_given rest_rule cells.binary operator_rule int_wrap
+unfolding found thread constant_rule sizeof_rule behind_vars locals vars_parts params_parts params
+    behind_params grouped classified entered heads functions_from natives_from operators_from
+    function_entries native_entries globals declarations behind_items items_rule items_parts
+    sorted publics_from programs.functions_from programs.tags_from sent sign_spelling
+    call_rule args_of plain_given rest_rule cells.binary operator_rule int_wrap
 conversions = refl
 
 -- ---- public functions
@@ -193,7 +226,11 @@ publics : publics_in (program_in (typed (
     ∷ function 3 (codes "f") [] nothing ∷ function 4 (codes "@a") [] nothing ∷ main nothing ∷ [])
     (pos 4096)))
     ≡ record { name = codes "@a"; function = 1 } ∷ record { name = codes "f"; function = 0 } ∷ []
-unfolding found thread constant_rule sizeof_rule behind_vars locals vars_parts params_parts params behind_params grouped classified entered heads functions_from natives_from operators_from function_entries native_entries globals declarations behind_items items_rule items_parts sorted publics_from programs.functions_from programs.tags_from sent sign_spelling call_rule args_of plain_given rest_rule cells.binary operator_rule int_wrap
+unfolding found thread constant_rule sizeof_rule behind_vars locals vars_parts params_parts params
+    behind_params grouped classified entered heads functions_from natives_from operators_from
+    function_entries native_entries globals declarations behind_items items_rule items_parts
+    sorted publics_from programs.functions_from programs.tags_from sent sign_spelling
+    call_rule args_of plain_given rest_rule cells.binary operator_rule int_wrap
 publics = refl
 
 -- ---- automata
@@ -215,13 +252,21 @@ states = program_in (typed (
     ∷ main (s.State (at 5) None (state (codes "a"))) ∷ []) (pos 4096))
 
 known : automata_in states ≡ record { name = []; states = codes "a" ∷ []; enter = Some 1 } ∷ []
-unfolding found thread constant_rule sizeof_rule behind_vars locals vars_parts params_parts params behind_params grouped classified entered heads functions_from natives_from operators_from function_entries native_entries globals declarations behind_items items_rule items_parts sorted publics_from programs.functions_from programs.tags_from sent sign_spelling call_rule args_of plain_given rest_rule cells.binary operator_rule int_wrap
+unfolding found thread constant_rule sizeof_rule behind_vars locals vars_parts params_parts params
+    behind_params grouped classified entered heads functions_from natives_from operators_from
+    function_entries native_entries globals declarations behind_items items_rule items_parts
+    sorted publics_from programs.functions_from programs.tags_from sent sign_spelling
+    call_rule args_of plain_given rest_rule cells.binary operator_rule int_wrap
 known = refl
 
 routes : dispatch_in states
     ≡ Some (record { automaton = 0; cases = (0, 0) ∷ []; fallback = Some 1 })
     ∷ Some (record { automaton = 0; cases = (0, 0) ∷ []; fallback = None }) ∷ None ∷ []
-unfolding found thread constant_rule sizeof_rule behind_vars locals vars_parts params_parts params behind_params grouped classified entered heads functions_from natives_from operators_from function_entries native_entries globals declarations behind_items items_rule items_parts sorted publics_from programs.functions_from programs.tags_from sent sign_spelling call_rule args_of plain_given rest_rule cells.binary operator_rule int_wrap
+unfolding found thread constant_rule sizeof_rule behind_vars locals vars_parts params_parts params
+    behind_params grouped classified entered heads functions_from natives_from operators_from
+    function_entries native_entries globals declarations behind_items items_rule items_parts
+    sorted publics_from programs.functions_from programs.tags_from sent sign_spelling
+    call_rule args_of plain_given rest_rule cells.binary operator_rule int_wrap
 routes = refl
 
 abbrev sized : ℕ → List ℕ → Expr
@@ -241,8 +286,44 @@ classifiers : map faults (
     ∷ (in_states 2 (codes "entry") (codes "a" ∷ []) nothing
     ∷ main (does (sized 9 (codes "entry"))) ∷ []) ∷ [])
     ≡ ((42, 2) ∷ []) ∷ ((44, 2) ∷ []) ∷ ((43, 3) ∷ []) ∷ ((50, 9) ∷ []) ∷ ((53, 9) ∷ []) ∷ []
-unfolding found thread constant_rule sizeof_rule behind_vars locals vars_parts params_parts params behind_params grouped classified entered heads functions_from natives_from operators_from function_entries native_entries globals declarations behind_items items_rule items_parts sorted publics_from programs.functions_from programs.tags_from sent sign_spelling call_rule args_of plain_given rest_rule cells.binary operator_rule int_wrap
+unfolding found thread constant_rule sizeof_rule behind_vars locals vars_parts params_parts params
+    behind_params grouped classified entered heads functions_from natives_from operators_from
+    function_entries native_entries globals declarations behind_items items_rule items_parts
+    sorted publics_from programs.functions_from programs.tags_from sent sign_spelling
+    call_rule args_of plain_given rest_rule cells.binary operator_rule int_wrap
 classifiers = refl
+
+-- `10 / tagof entry`, and the body of an entry function for a state of an automaton
+abbrev by_tag : Decl
+by_tag =
+    constant 4 None (codes "c") (e.Binary (at 5) sign.Slash (number 5 10)
+    (e.Tagof (at 6) (tag_operand.Name (name 6 (codes "entry")))))
+
+abbrev enters : ℕ → Option n.Name → List ℕ → Stmt → Decl
+enters token tag automaton body =
+    function_with token tag (called.Name (name token (codes "entry"))) []
+    (Some (record { automaton = Some (name token automaton); state = name token (codes "s") } ∷ []))
+    body
+
+abbrev gives_fixed : Stmt
+gives_fixed = s.Return (at 9) (Some (e.Tagged (at 9) (codes "Fixed") (number 9 1)))
+
+-- the name `entry` is of the first entry function, whose tag is 0 here: `entry() <a:s> { }
+-- Fixed:entry() <b:s> return Fixed:1; const c = 10 / tagof entry; main() { }`; and with `Fixed`
+-- first
+first_entered : map faults (
+    (enters 2 None (codes "a") nothing
+    ∷ enters 3 (Some (name 3 (codes "Fixed"))) (codes "b") gives_fixed ∷ by_tag ∷ main nothing ∷ [])
+    ∷ (enters 2 (Some (name 2 (codes "Fixed"))) (codes "b") gives_fixed
+    ∷ enters 3 None (codes "a") nothing ∷ by_tag ∷ main nothing ∷ []) ∷ [])
+    ≡ ((67, 5) ∷ []) ∷ [] ∷ []
+unfolding found thread constant_rule sizeof_rule tagof_rule behind_vars locals vars_parts
+    params_parts params behind_params grouped classified entered heads functions_from natives_from
+    operators_from function_entries native_entries globals declarations behind_items items_rule
+    items_parts sorted publics_from programs.functions_from programs.tags_from sent
+    sign_spelling call_rule args_of plain_given rest_rule cells.binary operator_rule
+    int_wrap
+first_entered = refl
 
 -- ---- a node that breaks a rule, by which a part of it falls
 
@@ -279,14 +360,24 @@ by_themselves : map faults (
     ∷ main (s.For (at 4) (s.New (array (codes "a") (var 5 (codes "x")) ∷ []))
     (Some (e.Index (at 6) (var 6 (codes "a")) (number 7 0))) None (s.Empty (at 8))) ∷ [])
     ∷ [])
-    ≡ ((57, 2) ∷ []) ∷ ((57, 2) ∷ []) ∷ ((57, 2) ∷ []) ∷ ((57, 4) ∷ []) ∷ ((57, 4) ∷ []) ∷ ((57, 3) ∷ [])
+    ≡ ((57, 2) ∷ []) ∷ ((57, 2) ∷ []) ∷ ((57, 2) ∷ []) ∷ ((57, 4) ∷ []) ∷ ((57, 4) ∷ [])
+    ∷ ((57, 3) ∷ [])
     ∷ ((57, 4) ∷ []) ∷ []
-unfolding found thread constant_rule sizeof_rule behind_vars locals vars_parts params_parts params behind_params grouped classified entered heads functions_from natives_from operators_from function_entries native_entries globals declarations behind_items items_rule items_parts sorted publics_from programs.functions_from programs.tags_from sent sign_spelling call_rule args_of plain_given rest_rule cells.binary operator_rule int_wrap
+unfolding found thread constant_rule sizeof_rule behind_vars locals vars_parts params_parts params
+    behind_params grouped classified entered heads functions_from natives_from operators_from
+    function_entries native_entries globals declarations behind_items items_rule items_parts
+    sorted publics_from programs.functions_from programs.tags_from sent sign_spelling
+    call_rule args_of plain_given rest_rule cells.binary operator_rule int_wrap
 by_themselves = refl
 
 -- ---- the room
 
-rooms : map (λ room. map kind_and_line (faults_of (typed (main nothing ∷ []) room))) (negsuc 0 ∷ pos 0 ∷ pos 16777216 ∷ pos 16777217 ∷ [])
+rooms : map (λ room. map kind_and_line (faults_of (typed (main nothing ∷ []) room)))
+    (negsuc 0 ∷ pos 0 ∷ pos 16777216 ∷ pos 16777217 ∷ [])
     ≡ ((70, 1) ∷ []) ∷ [] ∷ [] ∷ ((70, 1) ∷ []) ∷ []
-unfolding found thread constant_rule sizeof_rule behind_vars locals vars_parts params_parts params behind_params grouped classified entered heads functions_from natives_from operators_from function_entries native_entries globals declarations behind_items items_rule items_parts sorted publics_from programs.functions_from programs.tags_from sent sign_spelling call_rule args_of plain_given rest_rule cells.binary operator_rule int_wrap
+unfolding found thread constant_rule sizeof_rule behind_vars locals vars_parts params_parts params
+    behind_params grouped classified entered heads functions_from natives_from operators_from
+    function_entries native_entries globals declarations behind_items items_rule items_parts
+    sorted publics_from programs.functions_from programs.tags_from sent sign_spelling
+    call_rule args_of plain_given rest_rule cells.binary operator_rule int_wrap
 rooms = refl

@@ -25,18 +25,22 @@ use Rattle.pawn_heads.specs.Params.{params, params_parts, behind_params}
 use Rattle.pawn_automata.specs.Groups.{grouped}
 use Rattle.pawn_automata.specs.Automata.{classified, entered}
 use Rattle.pawn_typed.specs.Paths.{heads}
-use Rattle.pawn_typed.specs.Sources.{functions_from, natives_from, operators_from, function_entries, native_entries}
+use Rattle.pawn_typed.specs.Sources.{functions_from, natives_from, operators_from, function_entries}
+use Rattle.pawn_typed.specs.Sources.{native_entries}
 use Rattle.pawn_typed.specs.Declarations.{globals, declarations}
 use Rattle.pawn_typed.specs.Publics.{sorted, publics_from}
 use Rattle.pawn_typed.specs.Programs as programs
 use Rattle.pawn_typed.specs.Whole.{typed}
 use Rattle.pawn_calls.proofs.Samples.{at, name, number, var, call}
-use Rattle.pawn_typed.proofs.Spellings.{param, function_with, function, state, in_states, block, nothing, main, variable, new, global, native, faults, warnings_in, program_in}
+use Rattle.pawn_typed.proofs.Spellings.{param, function_with, function, state, in_states, block}
+use Rattle.pawn_typed.proofs.Spellings.{nothing, main, variable, new, global, native, faults}
+use Rattle.pawn_typed.proofs.Spellings.{warnings_in, program_in}
 
 -- no source; `main() { new a; new a; }`; `main() { break; }`; `f(x) { if (x) return; return 1; }
 -- main() { }`
 refused : map faults (
-    [] ∷ (main (block (new 3 (variable None (codes "a") None ∷ []) ∷ new 4 (variable None (codes "a") None ∷ []) ∷ [])) ∷ [])
+    [] ∷ (main (block (new 3 (variable None (codes "a") None ∷ [])
+    ∷ new 4 (variable None (codes "a") None ∷ []) ∷ [])) ∷ [])
     ∷ (main (block (s.Break (at 3) ∷ [])) ∷ [])
     ∷ (function 2 (codes "f") (param [] (codes "x") None ∷ [])
     (block (s.If (at 3) (var 3 (codes "x")) (s.Return (at 4) None) s.no_stmt
@@ -44,7 +48,10 @@ refused : map faults (
     ∷ main nothing ∷ [])
     ∷ [])
     ≡ ((71, 1) ∷ []) ∷ ((51, 4) ∷ []) ∷ ((63, 3) ∷ []) ∷ ((64, 4) ∷ (64, 5) ∷ []) ∷ []
-unfolding found thread constant_rule behind_vars locals vars_parts params_parts params behind_params grouped classified entered heads functions_from natives_from operators_from function_entries native_entries globals declarations sorted publics_from programs.functions_from programs.tags_from sent sign_spelling
+unfolding found thread constant_rule behind_vars locals vars_parts params_parts params behind_params
+    grouped classified entered heads functions_from natives_from operators_from function_entries
+    native_entries globals declarations sorted publics_from programs.functions_from
+    programs.tags_from sent sign_spelling
 refused = refl
 
 -- `f() <a> { } main() state b;`; `f() <a> { } main() state q:a;`; `f() <a> { } f(x) <b> { } main()
@@ -68,7 +75,10 @@ automata_refused : map faults (
     ∷ [])
     ≡ ((41, 4) ∷ []) ∷ ((40, 4) ∷ []) ∷ ((65, 3) ∷ []) ∷ ((42, 3) ∷ []) ∷ ((44, 2) ∷ [])
     ∷ ((44, 2) ∷ []) ∷ []
-unfolding found thread constant_rule behind_vars locals vars_parts params_parts params behind_params grouped classified entered heads functions_from natives_from operators_from function_entries native_entries globals declarations sorted publics_from programs.functions_from programs.tags_from sent sign_spelling
+unfolding found thread constant_rule behind_vars locals vars_parts params_parts params behind_params
+    grouped classified entered heads functions_from natives_from operators_from function_entries
+    native_entries globals declarations sorted publics_from programs.functions_from
+    programs.tags_from sent sign_spelling
 automata_refused = refl
 
 -- ---- programs
@@ -99,7 +109,10 @@ called_native : program_in (typed (
       entry = Some 0;
       dynamic = pos 4096;
     })
-unfolding found thread constant_rule behind_vars locals vars_parts params_parts params behind_params grouped classified entered heads functions_from natives_from operators_from function_entries native_entries globals declarations sorted publics_from programs.functions_from programs.tags_from sent sign_spelling call_rule args_of plain_given
+unfolding found thread constant_rule behind_vars locals vars_parts params_parts params behind_params
+    grouped classified entered heads functions_from natives_from operators_from function_entries
+    native_entries globals declarations sorted publics_from programs.functions_from
+    programs.tags_from sent sign_spelling call_rule args_of plain_given
 called_native = refl
 
 -- line 2 `Fixed:f() return Fixed:3;`, line 3 `g() return 4;`, line 4 `Fixed:operator+(Fixed:a, b)
@@ -120,5 +133,8 @@ warnings : warnings_in (typed (
     (e.Binary (at 6) sign.Plus (call 6 (codes "g") []) (call 6 (codes "f") [])))) ∷ [])
     ∷ new 7 (variable fixed (codes "y") (Some (v.Value (number 8 1))) ∷ []) ∷ []))
     ∷ []) (pos 4096)) ≡ 8 ∷ []
-unfolding found thread constant_rule behind_vars locals vars_parts params_parts params behind_params grouped classified entered heads functions_from natives_from operators_from function_entries native_entries globals declarations sorted publics_from programs.functions_from programs.tags_from sent sign_spelling call_rule args_of plain_given operator_rule
+unfolding found thread constant_rule behind_vars locals vars_parts params_parts params behind_params
+    grouped classified entered heads functions_from natives_from operators_from function_entries
+    native_entries globals declarations sorted publics_from programs.functions_from
+    programs.tags_from sent sign_spelling call_rule args_of plain_given operator_rule
 warnings = refl

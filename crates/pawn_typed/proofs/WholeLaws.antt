@@ -1,5 +1,6 @@
 -- At most one program stands, none where there is a fault, and what stands is within the sums.
-use Rattle.std.proofs.Common.{◌≡◌, ◌<◌, ℕ, ℤ, List, [], ◌++◌, Bool, true, false, refl, sym, ◌∙◌, subst, arith, ap}
+use Rattle.std.proofs.Common.{◌≡◌, ◌<◌, ℕ, ℤ, List, [], ◌++◌, Bool, true, false, refl, sym, ◌∙◌}
+use Rattle.std.proofs.Common.{subst, arith, ap}
 use Rattle.std.specs.Prelude.{not, nat_le}
 use Rattle.std.specs.List.{Contains}
 use Rattle.std.proofs.lemmas.Bool.{leb-true}
@@ -11,8 +12,10 @@ use Rattle.pawn_meaning.specs.Limits.{data_cells}
 use Rattle.pawn_meaning.specs.Weight.{weight}
 use Rattle.pawn_scopes.specs.Verdict.{Fault, Verdict, Stands, faults_of}
 use Rattle.pawn_typing.specs.declared.fault.TheConstants.{LIMIT_ARRAY, LIMIT_CODE}
-use Rattle.pawn_typing.proofs.VerdictLaws.{Holds, stands_itself, breaks_holds, holds_after, holds_both, holds_all}
-use Rattle.pawn_typed.specs.Whole.{Checked, passed, typed, unless, whole_fault, within_sums, whole_faults, source_faults, done, checked_of}
+use Rattle.pawn_typing.proofs.VerdictLaws.{Holds, stands_itself, breaks_holds, holds_after}
+use Rattle.pawn_typing.proofs.VerdictLaws.{holds_both, holds_all}
+use Rattle.pawn_typed.specs.Whole.{Checked, passed, typed, unless, whole_fault, within_sums}
+use Rattle.pawn_typed.specs.Whole.{whole_faults, source_faults, done, checked_of}
 use Rattle.pawn_typed.specs.IsTyped.{IsTyped, IsFault}
 use Rattle.pawn_typed.specs.Sums.{IsWithinSums}
 
@@ -22,7 +25,8 @@ same_checked a b e = cc
 same_parts : (a b : Checked) → a ≡ b → (a.program ≡ b.program) × (a.warnings ≡ b.warnings)
 same_parts a b e = (ap (λ (it : Checked). it.program) e, ap (λ (it : Checked). it.warnings) e)
 
-pub one_program : (tree : Tree) (dynamic : ℤ) (program other : Program) (warnings others : List Place)
+pub one_program : (tree : Tree) (dynamic : ℤ) (program other : Program)
+    (warnings others : List Place)
     → IsTyped tree dynamic program warnings → IsTyped tree dynamic other others
     → (program ≡ other) × (warnings ≡ others)
 one_program tree dynamic program other warnings others a b =
@@ -33,7 +37,8 @@ one_program tree dynamic program other warnings others a b =
 none_in : (fault : Fault) → Contains [] fault → ⊥
 none_in fault x = let lt : x.0 < 0 = x.1 in omega arith
 
-pub no_fault : (tree : Tree) (dynamic : ℤ) (program : Program) (warnings : List Place) (fault : Fault)
+pub no_fault : (tree : Tree) (dynamic : ℤ) (program : Program) (warnings : List Place)
+    (fault : Fault)
     → IsTyped tree dynamic program warnings → IsFault tree dynamic fault → ⊥
 no_fault tree dynamic program warnings fault a b =
     none_in fault (subst (λ (w : Verdict Checked). Contains (faults_of w) fault) a b)
@@ -51,7 +56,8 @@ both_pass false q k l = breaks_holds _ _
 
 within : (it : Checked) → Holds (λ checked. IsWithinSums checked.program) (within_sums it)
 within it =
-    holds_after (both_pass (nat_le (data_cells it.program) DATA_LIMIT) (nat_le (weight it.program) WEIGHT_LIMIT) LIMIT_ARRAY LIMIT_CODE)
+    holds_after (both_pass (nat_le (data_cells it.program) DATA_LIMIT)
+    (nat_le (weight it.program) WEIGHT_LIMIT) LIMIT_ARRAY LIMIT_CODE)
     (λ ok p. stands_itself (λ (checked : Checked). IsWithinSums checked.program) it
     (record { cells = leb-true _ _ p.0; code = leb-true _ _ p.1 }))
 

@@ -1,11 +1,13 @@
 -- What each declaration at the level of the file is (Language Guide, "Declarations", "Functions").
-use Rattle.std.specs.Prelude.{ℕ, ◌+◌, List, [], ◌∷◌, ◌++◌, Bool, false, nat_le, if◌then◌else◌, None, unwrap_or}
+use Rattle.std.specs.Prelude.{ℕ, ◌+◌, List, [], ◌∷◌, ◌++◌, Bool, false, nat_le, if◌then◌else◌, None}
+use Rattle.std.specs.Prelude.{unwrap_or}
 use Rattle.pawn_tree.specs.declared.name.At.{At}
 use Rattle.pawn_tree.specs.declared.variable.Storage.TheVariants as storage
 use Rattle.pawn_tree.specs.Variables.{Var}
 use Rattle.pawn_tree.specs.Statements.{ConstantOf}
 use Rattle.pawn_tree.specs.Declarations as tree
-use Rattle.pawn_tree.specs.Declarations.{Decl, Variables, Constant, Enum, Native, Forward, Function, Tree, FunctionOf}
+use Rattle.pawn_tree.specs.Declarations.{Decl, Variables, Constant, Enum, Native, Forward, Function}
+use Rattle.pawn_tree.specs.Declarations.{Tree, FunctionOf}
 use Rattle.pawn_program.specs.Program.{Slot, StaticObject, Body}
 use Rattle.pawn_meaning.specs.declared.limits.TheConstants.{LOCALS_LIMIT}
 use Rattle.pawn_meaning.specs.Need.{locals}
@@ -41,6 +43,7 @@ pub record Done : Type 0 where
   pub bodies : List Bodied
   pub warned : List At
 
+-- two declarations one behind the other
 abbrev pub done_behind : Done → Done → Done
 done_behind x y =
     record {
@@ -54,9 +57,11 @@ done_behind x y =
 abbrev pub warning : List At → Done
 warning warned = record { objects = []; bodies = []; warned = warned }
 
+-- before any declaration
 abbrev pub nothing_done : Done
 nothing_done = warning []
 
+-- variables of the file make objects, and no body
 abbrev pub objects_done : Stood → Done
 objects_done x = record { objects = x.objects; bodies = []; warned = x.warned }
 
@@ -80,9 +85,11 @@ abbrev pub native_name : At → HeadName → Verdict HeadName
 native_name at (called.Name name) = Stands (called.Name name)
 native_name at (called.Operator sign_at sign) = broken BAD_OPERATOR at
 
+-- the body of a function: the slots of its parameters first, then those of its locals
 abbrev pub body_of : Headed → Stood → Body
 body_of head x = record { slots = head.slots ++ x.slots; stmt = one_of x }
 
+-- a function that stands, by its number, its head and its body
 abbrev pub bodied : ℕ → At → Headed → Stood → Done
 bodied number at head x = record {
   objects = x.objects;
@@ -104,6 +111,7 @@ within_locals at body it =
     if nat_le (locals body.slots body.stmt) LOCALS_LIMIT then Stands it else broken LIMIT_ARRAY at
 
 module _ (source : Source) (cx : Around) where
+  -- by the head and the classifier behind it
   abbrev pub function_key : FunctionOf → Key
   function_key it = key_of source.tags source.fallback it.head it.states
 
@@ -123,11 +131,13 @@ module _ (source : Source) (cx : Around) where
       within_locals at (body_of head x)
       (bodied (unwrap_or (number_of source.groups key) 0) at head x)))
 
+  -- a function by its key, whose body gives values of the tag in its head
   abbrev pub function_with : Point → At → FunctionOf → Key → Verdict Done
   function_with point at it key =
       function_by point at it key
       (stmt cx source.automata (tag_of cx it.head.tag) (body_point point at it) false it.body)
 
+  -- a function whose head says an operator that may be defined
   abbrev pub function_rule : Point → At → FunctionOf → Verdict Done
   function_rule point at it =
       also (shaped_key at (function_key it)) (function_with point at it (function_key it))
@@ -138,10 +148,12 @@ module _ (source : Source) (cx : Around) where
       unless_faults (head_parts cx at point.scope head)
       (after (head_rule cx at point.scope head) (λ it. Stands (warning it.warned)))
 
+  -- a forward declaration, whose head is tested as a function's is
   abbrev pub forward_rule : Point → At → tree.Head → Verdict Done
   forward_rule point at head =
       also (shaped_key at (key_of source.tags source.fallback head None)) (bare_head point at head)
 
+  -- the declaration of a native function
   abbrev pub native_rule : Point → At → tree.Head → Verdict Done
   native_rule point at head =
       also (native_name at head.name) (bare_head point at head)
@@ -156,6 +168,7 @@ module _ (source : Source) (cx : Around) where
       (globals (behind_var cx point at storage.Static constant x) at constant xs)
       (λ y more. Stands (done_behind (objects_done y) more))
 
+  -- a `const` of the file, whose value is a constant expression
   abbrev pub constant_rule : Point → At → ConstantOf → Verdict Done
   constant_rule point at it =
       after (constants.constant cx point.scope at it.value) (λ x.
@@ -163,6 +176,7 @@ module _ (source : Source) (cx : Around) where
 
   -- ---- all declarations
 
+  -- any declaration at a point of the file
   abbrev pub decl_rule : Point → Decl → Verdict Done
   decl_rule point (Variables at it) =
       unless_faults (vars_parts cx point at storage.Static it.constant it.vars)

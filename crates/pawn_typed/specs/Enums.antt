@@ -19,14 +19,17 @@ pub record Counted : Type 0 where
   pub scope : Scope
   pub next : Option ℤ
 
+-- no value of an expression that breaks a rule
 abbrev pub value_of : Verdict constants.Constant → Option ℤ
 value_of (Stands it) = Some it.value
 value_of (Breaks found) = None
 
+-- a constant without a known value means nothing that stands
 abbrev pub means_value : ℕ → Option ℤ → Meaning
 means_value tag None = Unknown
 means_value tag (Some v) = means.Constant v tag
 
+-- the name of a constant, with its tag
 abbrev pub entry : List ℕ → ℕ → Option ℤ → Entry
 entry name tag v = record { name = name; means = means_value tag v }
 
@@ -36,15 +39,18 @@ module _ (cx : Around) (at : At) (tag : ℕ) where
   item_value done None = done.next
   item_value done (Some e) = value_of (constants.constant cx done.scope at e)
 
+  -- behind a constant with a value: the next one is 1 more, wrapped
   abbrev pub counted_behind : Counted → List ℕ → Option ℤ → Counted
   counted_behind done name v = record {
     scope = with_entries done.scope (entry name tag v ∷ []);
     next = option_map (λ value. add value (pos 1)) v;
   }
 
+  -- behind one constant of the enumeration
   abbrev pub behind_item : Counted → Item → Counted
   behind_item done it = counted_behind done it.name.bytes (item_value done it.value)
 
+  -- each constant is known to those behind it
   unfoldable pub behind_items : Counted → List Item → Counted
   behind_items done [] = done
   behind_items done (it ∷ more) = behind_items (behind_item done it) more
@@ -54,6 +60,7 @@ module _ (cx : Around) (at : At) (tag : ℕ) where
   item_rule done None = Stands []
   item_rule done (Some e) = after (constants.constant cx done.scope at e) (λ it. Stands it.warned)
 
+  -- the same for all constants, each known to those behind it
   unfoldable pub items_rule : Counted → List Item → Verdict (List At)
   items_rule done [] = Stands []
   items_rule done (it ∷ more) =
@@ -71,6 +78,7 @@ module _ (cx : Around) (at : At) (tag : ℕ) where
 abbrev pub nothing_counted : Scope → Counted
 nothing_counted scope = record { scope = scope; next = Some (pos 0) }
 
+-- an enumeration with a name declares one constant more: the value after its last one
 abbrev pub named : Option n.Name → ℕ → Counted → Scope
 named None tag done = done.scope
 named (Some name) tag done = with_entries done.scope (entry name.bytes tag done.next ∷ [])
@@ -80,6 +88,7 @@ abbrev pub behind_enum : Around → Scope → At → ℕ → Option n.Name → L
 behind_enum cx scope at tag name items =
     named name tag (behind_items cx at tag (nothing_counted scope) items)
 
+-- what an enumeration warns of, judged where no expression in it has a fault
 abbrev pub enum_rule : Around → Scope → At → ℕ → List Item → Verdict (List At)
 enum_rule cx scope at tag items =
     unless_faults (items_parts cx at tag (nothing_counted scope) items)

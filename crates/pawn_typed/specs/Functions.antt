@@ -1,6 +1,8 @@
 -- What the bodies of one function have to keep together (Language Guide, "Functions", "Automata",
 -- "State classifiers"), apart from what stands in them: their classifiers, and their heads.
-use Rattle.std.specs.Prelude.{ℕ, codes, List, [], ◌∷◌, ◌++◌, filter, filter_map, flat_map, Bool, true, false, not, ◌&&◌, ◌||◌, if◌then◌else◌, is_some, slice_get, Option, None, Some}
+use Rattle.std.specs.Prelude.{ℕ, codes, List, [], ◌∷◌, ◌++◌, filter, filter_map, flat_map, Bool}
+use Rattle.std.specs.Prelude.{true, false, not, ◌&&◌, ◌||◌, if◌then◌else◌, is_some, slice_get}
+use Rattle.std.specs.Prelude.{Option, None, Some}
 use Rattle.std.specs.List.{list_any}
 use Rattle.std.specs.Str.{bytes_eq}
 use Rattle.pawn_tree.specs.declared.name.At.{At}
@@ -8,10 +10,12 @@ use Rattle.pawn_tree.specs.declared.name.StateName.{StateName}
 use Rattle.pawn_tree.specs.Declarations as tree
 use Rattle.pawn_states.specs.declared.clause.Clause.{Clause}
 use Rattle.pawn_states.specs.declared.fault.StateFault.{StateFault}
-use Rattle.pawn_states.specs.declared.fault.StateFault.TheVariants.{Twice, FallbackTwice, Mixed, Memory}
+use Rattle.pawn_states.specs.declared.fault.StateFault.TheVariants.{Twice, FallbackTwice, Mixed}
+use Rattle.pawn_states.specs.declared.fault.StateFault.TheVariants.{Memory}
 use Rattle.pawn_states.specs.Classifier.{first_fault}
 use Rattle.pawn_scopes.specs.Verdict.{Fault}
-use Rattle.pawn_typing.specs.declared.fault.TheConstants.{STATE_TWICE, FALLBACK_TWICE, MIXED_AUTOMATA, REDEFINED, HEAD_DIFFERS}
+use Rattle.pawn_typing.specs.declared.fault.TheConstants.{STATE_TWICE, FALLBACK_TWICE}
+use Rattle.pawn_typing.specs.declared.fault.TheConstants.{MIXED_AUTOMATA, REDEFINED, HEAD_DIFFERS}
 use Rattle.pawn_typing.specs.Around.{Head}
 use Rattle.pawn_heads.specs.SameHeads.{same_head}
 use Rattle.pawn_automata.specs.Clauses.{clause, is_mixed}

@@ -1,16 +1,19 @@
 -- The heads of a source in order: those of natives, forwards and bodies.
-use Rattle.std.specs.Prelude.{ℕ, List, [], ◌∷◌, ◌++◌, Bool, true, false, if◌then◌else◌, Option, None}
+use Rattle.std.specs.Prelude.{ℕ, List, [], ◌∷◌, ◌++◌, Bool, true, false, if◌then◌else◌, Option}
+use Rattle.std.specs.Prelude.{None}
 use Rattle.pawn_token.specs.Signs.{sign_spelling}
 use Rattle.std.specs.Prelude.{codes}
 use Rattle.pawn_tree.specs.declared.name.At.{At}
 use Rattle.pawn_tree.specs.declared.name.StateName.{StateName}
 use Rattle.pawn_tree.specs.declared.declaration.HeadName.{HeadName}
 use Rattle.pawn_tree.specs.declared.declaration.HeadName.TheVariants as called
-use Rattle.pawn_tree.specs.Declarations.{Head, Variables, Constant, Enum, Native, Forward, Function, Tree}
+use Rattle.pawn_tree.specs.Declarations.{Head, Variables, Constant, Enum, Native, Forward, Function}
+use Rattle.pawn_tree.specs.Declarations.{Tree}
 use Rattle.pawn_automata.specs.Keys.{Key, Enters, same_key, key_of}
 use Rattle.pawn_automata.specs.Keys as key
 use Rattle.pawn_automata.specs.Groups.{is_entry}
 
+-- what a head declares: a native, a function that is defined elsewhere, or one with a body
 pub data Role : Type 0 where
   IsNative : Role
   IsForward : Role
@@ -24,6 +27,7 @@ pub record Heading : Type 0 where
   pub head : Head
   pub states : Option (List StateName)
 
+-- the heads of all declarations, in token order
 abbrev pub headings : Tree → List Heading
 headings [] = []
 headings (Variables at it ∷ more) = headings more
@@ -46,6 +50,7 @@ public_name (called.Operator at sign) = codes "operator" ++ sign_spelling sign
 
 -- ---- which function a head is of
 
+-- the key is of an entry function of states
 abbrev pub is_enters : Key → Bool
 is_enters (Enters name) = true
 is_enters (key.Named name) = false
@@ -53,6 +58,7 @@ is_enters (key.Operates it) = false
 is_enters key.Misshapen = false
 
 module _ (names : List (List ℕ)) (fallback : List ℕ) where
+  -- the function that a head with its classifier is of
   abbrev pub heading_key : Heading → Key
   heading_key it = key_of names fallback it.head it.states
 
@@ -60,10 +66,12 @@ module _ (names : List (List ℕ)) (fallback : List ℕ) where
   abbrev pub forward_of : Key → Heading → Bool
   forward_of key it = if is_entry it.head.name then is_enters key else same_key key (heading_key it)
 
+  -- a head is of a function by its role: that of a native is of none
   abbrev pub is_of : Key → Heading → Role → Bool
   is_of key it IsNative = false
   is_of key it IsForward = forward_of key it
   is_of key it IsBody = same_key key (heading_key it)
 
+  -- a head of the source is one of this function
   abbrev pub belongs : Key → Heading → Bool
   belongs key it = is_of key it it.role

@@ -7,12 +7,14 @@ use Rattle.pawn_program.specs.Program.{Program}
 use Rattle.pawn_scopes.specs.Verdict.{Fault}
 use Rattle.pawn_typed.specs.IsTyped.{IsTyped, IsFault}
 
+-- a tree is one program with one list of warnings, if any
 abbrev pub AtMostOneProgram : Type 0
 AtMostOneProgram =
     (tree : Tree) (dynamic : ℤ) (program other : Program) (warnings others : List Place)
     → IsTyped tree dynamic program warnings → IsTyped tree dynamic other others
     → (program ≡ other) × (warnings ≡ others)
 
+-- a tree that is a program has no fault
 abbrev pub NoFaultStands : Type 0
 NoFaultStands =
     (tree : Tree) (dynamic : ℤ) (program : Program) (warnings : List Place) (fault : Fault)

@@ -1,7 +1,8 @@
 -- The path at the level of the file: what a declaration adds to it for those behind it.
 use Rattle.std.specs.Prelude.{List, [], ◌∷◌, ◌++◌, Option}
 use Rattle.pawn_tree.specs.declared.variable.Storage.TheVariants as storage
-use Rattle.pawn_tree.specs.Declarations.{Decl, Variables, Constant, Enum, Native, Forward, Function, Tree}
+use Rattle.pawn_tree.specs.Declarations.{Decl, Variables, Constant, Enum, Native, Forward, Function}
+use Rattle.pawn_tree.specs.Declarations.{Tree}
 use Rattle.pawn_typing.specs.Around.{Around, Head}
 use Rattle.pawn_bodies.specs.Counts.{objects_in}
 use Rattle.pawn_bodies.specs.Points.{Point, beyond, tag_of, behind_vars, behind_constant}

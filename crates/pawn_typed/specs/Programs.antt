@@ -1,5 +1,6 @@
 -- The program of a source whose declarations stand.
-use Rattle.std.specs.Prelude.{ℕ, ℤ, ◌+◌, List, [], ◌∷◌, map, filter, Bool, false, ◌||◌, nat_eq, if◌then◌else◌, Option, None, Some}
+use Rattle.std.specs.Prelude.{ℕ, ℤ, ◌+◌, List, [], ◌∷◌, map, filter, Bool, false, ◌||◌, nat_eq}
+use Rattle.std.specs.Prelude.{if◌then◌else◌, Option, None, Some}
 use Rattle.std.specs.Str.{bytes_eq}
 use Rattle.pawn_states.specs.declared.clause.Clause.{Clause}
 use Rattle.pawn_program.specs.Program.{Slot, Route, Function, Automaton, Tag, Program}
@@ -15,9 +16,11 @@ use Rattle.pawn_typed.specs.Sources.{Source, Stated, group_tag, natives_in, is_c
 
 -- ---- functions
 
+-- the bodies of the function with a number, in token order
 abbrev pub bodies_of : List Bodied → ℕ → List Bodied
 bodies_of all number = filter (λ (it : Bodied). nat_eq it.number number) all
 
+-- the parameters of a function are those of its first body
 abbrev pub params_of : List Bodied → List Slot
 params_of [] = []
 params_of (it ∷ more) = it.params
@@ -27,6 +30,7 @@ abbrev pub dispatch_by : List Automaton → List Clause → Option Route
 dispatch_by automata [] = None
 dispatch_by automata (it ∷ more) = Some (route automata (it ∷ more))
 
+-- a function by its bodies, one for each classifier
 abbrev pub function_of : List Automaton → ℕ → Group → List Bodied → Function
 function_of automata tag group bodies = record {
   params = params_of bodies;
@@ -37,6 +41,7 @@ function_of automata tag group bodies = record {
 
 -- ---- tags
 
+-- a tag's name is mentioned in a source, as its marks tell
 abbrev pub mentions : List Mark → List ℕ → Bool
 mentions [] name = false
 mentions (Opens ∷ before) name = mentions before name
@@ -55,6 +60,7 @@ tags_from marks number (name ∷ more) =
     else tags_from marks (number + 1) more
 
 module _ (source : Source) (all : List Stated) where
+  -- functions from a number on, one for each group of bodies
   unfoldable pub functions_from : ℕ → List Group → List Bodied → List Function
   functions_from number [] bodies = []
   functions_from number (group ∷ more) bodies =
@@ -67,6 +73,7 @@ module _ (source : Source) (all : List Stated) where
       map (λ (it : Stated). name_of it.heading.head.name)
       (filter (λ (it : Stated). is_called source it.heading) (natives_in source all))
 
+  -- the program that declarations which stand make, with `main` as its entry
   abbrev pub program_of : List Mark → ℤ → Done → Program
   program_of marks dynamic done = record {
     objects = done.objects;

@@ -1,7 +1,8 @@
 -- The public functions of a source (Language Guide, "Functions", on public functions): those that
 -- say so, in a forward or a body, and those whose names begin with `@`; in the order of their
 -- names' bytes, and of their numbers.
-use Rattle.std.specs.Prelude.{ℕ, ◌+◌, List, [], ◌∷◌, Bool, true, false, ◌&&◌, ◌||◌, nat_eq, nat_lt, if◌then◌else◌}
+use Rattle.std.specs.Prelude.{ℕ, ◌+◌, List, [], ◌∷◌, Bool, true, false, ◌&&◌, ◌||◌, nat_eq, nat_lt}
+use Rattle.std.specs.Prelude.{if◌then◌else◌}
 use Rattle.std.specs.List.{list_any}
 use Rattle.pawn_program.specs.Program.{Public}
 use Rattle.pawn_automata.specs.Groups.{Written, Group}
@@ -40,10 +41,12 @@ module _ (source : Source) where
   abbrev pub heading_says : Group → Heading → Bool
   heading_says group it = it.is_public && belongs source.tags source.fallback group.key it
 
+  -- some head of the function begins with `public`
   abbrev pub says_public : Group → Bool
   says_public group =
       list_any (λ it. heading_says group it) source.headings
 
+  -- the host may call the function by its name
   abbrev pub is_public : Group → Bool
   is_public group = says_public group || begins_with_at (group_name group.bodies)
 
@@ -56,5 +59,6 @@ module _ (source : Source) where
       ∷ publics_from (number + 1) more
       else publics_from (number + 1) more
 
+  -- the table of public functions, sorted by name
   abbrev pub publics : List Public
   publics = sorted [] (publics_from 0 source.groups)

@@ -1,7 +1,8 @@
 -- What is known of a whole source before any body is looked at: the names of its tags, its
 -- functions, the natives that are called, its automata, and what the names of functions mean,
 -- which are known everywhere.
-use Rattle.std.specs.Prelude.{ℕ, suc, ◌+◌, List, [], ◌∷◌, ◌++◌, Bool, true, false, if◌then◌else◌, Option, None, filter, find, unwrap_or, option_map, flat_map}
+use Rattle.std.specs.Prelude.{ℕ, suc, ◌+◌, List, [], ◌∷◌, ◌++◌, Bool, true, false, if◌then◌else◌}
+use Rattle.std.specs.Prelude.{Option, None, Some, filter, find, unwrap_or, option_map, flat_map}
 use Rattle.std.specs.Option.{option_and_then}
 use Rattle.name_table.specs.Among.{is_among}
 use Rattle.pawn_tree.specs.declared.declaration.HeadName.{HeadName}
@@ -22,6 +23,7 @@ use Rattle.pawn_automata.specs.Keys.{Key, Named, Operates, Enters, Misshapen, en
 use Rattle.pawn_automata.specs.Groups.{Written, Group, written, groups, entry_fallback}
 use Rattle.pawn_automata.specs.Automata.{automata}
 use Rattle.pawn_typed.specs.Headings.{Heading, Role, IsNative, IsForward, IsBody, headings, belongs}
+use Rattle.pawn_typed.specs.Headings.{is_enters}
 use Rattle.pawn_typed.specs.Paths.{heads}
 
 -- what is known of a source apart from its heads
@@ -155,11 +157,11 @@ module _ (source : Source) where
   abbrev pub entry_for : List ℕ → Meaning → List Entry
   entry_for name means = record { name = name; means = means } ∷ []
 
-  -- the name of a function; an operator has none
+  -- the name of a function; an operator has none, and entry functions have one together
   abbrev pub function_entry : ℕ → ℕ → Key → List Entry
   function_entry number tag (Named name) = entry_for name (Function number tag)
   function_entry number tag (Operates it) = []
-  function_entry number tag (Enters name) = entry_for entry_name (Entering tag)
+  function_entry number tag (Enters name) = []
   function_entry number tag Misshapen = []
 
   -- the names of functions, numbered from a first one on
@@ -168,6 +170,16 @@ module _ (source : Source) where
   function_entries number all (group ∷ more) =
       function_entry number (group_tag all group) group.key
       ++ function_entries (number + 1) all more
+
+  -- the tag of the first entry function, where there is one
+  abbrev pub entering_tag : List Stated → Option ℕ
+  entering_tag all =
+      option_map (group_tag all) (find (λ (group : Group). is_enters group.key) source.groups)
+
+  -- the name `entry` by the tag of the function that it means
+  abbrev pub entry_by : Option ℕ → List Entry
+  entry_by None = []
+  entry_by (Some tag) = entry_for entry_name (Entering tag)
 
   -- the names of natives, numbered from a first one on
   unfoldable pub native_entries : ℕ → List Stated → List Entry
@@ -193,7 +205,8 @@ module _ (source : Source) where
       record {
         scope =
             (forward_entries
-            ++ (native_entries 0 (natives_in all) ++ function_entries 0 all source.groups)) ∷ [];
+            ++ (native_entries 0 (natives_in all)
+            ++ (function_entries 0 all source.groups ++ entry_by (entering_tag all)))) ∷ [];
         objects = 0;
         slots = 0;
       }

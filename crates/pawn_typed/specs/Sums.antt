@@ -8,10 +8,12 @@ use Rattle.pawn_meaning.specs.Limits.{data_cells}
 use Rattle.pawn_meaning.specs.Weight.{weight}
 use Rattle.pawn_typed.specs.IsTyped.{IsTyped}
 
+-- the program's data and its code are within their limits
 pub record IsWithinSums (program : Program) : Type 0 where
   pub cells : data_cells program ≤ DATA_LIMIT
   pub code : weight program ≤ WEIGHT_LIMIT
 
+-- each program that a tree is
 abbrev pub StandsWithinSums : Type 0
 StandsWithinSums =
     (tree : Tree) (dynamic : ℤ) (program : Program) (warnings : List Place)

@@ -1,5 +1,6 @@
 -- Which program and warnings a tree is, or which faults there are and where.
-use Rattle.std.specs.Prelude.{ℕ, ℤ, pos, List, [], ◌∷◌, ◌++◌, map, flat_map, Bool, true, false, not, ◌&&◌, ◌||◌, int_le, nat_le, is_some, if◌then◌else◌}
+use Rattle.std.specs.Prelude.{ℕ, ℤ, pos, List, [], ◌∷◌, ◌++◌, map, flat_map, Bool, true, false, not}
+use Rattle.std.specs.Prelude.{◌&&◌, ◌||◌, int_le, nat_le, is_some, if◌then◌else◌}
 use Rattle.std.specs.List.{list_any}
 use Rattle.pawn_cells.specs.declared.place.Place.{Place}
 use Rattle.pawn_tree.specs.declared.name.At.{At}
@@ -11,7 +12,8 @@ use Rattle.pawn_meaning.specs.Weight.{weight}
 use Rattle.pawn_scopes.specs.Verdict.{Fault, Verdict, Stands, Breaks, after, both}
 use Rattle.pawn_scopes.specs.TreeMarks.{tree_marks}
 use Rattle.pawn_scopes.specs.FileNames.{file_names, twice_faults}
-use Rattle.pawn_typing.specs.declared.fault.TheConstants.{LIMIT_ARRAY, LIMIT_CODE, LIMIT_DYNAMIC, NO_FUNCTIONS, RETURN_MIXED}
+use Rattle.pawn_typing.specs.declared.fault.TheConstants.{LIMIT_ARRAY, LIMIT_CODE, LIMIT_DYNAMIC}
+use Rattle.pawn_typing.specs.declared.fault.TheConstants.{NO_FUNCTIONS, RETURN_MIXED}
 use Rattle.pawn_bodies.specs.Stood.{Returned}
 use Rattle.pawn_automata.specs.Keys.{Named}
 use Rattle.pawn_automata.specs.Groups.{Group, number_of}
@@ -28,9 +30,11 @@ pub record Checked : Type 0 where
 
 -- ---- faults of the source as a whole, which stand at its first line
 
+-- where a fault of no single place stands
 abbrev pub first_line : Place
 first_line = record { file = 0; line = 1 }
 
+-- a fault of this kind where the condition holds
 abbrev pub whole_fault : Bool → ℕ → List Fault
 whole_fault false kind = []
 whole_fault true kind = record { kind = kind; place = first_line } ∷ []
@@ -45,18 +49,22 @@ abbrev pub has_some : List Public → Bool
 has_some [] = false
 has_some (it ∷ more) = true
 
+-- some function is called `main`
 abbrev pub has_main : Source → Bool
 has_main source = is_some (number_of source.groups (Named main_name))
 
+-- a program has a function that it can begin with
 abbrev pub entry_faults : Source → List Fault
 entry_faults source =
     whole_fault (not (has_main source || has_some (publics source))) NO_FUNCTIONS
 
 -- ---- returns
 
+-- this `return` has a value
 abbrev pub gives : Returned → Bool
 gives it = it.gives
 
+-- this `return` has no value
 abbrev pub gives_none : Returned → Bool
 gives_none it = not it.gives
 
@@ -66,9 +74,11 @@ mixed_returns returns =
     if list_any gives returns && list_any gives_none returns
     then map (λ (it : Returned). fault RETURN_MIXED it.at) returns else []
 
+-- the `return` statements of a function, in all its bodies
 abbrev pub returns_of : List Bodied → ℕ → List Returned
 returns_of all number = flat_map (λ (it : Bodied). it.returns) (bodies_of all number)
 
+-- the `return` statements of each body's function
 abbrev pub return_faults : List Bodied → List Fault
 return_faults all = flat_map (λ (it : Bodied). mixed_returns (returns_of all it.number)) all
 
@@ -78,6 +88,7 @@ return_faults all = flat_map (λ (it : Bodied). mixed_returns (returns_of all it
 pub data Passed : Type 0 where
   passed : Passed
 
+-- broken by faults, if there are any
 abbrev pub unless : List Fault → Verdict Passed
 unless [] = Stands passed
 unless (it ∷ more) = Breaks (it ∷ more)
@@ -88,6 +99,7 @@ sum_faults program =
     whole_fault (not (nat_le (data_cells program) DATA_LIMIT)) LIMIT_ARRAY
     ++ whole_fault (not (nat_le (weight program) WEIGHT_LIMIT)) LIMIT_CODE
 
+-- a program whose sums are within their limits
 abbrev pub within_sums : Checked → Verdict Checked
 within_sums it = after (unless (sum_faults it.program)) (λ ok. Stands it)
 
@@ -105,11 +117,13 @@ module _ (tree : Tree) (dynamic : ℤ) where
       ++ (flat_map (λ (group : Group). group_faults source all group) source.groups
       ++ return_faults bodies)
 
+  -- what all declarations of the source are, from its beginning
   abbrev pub done : Verdict Done
   done =
       let source : Source = source_of tree in
       declarations source (around_of source tree) (beginning source) tree
 
+  -- the program of declarations that stand, with the places that they warn of
   abbrev pub checked_of : Done → Checked
   checked_of it =
       let source : Source = source_of tree in

@@ -1,6 +1,7 @@
 -- Assignments, copies of arrays, `++` and `--` (Language Guide, "Assignment", "Arrays",
 -- "User-defined operators").
-use Rattle.std.specs.Prelude.{ℕ, ℤ, pos, negsuc, List, [], ◌∷◌, Bool, true, false, nat_eq, nat_le, if◌then◌else◌, Option, None, Some}
+use Rattle.std.specs.Prelude.{ℕ, ℤ, pos, negsuc, List, [], ◌∷◌, Bool, true, false, nat_eq, nat_le}
+use Rattle.std.specs.Prelude.{if◌then◌else◌, Option, None, Some}
 use Rattle.pawn_token.specs.declared.sign.Sign.{Sign}
 use Rattle.pawn_token.specs.declared.sign.Sign.TheVariants as sign
 use Rattle.pawn_cells.specs.declared.operator.Operator.{Operator}
@@ -8,13 +9,17 @@ use Rattle.pawn_tree.specs.declared.name.At.{At}
 use Rattle.pawn_tags.specs.declared.op.Op.{Op}
 use Rattle.pawn_tags.specs.declared.op.Op.TheVariants as op
 use Rattle.pawn_tags.specs.declared.operators.Choice.{Choice}
-use Rattle.pawn_program.specs.Program.{Scalar, Array, Expr, Assign, Update, UpdateBy, Step, StepBy, Copy}
+use Rattle.pawn_program.specs.Program.{Scalar, Array, Expr, Assign, Update, UpdateBy, Step, StepBy}
+use Rattle.pawn_program.specs.Program.{Copy}
 use Rattle.pawn_program.specs.Program as code
 use Rattle.pawn_program.specs.Scope.{Extent}
-use Rattle.pawn_typing.specs.declared.fault.TheConstants.{UNDEFINED, NOT_ASSIGNABLE, ARRAY_NOT_INDEXED, SIZES_DIFFER, CONSTANT_DIVIDE_BY_ZERO}
+use Rattle.pawn_typing.specs.declared.fault.TheConstants.{UNDEFINED, NOT_ASSIGNABLE}
+use Rattle.pawn_typing.specs.declared.fault.TheConstants.{ARRAY_NOT_INDEXED, SIZES_DIFFER}
+use Rattle.pawn_typing.specs.declared.fault.TheConstants.{CONSTANT_DIVIDE_BY_ZERO}
 use Rattle.pawn_scopes.specs.Verdict.{Verdict, Stands, after, both}
 use Rattle.pawn_typing.specs.Rule.{broken}
-use Rattle.pawn_typing.specs.Typed.{Typed, Form, Value, Place, Whole, Literal, value_of_one, value_of_two, cell}
+use Rattle.pawn_typing.specs.Typed.{Typed, Form, Value, Place, Whole, Literal, value_of_one}
+use Rattle.pawn_typing.specs.Typed.{value_of_two, cell}
 use Rattle.pawn_typing.specs.Around.{Around, function_tag}
 use Rattle.pawn_typing.specs.Tests.{Sent, sent, tested, tested_either, converter}
 use Rattle.pawn_scopes.specs.Signs.{Between, Operates, Decides, Takes, Nothing}
@@ -35,6 +40,7 @@ target_in at (Place p constant) = unless_constant at constant p
 target_in at (Whole a extent constant) = broken ARRAY_NOT_INDEXED at
 target_in at (Literal object cells) = broken NOT_ASSIGNABLE at
 
+-- the cell that an operand stands for, where one is assigned to
 abbrev pub target : At → Typed → Verdict Scalar
 target at x = target_in at x.form
 
@@ -46,6 +52,7 @@ assigned cx at x y p e =
     let it : Sent = sent cx (x.tag ∷ []) y.tag y.at e in
     value_of_two at (Assign p it.code) x.tag None x it.warned y
 
+-- a cell takes the value of the right operand
 abbrev pub assign_cell : Around → At → Typed → Typed → Verdict Typed
 assign_cell cx at x y = both (target at x) (cell at y) (λ p e. Stands (assigned cx at x y p e))
 
@@ -60,9 +67,11 @@ known_by None inner = None
 known_by (Some size) [] = Some size
 known_by (Some size) (next ∷ inner) = None
 
+-- how many cells an array of one dimension has, where that is known
 abbrev pub known_line : Extent → Option ℕ
 known_line extent = known_by extent.first extent.inner
 
+-- so many cells are copied, where the sizes agree
 abbrev pub cells_or_broken : At → Bool → ℕ → Verdict ℕ
 cells_or_broken at true cells = Stands cells
 cells_or_broken at false cells = broken SIZES_DIFFER at
@@ -89,6 +98,7 @@ copy_from cx at x y to extent (Literal object size) =
     after (literal_cells at (known_line extent) size)
     (λ cells. Stands (copied cx at x y to (code.Object object) cells))
 
+-- by what the left operand is: a cell, or an array, which is copied to as a whole
 abbrev pub assign_to : Around → At → Typed → Typed → Form → Verdict Typed
 assign_to cx at x y (Value e) = assign_cell cx at x y
 assign_to cx at x y (Place p constant) = assign_cell cx at x y
@@ -96,6 +106,7 @@ assign_to cx at x y (Literal object cells) = broken NOT_ASSIGNABLE at
 assign_to cx at x y (Whole a extent constant) =
     after (unless_constant at constant a) (λ to. copy_from cx at x y to extent y.form)
 
+-- `=`, to a cell or to a whole array
 unfoldable pub set_rule : Around → At → Typed → Typed → Verdict Typed
 set_rule cx at x y = assign_to cx at x y x.form
 
@@ -106,6 +117,7 @@ abbrev pub given_back : Around → ℕ → ℕ → At → Option ℕ → List At
 given_back cx target result at None = tested cx (target ∷ []) result at
 given_back cx target result at (Some f) = []
 
+-- the target's old value and the operand, by the user operator for their tags or the built-in one
 abbrev pub updated : Around → At → Operator → Typed → Typed → Scalar → Expr → Option Choice
     → Verdict Typed
 updated cx at it x y p e (Some by) =
@@ -117,6 +129,7 @@ updated cx at it x y p e None =
     if divides_by_zero it y.value then broken CONSTANT_DIVIDE_BY_ZERO at
     else Stands (value_of_two at (Update p it e) x.tag None x (tested_either cx x.tag y.tag y.at) y)
 
+-- an operator with `=` behind it, such as `+=`
 unfoldable pub update_rule : Around → At → Operator → Option Op → Typed → Typed → Verdict Typed
 update_rule cx at it user x y =
     both (target at x) (cell at y) (λ p e. updated cx at it x y p e (chosen cx user x.tag y.tag))
@@ -128,6 +141,7 @@ update_by cx at (Decides it) x y = broken UNDEFINED at
 update_by cx at Takes x y = broken UNDEFINED at
 update_by cx at Nothing x y = broken UNDEFINED at
 
+-- `=`, or an operator with `=` behind it
 abbrev pub assign_rule : Around → At → Sign → Typed → Typed → Verdict Typed
 assign_rule cx at sign.Assign x y = set_rule cx at x y
 assign_rule cx at it x y = update_by cx at (updater_of it) x y
@@ -139,6 +153,7 @@ abbrev pub step_op : Bool → Op
 step_op true = op.Inc
 step_op false = op.Dec
 
+-- 1 for `++`, -1 for `--`
 abbrev pub step_delta : Bool → ℤ
 step_delta true = pos 1
 step_delta false = negsuc 0
@@ -148,6 +163,7 @@ abbrev pub step_code : Bool → Bool → Scalar → Option Choice → Expr
 step_code up prefix p None = Step p (step_delta up) prefix
 step_code up prefix p (Some by) = StepBy p by.function prefix
 
+-- `++` and `--`, before their operand or behind it, by the user operator for its tag if any
 unfoldable pub step_rule : Around → At → Bool → Bool → Typed → Verdict Typed
 step_rule cx at up prefix x =
     after (target at x) (λ p.

@@ -29,6 +29,7 @@ abbrev pub compared : At → Link → Typed → Verdict Compared
 compared at No_link x = broken UNDEFINED at
 compared at (Compares sign user) x = Stands (record { sign = sign; user = user; operand = x })
 
+-- a comparison of a chain, by its sign and right operand
 abbrev pub link_rule : At → Sign → Typed → Verdict Compared
 link_rule at sign x = compared at (link_of sign) x
 
@@ -38,6 +39,7 @@ link_choice cx left link = choice cx.operators link.user left link.operand.tag
 
 -- ---- the parts of a chain, behind an operand of a tag
 
+-- a link's code: the user operator for its two operands, or the built-in comparison
 abbrev pub link_code : Comparison → Expr → Option Choice → Links → Links
 link_code sign e None more = then_link sign e None false more
 link_code sign e (Some by) more = then_link sign e (Some by.function) by.swapped more
@@ -49,6 +51,7 @@ links_code cx at left (link ∷ more) =
     both (cell at link.operand) (links_code cx at link.operand.tag more) (λ e rest.
     Stands (link_code link.sign e (link_choice cx left link) rest))
 
+-- what a link warns of: its operands' tags are tested where no user operator is chosen
 abbrev pub link_warned : Around → ℕ → Typed → Option Choice → List At
 link_warned cx left x None = tested_either cx left x.tag x.at ++ x.warned
 link_warned cx left x (Some by) = x.warned
@@ -60,11 +63,13 @@ links_warned cx left (link ∷ more) =
     link_warned cx left link.operand (link_choice cx left link)
     ++ links_warned cx link.operand.tag more
 
+-- a link of a constant expression: no user operator is chosen, and its operand has a value
 abbrev pub link_value : Comparison → Option ℤ → Option Choice → Option (Comparison × ℤ)
 link_value sign None by = None
 link_value sign (Some v) (Some by) = None
 link_value sign (Some v) None = Some (sign, v)
 
+-- links are known where all of them are
 abbrev pub and_more : Option (Comparison × ℤ) → Option (List (Comparison × ℤ))
     → Option (List (Comparison × ℤ))
 and_more None more = None
@@ -80,11 +85,13 @@ links_value cx left (link ∷ more) =
 
 -- ---- the whole
 
+-- the value of a chain in a constant expression
 abbrev pub chain_value : Option ℤ → Option (List (Comparison × ℤ)) → Option ℤ
 chain_value None links = None
 chain_value (Some v) None = None
 chain_value (Some v) (Some links) = Some (cells.chain v links)
 
+-- a comparison gives a truth value, a user operator what its function gives
 abbrev pub link_tag : Around → Option Choice → ℕ
 link_tag cx None = bool_tag
 link_tag cx (Some by) = function_tag cx by.function
@@ -95,6 +102,7 @@ chain_tag cx left [] = bool_tag
 chain_tag cx left (link ∷ []) = link_tag cx (link_choice cx left link)
 chain_tag cx left (link ∷ second ∷ more) = bool_tag
 
+-- a chain of comparisons, each operand standing once
 unfoldable pub chain_rule : Around → At → Typed → List Compared → Verdict Typed
 chain_rule cx at x links =
     both (cell at x) (links_code cx at x.tag links) (λ e more. Stands (record {

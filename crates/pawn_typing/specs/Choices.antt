@@ -17,6 +17,7 @@ value_of_choice (Some c) None b = None
 value_of_choice (Some c) (Some a) None = None
 value_of_choice (Some c) (Some a) (Some b) = Some (if is_true c then a else b)
 
+-- a condition and two choices, one cell each
 unfoldable pub choice_rule : Around → At → Typed → Typed → Typed → Verdict Typed
 choice_rule cx at x y z =
     both (cell at x) (pair (cell at y) (cell at z)) (λ c parts. Stands (record {

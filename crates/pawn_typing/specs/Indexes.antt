@@ -1,6 +1,7 @@
 -- `a[i]` and `a{i}` (Language Guide, "Arrays"): in one dimension an element or a character, in
 -- more the part that the first index leads to.
-use Rattle.std.specs.Prelude.{ℕ, ℤ, pos, negsuc, ◌*◌, List, [], ◌∷◌, ◌++◌, Bool, true, false, nat_le, if◌then◌else◌, Option, None, Some, option_map}
+use Rattle.std.specs.Prelude.{ℕ, ℤ, pos, negsuc, ◌*◌, List, [], ◌∷◌, ◌++◌, Bool, true, false}
+use Rattle.std.specs.Prelude.{nat_le, if◌then◌else◌, Option, None, Some, option_map}
 use Rattle.pawn_tree.specs.declared.name.At.{At}
 use Rattle.pawn_program.specs.Program.{Expr, Element, Char, Row}
 use Rattle.pawn_program.specs.Scope.{Extent}
@@ -36,6 +37,7 @@ indexed at x i form = record {
   warned = x.warned ++ i.warned;
 }
 
+-- an element or a part by its index: a constant one lies within a size that is known
 abbrev pub index_in : At → Typed → Typed → Held → Expr → Verdict Typed
 index_in at x i held e =
     if is_outside held.extent.first i.value then broken INDEX_OUTSIDE at
@@ -49,6 +51,7 @@ index_rule at x i = both (array at x) (cell at i) (index_in at x i)
 abbrev pub characters : Option ℕ → Option ℕ
 characters size = option_map (λ cells. 4 * cells) size
 
+-- a packed character of an array of one dimension, by its index
 abbrev pub character_in : At → Typed → Typed → Held → Expr → List ℕ → Verdict Typed
 character_in at x i held e (size ∷ inner) = broken ARRAY_NOT_INDEXED at
 character_in at x i held e [] =

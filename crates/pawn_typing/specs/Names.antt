@@ -1,5 +1,6 @@
 -- Names, numbers, texts, `sizeof` and `tagof` (Language Guide, "Identifiers", "Operators").
-use Rattle.std.specs.Prelude.{ℕ, ℤ, pos, zero, suc, List, [], ◌∷◌, length, Bool, Option, None, Some, if◌then◌else◌, slice_get, nat_eq, nat_le}
+use Rattle.std.specs.Prelude.{ℕ, ℤ, pos, zero, suc, List, [], ◌∷◌, length, Bool, Option, None, Some}
+use Rattle.std.specs.Prelude.{if◌then◌else◌, slice_get, nat_eq, nat_le}
 use Rattle.pawn_cells.specs.Cells.{cell_of}
 use Rattle.pawn_arrays.specs.Sizes.{cell_limit}
 use Rattle.pawn_tree.specs.declared.name.At.{At}
@@ -15,7 +16,8 @@ use Rattle.pawn_scopes.specs.Verdict.{Verdict, Stands, after}
 use Rattle.pawn_typing.specs.Rule.{broken, fallen}
 use Rattle.pawn_typing.specs.Typed.{Typed, Form, Place, Whole, Literal, plain_value}
 use Rattle.pawn_typing.specs.Around.{Around, tag_number}
-use Rattle.pawn_typing.specs.Scope.{Meaning, Constant, Variable, Array, Function, Native, Entering, Taken, Unknown, Scope, found}
+use Rattle.pawn_typing.specs.Scope.{Meaning, Constant, Variable, Array, Function, Native, Entering}
+use Rattle.pawn_typing.specs.Scope.{Taken, Unknown, Scope, found}
 use Rattle.pawn_typing.specs.Texts.{text_object, text_cells}
 
 -- a constant with its tag
@@ -76,10 +78,12 @@ abbrev pub first_size : Option ℕ → ℕ
 first_size None = 0
 first_size (Some size) = size
 
+-- how many cells or parts the dimension behind so many brackets has, 0 if that is unknown
 abbrev pub size_at : Extent → ℕ → Option ℕ
 size_at extent zero = Some (first_size extent.first)
 size_at extent (suc n) = slice_get extent.inner n
 
+-- an array has so many dimensions
 abbrev pub size_or_broken : At → Option ℕ → Verdict ℕ
 size_or_broken at None = broken NOT_AN_ARRAY at
 size_or_broken at (Some size) = Stands size
@@ -106,11 +110,13 @@ abbrev pub size_of_text : At → ℕ → ℕ → Verdict ℕ
 size_of_text at dimension cells =
     if nat_eq dimension 0 then Stands cells else broken NOT_AN_ARRAY at
 
+-- the size of an operand of `sizeof`: a name's or a text's
 abbrev pub size_in : Scope → At → SizeofOperand → Verdict ℕ
 size_in scope at (sizeof.Name name dimension) = size_of at dimension (found scope name.bytes)
 size_in scope at (sizeof.Text text dimension) =
     size_of_text at dimension (length (text_cells text.packed text.bytes))
 
+-- `sizeof`, a constant expression
 unfoldable pub sizeof_rule : Scope → At → SizeofOperand → Verdict Typed
 sizeof_rule scope at operand =
     after (size_in scope at operand) (λ size. Stands (constant_value at (pos size) untagged))
@@ -129,6 +135,7 @@ tag_of at (Some (Entering tag)) = Stands tag
 tag_of at (Some Taken) = broken UNDEFINED at
 tag_of at (Some Unknown) = fallen
 
+-- the tag of an operand of `tagof`: what a name has, or the tag itself
 abbrev pub tag_in : Around → Scope → At → TagofOperand → Verdict ℕ
 tag_in cx scope at (tagof.Name name) = tag_of at (found scope name.bytes)
 tag_in cx scope at (tagof.Tag name) = Stands (tag_number cx name.bytes)

@@ -1,7 +1,8 @@
 -- Operators on one and two operands (Language Guide, "Operators and expressions", "User-defined
 -- operators"). A user operator for the operands' tags goes before the built-in one. Where none is
 -- chosen the two operands of an operator are tested against each other.
-use Rattle.std.specs.Prelude.{ℕ, ℤ, List, [], Bool, false, if◌then◌else◌, Option, None, Some, option_map}
+use Rattle.std.specs.Prelude.{ℕ, ℤ, List, [], Bool, false, if◌then◌else◌, Option, None, Some}
+use Rattle.std.specs.Prelude.{option_map}
 use Rattle.pawn_token.specs.declared.sign.Sign.{Sign}
 use Rattle.pawn_cells.specs.Cells.{is_zero}
 use Rattle.pawn_cells.specs.Operators as cells
@@ -62,12 +63,14 @@ abbrev pub chosen : Around → Option Op → ℕ → ℕ → Option Choice
 chosen cx None left right = None
 chosen cx (Some it) left right = choice cx.operators it left right
 
+-- the built-in operator, whose operands' tags are tested against each other
 abbrev pub built_in : Around → At → Operator → Typed → Typed → Expr → Expr → Verdict Typed
 built_in cx at it x y l r =
     if divides_by_zero it y.value then broken CONSTANT_DIVIDE_BY_ZERO at
     else Stands (value_of_two at (Binary it l r) (operator_tag it x.tag)
     (value_of_both (cells.binary it) x.value y.value) x (tested_either cx x.tag y.tag y.at) y)
 
+-- by the user operator that is chosen, else by the built-in one
 abbrev pub operate : Around → At → Operator → Typed → Typed → Expr → Expr → Option Choice
     → Verdict Typed
 operate cx at it x y l r None = built_in cx at it x y l r
@@ -85,6 +88,7 @@ abbrev pub logical_code : Logical → Expr → Expr → Expr
 logical_code logic.And l r = And l r
 logical_code logic.Or l r = Or l r
 
+-- `&&` and `||`, which give truth values and which no user defines
 unfoldable pub logical_rule : At → Logical → Typed → Typed → Verdict Typed
 logical_rule at it x y =
     both (cell at x) (cell at y) (λ l r. Stands (value_of_two at (logical_code it l r) bool_tag
@@ -113,6 +117,7 @@ binary_rule cx at sign x y = between_rule cx at (between_of sign) x y
 abbrev pub chosen_for_one : Around → Op → ℕ → Option Choice
 chosen_for_one cx it tag = choice cx.operators it tag untagged
 
+-- one operand by the user operator that is chosen, else the value built in
 abbrev pub operate_one : Around → At → Typed → Expr → Typed → Option Choice → Typed
 operate_one cx at x e built None = built
 operate_one cx at x e built (Some by) =

@@ -1,7 +1,8 @@
 -- The path of declarations at a place: those of the enclosing blocks that ended before it, the
 -- innermost block first (Language Guide, "Scope"). At the file's level the predefined constants
 -- stand too.
-use Rattle.std.specs.Prelude.{ℕ, ℤ, List, [], ◌∷◌, ◌++◌, Bool, true, false, if◌then◌else◌, Option, Some, None, option_map, reverse}
+use Rattle.std.specs.Prelude.{ℕ, ℤ, List, [], ◌∷◌, ◌++◌, Bool, true, false, if◌then◌else◌, Option}
+use Rattle.std.specs.Prelude.{Some, None, option_map, reverse}
 use Rattle.std.specs.Option.{option_or}
 use Rattle.std.specs.Str.{bytes_eq}
 use Rattle.pawn_cells.specs.Constants.{predefined}
@@ -29,13 +30,16 @@ pub data Meaning : Type 0 where
   -- a declaration that doesn't stand
   Unknown : Meaning
 
+-- a name with what it means
 pub record Entry : Type 0 where
   pub name : List ℕ
   pub means : Meaning
 
+-- the blocks around a place, each with its declarations in token order
 abbrev pub Scope : Type 0
 Scope = List (List Entry)
 
+-- what the first declaration of a name in a list means
 abbrev pub first_named : List Entry → List ℕ → Option Meaning
 first_named [] name = None
 first_named (entry ∷ more) name =
@@ -50,6 +54,7 @@ abbrev pub truth_tag : Bool → ℕ
 truth_tag true = 1
 truth_tag false = 0
 
+-- a predefined constant as declared
 abbrev pub constant_meaning : held.Constant → Meaning
 constant_meaning it = Constant it.value (truth_tag it.is_bool)
 

@@ -19,9 +19,11 @@ updates_by sign.XorAssign = Some sign.Caret
 updates_by sign.OrAssign = Some sign.Bar
 updates_by _ = None
 
+-- nothing where no sign is left
 abbrev pub operator_without : Option Sign → Between
 operator_without None = Nothing
 operator_without (Some sign) = between_of sign
 
+-- the operator by which a sign such as `+=` assigns
 abbrev pub updater_of : Sign → Between
 updater_of sign = operator_without (updates_by sign)

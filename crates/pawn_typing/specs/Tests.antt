@@ -1,6 +1,7 @@
 -- Where tags are tested, and where a user operator converts a value instead (Language Guide, "Tag
 -- names", "User-defined operators"). A test that fails is a warning at the tested value.
-use Rattle.std.specs.Prelude.{ℕ, List, [], ◌∷◌, Bool, true, false, ◌||◌, if◌then◌else◌, Option, None, Some, nat_eq}
+use Rattle.std.specs.Prelude.{ℕ, List, [], ◌∷◌, Bool, true, false, ◌||◌, if◌then◌else◌, Option}
+use Rattle.std.specs.Prelude.{None, Some, nat_eq}
 use Rattle.std.specs.List.{list_any}
 use Rattle.pawn_tree.specs.declared.name.At.{At}
 use Rattle.pawn_tags.specs.Matching.{matches}
@@ -37,6 +38,7 @@ pub record Sent : Type 0 where
   pub code : Expr
   pub warned : List At
 
+-- a value by its conversion, else tested
 abbrev pub sent_by : Around → List ℕ → ℕ → At → Expr → Option ℕ → Sent
 sent_by cx formal actual at e None = record { code = e; warned = tested cx formal actual at }
 sent_by cx formal actual at e (Some f) = record { code = OperateOne f e; warned = [] }

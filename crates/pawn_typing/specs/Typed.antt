@@ -90,6 +90,7 @@ array_in (Whole a extent constant) =
 array_in (Literal object cells) =
     Some (record { array = code.Object object; extent = line cells; constant = false })
 
+-- a part has to be an array here
 abbrev pub array_or_broken : At → Option Held → Verdict Held
 array_or_broken at None = broken NOT_AN_ARRAY at
 array_or_broken at (Some held) = Stands held

@@ -1,5 +1,6 @@
 -- Sizes and first cells by computation, and which rules they break.
-use Rattle.std.specs.Prelude.{◌≡◌, ℕ, ℤ, pos, List, [], ◌∷◌, map, codes, true, false, Option, None, Some, refl}
+use Rattle.std.specs.Prelude.{◌≡◌, ℕ, ℤ, pos, List, [], ◌∷◌, map, codes, true, false, Option, None}
+use Rattle.std.specs.Prelude.{Some, refl}
 use Rattle.std.specs.Int.{int_wrap}
 use Rattle.pawn_token.specs.declared.sign.Sign.TheVariants as sign
 use Rattle.pawn_tree.specs.Expressions.{Expr}

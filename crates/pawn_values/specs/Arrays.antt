@@ -1,5 +1,6 @@
 -- An array variable: its sizes, of which the first may come from its values, and its first cells.
-use Rattle.std.specs.Prelude.{ℕ, ◌+◌, ℤ, List, [], ◌∷◌, ◌++◌, length, true, false, Option, None, Some}
+use Rattle.std.specs.Prelude.{ℕ, ◌+◌, ℤ, List, [], ◌∷◌, ◌++◌, length, true, false, Option, None}
+use Rattle.std.specs.Prelude.{Some}
 use Rattle.pawn_tree.specs.declared.name.At.{At}
 use Rattle.pawn_tree.specs.Variables.{Dim, Init, Value, Braces, Inits, no_inits, then_init}
 use Rattle.pawn_typing.specs.declared.fault.TheConstants.{CONSTANT_NEEDED, SIZES_DIFFER}
@@ -22,6 +23,7 @@ pub record ArrayValue : Type 0 where
   pub cells : List ℤ
   pub warned : List At
 
+-- how many values a list has
 abbrev pub count : Inits → ℕ
 count no_inits = 0
 count (then_init x xs) = 1 + count xs
@@ -41,6 +43,7 @@ module _ (cx : Around) (scope : Scope) (at : At) where
   size_from inner (Braces braces xs true) = broken CONSTANT_NEEDED at
   size_from inner (Braces braces xs false) = Stands (count xs)
 
+  -- the first size: the one given, else that of the first values
   abbrev pub first_size : List ℕ → Option ℕ → Option Init → Verdict ℕ
   first_size inner (Some size) init = Stands size
   first_size inner None None = broken CONSTANT_NEEDED at
@@ -61,4 +64,8 @@ module _ (cx : Around) (scope : Scope) (at : At) where
   array_value tag dim dims init =
       after (shaped dim dims init) (λ it.
       after (cells_or_zeros cx scope at tag it.sizes init) (λ values.
-      Stands (record { sizes = it.sizes; cells = values.cells; warned = it.warned ++ values.warned })))
+      Stands (record {
+        sizes = it.sizes;
+        cells = values.cells;
+        warned = it.warned ++ values.warned;
+      })))

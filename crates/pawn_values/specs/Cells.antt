@@ -21,6 +21,7 @@ static_rule cx at tag x =
     after (constant_rule at x) (λ it.
     Stands (record { cells = it.value ∷ []; warned = constant_warned cx tag it })))
 
+-- that of a variable that keeps its value between calls: a constant, 0 where none is given
 abbrev pub static_value : Around → Scope → At → ℕ → Option Init → Verdict First
 static_value cx scope at tag None = Stands (record { cells = pos 0 ∷ []; warned = [] })
 static_value cx scope at tag (Some (Value e)) = after (expr cx scope 0 e) (static_rule cx at tag)
@@ -32,9 +33,11 @@ pub record LocalValue : Type 0 where
   pub literals : List StaticObject
   pub warned : List At
 
+-- a first value on its way to its variable
 abbrev pub local_by : Typed → Sent → LocalValue
 local_by x it = record { code = it.code; literals = x.literals; warned = it.warned ++ x.warned }
 
+-- one cell, sent to a variable of this tag
 abbrev pub local_rule : Around → At → ℕ → Typed → Verdict LocalValue
 local_rule cx at tag x =
     after (cell at x) (λ e. Stands (local_by x (sent cx (tag ∷ []) x.tag x.at e)))

@@ -18,6 +18,7 @@ pub record Constant : Type 0 where
   pub tag : ℕ
   pub warned : List At
 
+-- a constant expression has a value
 abbrev pub constant_by : At → Typed → Option ℤ → Verdict Constant
 constant_by at x None = broken CONSTANT_NEEDED at
 constant_by at x (Some v) = Stands (record { at = x.at; value = v; tag = x.tag; warned = x.warned })

@@ -1,7 +1,9 @@
 -- The first values of arrays (Language Guide, "Arrays", "Initialization"): a text, or a list of
 -- values that may go on by `...`; with more dimensions a list of rows. Each value is tested by
 -- itself.
-use Rattle.std.specs.Prelude.{ℕ, ℤ, zero, suc, pos, ◌-◌, ◌*◌, List, [], ◌∷◌, ◌++◌, length, replicate, Bool, true, false, nat_le, if◌then◌else◌, Option, None, Some}
+use Rattle.std.specs.Prelude.{ℕ, ℤ, zero, suc, pos, ◌-◌, ◌*◌, List, [], ◌∷◌, ◌++◌, length}
+use Rattle.std.specs.Prelude.{replicate, Bool, true, false, nat_le, if◌then◌else◌, Option, None}
+use Rattle.std.specs.Prelude.{Some}
 use Rattle.pawn_cells.specs.Cells as cells
 use Rattle.pawn_arrays.specs.Sizes.{elements_in}
 use Rattle.pawn_tree.specs.declared.name.At.{At}
@@ -24,9 +26,11 @@ pub record First : Type 0 where
   pub cells : List ℤ
   pub warned : List At
 
+-- before any value
 abbrev pub no_cells : First
 no_cells = record { cells = []; warned = [] }
 
+-- values before others
 abbrev pub first_behind : First → First → First
 first_behind x more = record { cells = x.cells ++ more.cells; warned = x.warned ++ more.warned }
 
@@ -37,6 +41,7 @@ abbrev pub last_of : ℤ → List ℤ → ℤ
 last_of v [] = v
 last_of v (next ∷ more) = last_of next more
 
+-- what `...` adds each time: how far the last two values lie apart, 0 where one stands alone
 abbrev pub step_of : ℤ → List ℤ → ℤ
 step_of v [] = pos 0
 step_of v (next ∷ []) = cells.sub next v
@@ -66,6 +71,7 @@ filled at size goes_on it =
 
 -- ---- a text
 
+-- the cells of the text that an expression is
 abbrev pub object_cells : List StaticObject → List ℤ
 object_cells [] = []
 object_cells (object ∷ more) = object.first
@@ -78,6 +84,7 @@ literal_in x (typed.Whole a extent fixed) = None
 literal_in x (typed.Literal object size) = Some (object_cells x.literals)
 
 module _ (cx : Around) (scope : Scope) (at : At) (tag : ℕ) where
+  -- a text that gives the cells of an array, with zeros behind it
   abbrev pub text_by : ℕ → Typed → Option (List ℤ) → Verdict First
   text_by size x None = broken SIZES_DIFFER at
   text_by size x (Some values) =
@@ -96,6 +103,7 @@ module _ (cx : Around) (scope : Scope) (at : At) (tag : ℕ) where
 
   -- ---- lists
 
+  -- a constant, with what it warns of
   abbrev pub value_cell : Expr → Verdict First
   value_cell e =
       after (constant cx scope at e) (λ it.
@@ -106,6 +114,7 @@ module _ (cx : Around) (scope : Scope) (at : At) (tag : ℕ) where
   cell_of_list (Value e) = value_cell e
   cell_of_list (Braces braces xs goes_on) = broken SIZES_DIFFER at
 
+  -- constants in braces, each for a cell
   abbrev pub cells_of_list : Inits → Verdict First
   cells_of_list no_inits = Stands no_cells
   cells_of_list (then_init x xs) =
@@ -130,6 +139,7 @@ module _ (cx : Around) (scope : Scope) (at : At) (tag : ℕ) where
 
   -- the first cells of an array of these sizes, or of a part of one
   abbrev mutual
+    -- the first cells of an array of these sizes
     pub first_cells : List ℕ → Init → Verdict First
     first_cells sizes (Value e) = whole_value sizes e
     first_cells sizes (Braces braces xs goes_on) = listed sizes xs goes_on (rows (parts sizes) xs)

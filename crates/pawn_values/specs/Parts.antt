@@ -2,7 +2,8 @@
 -- have no fault.
 use Rattle.std.specs.Prelude.{List, [], ◌∷◌, Option, None, Some}
 use Rattle.pawn_tree.specs.Expressions.{Expr}
-use Rattle.pawn_tree.specs.Variables.{Dim, Open, Cells, Chars, Init, Value, Braces, Inits, no_inits, then_init, Var}
+use Rattle.pawn_tree.specs.Variables.{Dim, Open, Cells, Chars, Init, Value, Braces, Inits, no_inits}
+use Rattle.pawn_tree.specs.Variables.{then_init, Var}
 use Rattle.pawn_scopes.specs.Verdict.{Verdict, Stands, after, both}
 use Rattle.pawn_typing.specs.Around.{Around}
 use Rattle.pawn_typing.specs.Scope.{Scope}
@@ -31,12 +32,14 @@ module _ (cx : Around) (scope : Scope) where
   abbrev pub expr_part : Expr → Verdict Judged
   expr_part e = after (expr cx scope 0 e) (λ x. Stands judged)
 
+  -- the expression in the brackets, if there is one
   abbrev pub dim_part : Dim → Verdict Judged
   dim_part Open = Stands judged
   dim_part (Cells e) = expr_part e
   dim_part (Chars e) = expr_part e
 
   abbrev mutual
+    -- the expressions in a first value
     pub init_part : Init → Verdict Judged
     init_part (Value e) = expr_part e
     init_part (Braces at xs goes_on) = init_parts xs

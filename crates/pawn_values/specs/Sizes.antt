@@ -1,11 +1,13 @@
 -- The sizes of arrays (Language Guide, "Arrays"): each is a constant of 1 or more, there are three
 -- at most, and an array has no more cells than the limit.
-use Rattle.std.specs.Prelude.{ℕ, ℤ, zero, suc, pos, negsuc, ◌+ℤ◌, List, [], ◌∷◌, ◌++◌, length, nat_le, if◌then◌else◌, Option, None, Some}
+use Rattle.std.specs.Prelude.{ℕ, ℤ, zero, suc, pos, negsuc, ◌+ℤ◌, List, [], ◌∷◌, ◌++◌, length}
+use Rattle.std.specs.Prelude.{nat_le, if◌then◌else◌, Option, None, Some}
 use Rattle.pawn_cells.specs.Cells.{floor_quotient}
 use Rattle.pawn_arrays.specs.Sizes.{cells_of, cell_limit}
 use Rattle.pawn_tree.specs.declared.name.At.{At}
 use Rattle.pawn_tree.specs.Variables.{Dim, Open, Cells, Chars}
-use Rattle.pawn_typing.specs.declared.fault.TheConstants.{CONSTANT_NEEDED, SIZES_DIFFER, LIMIT_ARRAY}
+use Rattle.pawn_typing.specs.declared.fault.TheConstants.{CONSTANT_NEEDED, SIZES_DIFFER}
+use Rattle.pawn_typing.specs.declared.fault.TheConstants.{LIMIT_ARRAY}
 use Rattle.pawn_scopes.specs.Verdict.{Verdict, Stands, after, both}
 use Rattle.pawn_typing.specs.Rule.{broken}
 use Rattle.pawn_typing.specs.Around.{Around}
@@ -39,21 +41,25 @@ abbrev pub cells_for : ℤ → ℤ
 cells_for characters = floor_quotient (characters +ℤ pos 3) (pos 4)
 
 module _ (cx : Around) (scope : Scope) (at : At) where
+  -- one dimension: unknown, so many cells, or the cells for so many characters
   abbrev pub dimension : Dim → Verdict Dimension
   dimension Open = Stands (record { size = None; warned = [] })
   dimension (Cells e) = after (constant cx scope at e) (λ it. size_in at it.value it.warned)
   dimension (Chars e) =
       after (constant cx scope at e) (λ it. size_in at (cells_for it.value) it.warned)
 
+  -- a dimension behind the first one has a size
   abbrev pub inner_with : Dimension → Option ℕ → Inner → Verdict Inner
   inner_with it None more = broken CONSTANT_NEEDED at
   inner_with it (Some size) more =
       Stands (record { sizes = size ∷ more.sizes; warned = it.warned ++ more.warned })
 
+  -- the dimensions behind the first one
   abbrev pub inner : List Dim → Verdict Inner
   inner [] = Stands (record { sizes = []; warned = [] })
   inner (dim ∷ dims) = both (dimension dim) (inner dims) (λ it more. inner_with it it.size more)
 
+  -- all dimensions, of which the first one may be unknown
   abbrev pub dimensions_of : Dim → List Dim → Verdict Dimensions
   dimensions_of dim dims =
       both (dimension dim) (inner dims) (λ it more.

@@ -1,5 +1,6 @@
 -- Calls and expressions break only with a fault where nothing that a name means is unknown.
-use Rattle.std.proofs.Common.{◌≡◌, ◌+◌, ℕ, List, [], ◌∷◌, Bool, true, false, Option, None, Some, refl}
+use Rattle.std.proofs.Common.{◌≡◌, ◌+◌, ℕ, List, [], ◌∷◌, Bool, true, false, Option, None, Some}
+use Rattle.std.proofs.Common.{refl}
 use Rattle.std.specs.Prelude.{slice_get}
 use Rattle.pawn_tree.specs.declared.name.At.{At}
 use Rattle.pawn_tree.specs.Expressions as tree
@@ -9,21 +10,33 @@ use Rattle.pawn_scopes.specs.Signs.{between_of, link_of}
 use Rattle.pawn_scopes.specs.Verdict.{Verdict}
 use Rattle.pawn_typing.specs.Typed.{Typed, Form, line}
 use Rattle.pawn_typing.specs.Typed as typed
-use Rattle.pawn_typing.specs.Around.{Around, Callable, Head, Param, NoDefault, Always, SizeOf, TagOf}
+use Rattle.pawn_typing.specs.Around.{Around, Callable, Head, Param, NoDefault, Always, SizeOf}
+use Rattle.pawn_typing.specs.Around.{TagOf}
 use Rattle.pawn_typing.specs.Around as around
-use Rattle.pawn_typing.specs.Scope.{Meaning, Constant, Variable, Function, Entering, Taken, Unknown, Scope, found}
+use Rattle.pawn_typing.specs.Scope.{Meaning, Constant, Variable, Function, Entering, Taken, Unknown}
+use Rattle.pawn_typing.specs.Scope.{Scope, found}
 use Rattle.pawn_typing.specs.Scope as means
 use Rattle.pawn_typing.specs.Names.{first_size}
-use Rattle.pawn_calls.specs.Given.{keeps_constant, value_in, plain_given, place_in, reference_given, fitting, rest_from, passed, array_in, array_given, given_by, given_rule}
-use Rattle.pawn_calls.specs.Filling.{Filled, Argument, Offer, Positional, Skipped, Filling, put_in, put, for_param, for_rest, positional, skipped_rest, skipped, named_param, named, number_of_param, offer_step, fill, nothing_filled}
+use Rattle.pawn_calls.specs.Given.{keeps_constant, value_in, plain_given, place_in, reference_given}
+use Rattle.pawn_calls.specs.Given.{fitting, rest_from, passed, array_in, array_given, given_by}
+use Rattle.pawn_calls.specs.Given.{given_rule}
+use Rattle.pawn_calls.specs.Filling.{Filled, Argument, Offer, Positional, Skipped, Filling, put_in}
+use Rattle.pawn_calls.specs.Filling.{put, for_param, for_rest, positional, skipped_rest, skipped}
+use Rattle.pawn_calls.specs.Filling.{named_param, named, number_of_param, offer_step, fill}
+use Rattle.pawn_calls.specs.Filling.{nothing_filled}
 use Rattle.pawn_calls.specs.Filling as filling
 use Rattle.pawn_calls.specs.Defaults.{default_of, arg_of, args_of}
 use Rattle.pawn_calls.specs.Calls.{Callee, callable, callee_rule, judged, call_by, call_rule}
 use Rattle.pawn_calls.specs.Literals.{literals, literals_of_arg, literals_of_link}
 use Rattle.pawn_calls.specs.Expressions.{expr, chain, linked, offers, offer}
-use Rattle.sound_faults.proofs.Blames.{Blames, stood, blamed, when, blames_after, blames_both, blames_also, blames_pair, blames_thread}
+use Rattle.sound_faults.proofs.Blames.{Blames, stood, blamed, when, blames_after, blames_both}
+use Rattle.sound_faults.proofs.Blames.{blames_also, blames_pair, blames_thread}
 use Rattle.sound_faults.proofs.PathLaws.{AllMeant}
-use Rattle.sound_faults.proofs.RuleFaults.{IsKnown, text_blames, name_blames, sizeof_blames, tagof_blames, between_blames, prefix_blames, postfix_blames, index_blames, character_blames, choice_blames, compared_blames, chain_blames, assign_blames}
+use Rattle.sound_faults.proofs.RuleFaults.{IsKnown, text_blames, name_blames, sizeof_blames}
+use Rattle.sound_faults.proofs.RuleFaults.{tagof_blames, between_blames, prefix_blames}
+use Rattle.sound_faults.proofs.RuleFaults.{postfix_blames, index_blames, character_blames}
+use Rattle.sound_faults.proofs.RuleFaults.{choice_blames, compared_blames, chain_blames}
+use Rattle.sound_faults.proofs.RuleFaults.{assign_blames}
 
 -- ---- what a parameter is given
 
@@ -90,7 +103,8 @@ module _ (cx : Around) (at : At) where
 
   given_by_blames : (param : Param) (reach : Option Extent) (x : Typed)
       → Blames (given_by cx at param reach x)
-  given_by_blames param None x = when param.reference (reference_blames param x) (plain_blames param x)
+  given_by_blames param None x =
+      when param.reference (reference_blames param x) (plain_blames param x)
   given_by_blames param (Some wanted) x = array_given_blames param wanted x
 
   given_blames : (param : Param) (x : Typed) → Blames (given_rule cx at param x)

@@ -1,6 +1,7 @@
 -- Declarations at the level of the file break only with a fault where nothing that a name means is
 -- unknown; and behind one that stands nothing is.
-use Rattle.std.proofs.Common.{◌≡◌, ◌+◌, ℕ, ℤ, pos, List, [], ◌∷◌, Bool, true, false, Option, None, Some, refl, ap}
+use Rattle.std.proofs.Common.{◌≡◌, ◌+◌, ℕ, ℤ, pos, List, [], ◌∷◌, Bool, true, false, Option, None}
+use Rattle.std.proofs.Common.{Some, refl, ap}
 use Rattle.std.specs.Prelude.{option_map}
 use Rattle.pawn_cells.specs.Cells.{add}
 use Rattle.pawn_tree.specs.declared.name.At.{At}
@@ -11,30 +12,43 @@ use Rattle.pawn_tree.specs.declared.declaration.HeadName.TheVariants as called
 use Rattle.pawn_tree.specs.Expressions.{Expr}
 use Rattle.pawn_tree.specs.Variables.{Dim, Var}
 use Rattle.pawn_tree.specs.Declarations as tree
-use Rattle.pawn_tree.specs.Declarations.{Decl, Variables, Constant, Enum, Native, Forward, Function, Tree, FunctionOf, Item}
+use Rattle.pawn_tree.specs.Declarations.{Decl, Variables, Constant, Enum, Native, Forward, Function}
+use Rattle.pawn_tree.specs.Declarations.{Tree, FunctionOf, Item}
 use Rattle.pawn_scopes.specs.Verdict.{Verdict, Stands, Breaks, after}
 use Rattle.pawn_typing.specs.Typed.{Typed}
 use Rattle.pawn_typing.specs.Around.{Around, Default}
 use Rattle.pawn_typing.specs.Scope.{Scope, with_entries}
-use Rattle.pawn_typing.proofs.VerdictLaws.{Holds, stands_itself, breaks_holds, holds_after, holds_also, holds_unless}
+use Rattle.pawn_typing.proofs.VerdictLaws.{Holds, stands_itself, breaks_holds, holds_after}
+use Rattle.pawn_typing.proofs.VerdictLaws.{holds_also, holds_unless}
 use Rattle.pawn_values.specs.Constants as constants
 use Rattle.pawn_values.specs.Sizes.{Dimensions}
 use Rattle.pawn_bodies.specs.Points.{Point, behind_var, behind_vars, tag_of}
 use Rattle.pawn_bodies.specs.Locals.{fresh_name}
 use Rattle.pawn_heads.specs.ParamDefaults.{computed, default_by, default_rule}
-use Rattle.pawn_heads.specs.Params.{Reach, reach_by, reach, array_param_means, cell_param_means, param_by, param_entries, behind_params, no_default, no_reference, param_of, param_rule, params, head_parts, head_rule, in_body, tag_numbers}
+use Rattle.pawn_heads.specs.Params.{Reach, reach_by, reach, array_param_means, cell_param_means}
+use Rattle.pawn_heads.specs.Params.{param_by, param_entries, behind_params, no_default}
+use Rattle.pawn_heads.specs.Params.{no_reference, param_of, param_rule, params, head_parts}
+use Rattle.pawn_heads.specs.Params.{head_rule, in_body, tag_numbers}
 use Rattle.pawn_typing.specs.Around.{first_tag}
 use Rattle.pawn_automata.specs.Keys.{Key, Named, Operates, Enters, Misshapen}
 use Rattle.pawn_typed.specs.Sources.{Source}
-use Rattle.pawn_typed.specs.Enums.{Counted, value_of, entry, item_value, counted_behind, behind_item, behind_items, item_rule, items_rule, items_parts, nothing_counted, named, behind_enum, enum_rule}
+use Rattle.pawn_typed.specs.Enums.{Counted, value_of, entry, item_value, counted_behind}
+use Rattle.pawn_typed.specs.Enums.{behind_item, behind_items, item_rule, items_rule, items_parts}
+use Rattle.pawn_typed.specs.Enums.{nothing_counted, named, behind_enum, enum_rule}
 use Rattle.pawn_typed.specs.Paths.{behind_decl}
-use Rattle.pawn_typed.specs.Declarations.{shaped_key, native_name, function_key, body_point, function_with, bare_head, globals, decl_rule, declarations}
-use Rattle.sound_faults.proofs.Blames.{Blames, stood, blamed, when, blames_after, blames_both, blames_also, blames_unless}
+use Rattle.pawn_typed.specs.Declarations.{shaped_key, native_name, function_key, body_point}
+use Rattle.pawn_typed.specs.Declarations.{function_with, bare_head, globals, decl_rule}
+use Rattle.pawn_typed.specs.Declarations.{declarations}
+use Rattle.sound_faults.proofs.Blames.{Blames, stood, blamed, when, blames_after, blames_both}
+use Rattle.sound_faults.proofs.Blames.{blames_also, blames_unless}
 use Rattle.sound_faults.proofs.PathLaws.{AllMeant, meant_with, meant_same, meant_inside, holds_then}
 use Rattle.sound_faults.proofs.RuleFaults.{IsKnown}
 use Rattle.sound_faults.proofs.CallFaults.{expr_blames}
-use Rattle.sound_faults.proofs.ValueFaults.{constant_rule_blames, constant_blames, dimensions_blame, within_blames}
-use Rattle.sound_faults.proofs.StatementFaults.{KnownAt, fresh_blames, local_by_blames, known_behind_var, known_behind_constant, stmt_blames}
+use Rattle.sound_faults.proofs.ValueFaults.{constant_rule_blames, constant_blames, dimensions_blame}
+use Rattle.sound_faults.proofs.ValueFaults.{within_blames}
+use Rattle.sound_faults.proofs.StatementFaults.{KnownAt, fresh_blames, local_by_blames}
+use Rattle.sound_faults.proofs.StatementFaults.{known_behind_var, known_behind_constant}
+use Rattle.sound_faults.proofs.StatementFaults.{stmt_blames}
 
 -- ---- enumerations
 
@@ -61,7 +75,8 @@ module _ (cx : Around) (at : At) (tag : ℕ) where
 
   item_valued : (done : Counted) → KnownCount done → (e : Option Expr)
       → Holds (λ y. HasValue (item_value cx at tag done e)) (item_rule cx at tag done e)
-  item_valued done known None = record { of = λ y e. record { value = known.value; is = known.next } }
+  item_valued done known None =
+      record { of = λ y e. record { value = known.value; is = known.next } }
   item_valued done known (Some e) = valued (constants.constant cx done.scope at e) _
 
   counted_known : (done : Counted) (name : List ℕ) (v : Option ℤ) → KnownCount done → HasValue v
@@ -80,7 +95,8 @@ module _ (cx : Around) (at : At) (tag : ℕ) where
   }
 
   items_known : (done : Counted) → KnownCount done → (items : List Item)
-      → Holds (λ y. KnownCount (behind_items cx at tag done items)) (items_rule cx at tag done items)
+      → Holds (λ y. KnownCount (behind_items cx at tag done items))
+      (items_rule cx at tag done items)
   unfolding items_rule behind_items
   items_known done known [] = record { of = λ y e. known }
   items_known done known (it ∷ more) =
@@ -186,7 +202,8 @@ module _ (cx : Around) (at : At) where
   cell_param_known i tag constant false same = let no : ⊥ = cc in no
 
   array_param_known : {A : Type 0} (i tag : ℕ) (constant : Bool) (w : Verdict Reach)
-      (rule : Reach → Verdict A) → Holds (λ y. IsKnown (array_param_means i tag constant w)) (after w rule)
+      (rule : Reach → Verdict A) → Holds (λ y. IsKnown (array_param_means i tag constant w))
+      (after w rule)
   array_param_known i tag constant (Stands it) rule =
       record { of = λ y e same. let no : ⊥ = cc in no }
   array_param_known i tag constant (Breaks found) rule = breaks_holds _ _
@@ -301,7 +318,8 @@ module _ (source : Source) (cx : Around) where
   decl_blames point known (Constant at it) =
       blames_after (constant_blames cx point.scope known at it.value) (λ x e. stood _)
   decl_blames point known (Enum at name items) =
-      blames_after (enum_blames cx point.scope known at (tag_of cx name) items) (λ warned e. stood _)
+      blames_after (enum_blames cx point.scope known at (tag_of cx name) items)
+      (λ warned e. stood _)
   decl_blames point known (Native at head) =
       blames_also (native_name_blames at head.name) (bare_head_blames point known at head)
   decl_blames point known (Forward at is_public head) =

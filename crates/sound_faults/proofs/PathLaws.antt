@@ -1,5 +1,6 @@
 -- What holds of all that the names of a path mean, along declarations.
-use Rattle.std.proofs.Common.{◌≡◌, ℕ, List, [], ◌∷◌, ◌++◌, Bool, true, false, Option, None, Some, reverse, refl, sym, ◌∙◌, subst, ap}
+use Rattle.std.proofs.Common.{◌≡◌, ℕ, List, [], ◌∷◌, ◌++◌, Bool, true, false, Option, None, Some}
+use Rattle.std.proofs.Common.{reverse, refl, sym, ◌∙◌, subst, ap}
 use Rattle.std.specs.Prelude.{if◌then◌else◌, option_map}
 use Rattle.std.specs.Option.{option_or}
 use Rattle.std.specs.Str.{bytes_eq}
@@ -8,7 +9,8 @@ use Rattle.pawn_cells.specs.Constants.{predefined}
 use Rattle.pawn_cells.specs.declared.constant.Constant as held
 use Rattle.pawn_program.specs.Program.{Array}
 use Rattle.pawn_scopes.specs.Verdict.{Verdict, Stands, Breaks, after, both}
-use Rattle.pawn_typing.specs.Scope.{Scope, Meaning, Entry, first_named, found, with_entries, constant_meaning}
+use Rattle.pawn_typing.specs.Scope.{Scope, Meaning, Entry, first_named, found, with_entries}
+use Rattle.pawn_typing.specs.Scope.{constant_meaning}
 use Rattle.pawn_typing.specs.Scope as means
 use Rattle.pawn_typing.proofs.VerdictLaws.{Holds, breaks_holds, holds_after}
 use Rattle.pawn_values.specs.Constants as constants

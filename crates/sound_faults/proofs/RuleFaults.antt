@@ -11,21 +11,30 @@ use Rattle.pawn_tree.specs.declared.expression.TagofOperand.TheVariants as tagof
 use Rattle.pawn_tags.specs.declared.operators.Choice.{Choice}
 use Rattle.pawn_program.specs.Program.{Scalar, Array, Expr}
 use Rattle.pawn_program.specs.Scope.{Extent}
-use Rattle.pawn_scopes.specs.Signs.{Between, Operates, Decides, Takes, Nothing, Link, Compares, No_link}
-use Rattle.pawn_typing.specs.Typed.{Typed, Form, Held, cell_in, cell, array_in, array_or_broken, array}
+use Rattle.pawn_scopes.specs.Signs.{Between, Operates, Decides, Takes, Nothing, Link, Compares}
+use Rattle.pawn_scopes.specs.Signs.{No_link}
+use Rattle.pawn_typing.specs.Typed.{Typed, Form, Held, cell_in, cell, array_in, array_or_broken}
+use Rattle.pawn_typing.specs.Typed.{array}
 use Rattle.pawn_typing.specs.Typed as typed
 use Rattle.pawn_typing.specs.Around.{Around}
-use Rattle.pawn_typing.specs.Scope.{Meaning, Constant, Variable, Function, Native, Entering, Taken, Unknown, Scope, found}
+use Rattle.pawn_typing.specs.Scope.{Meaning, Constant, Variable, Function, Native, Entering, Taken}
+use Rattle.pawn_typing.specs.Scope.{Unknown, Scope, found}
 use Rattle.pawn_typing.specs.Scope as means
-use Rattle.pawn_typing.specs.Names.{text_rule, name_rule, size_or_broken, size_of, size_in, sizeof_rule, tag_of, tag_in, tagof_rule, size_at}
-use Rattle.pawn_typing.specs.Operators.{operate, operator_rule, logical_rule, comma_rule, between_rule, not_rule, negate_rule, invert_rule, chosen}
+use Rattle.pawn_typing.specs.Names.{text_rule, name_rule, size_or_broken, size_of, size_in}
+use Rattle.pawn_typing.specs.Names.{sizeof_rule, tag_of, tag_in, tagof_rule, size_at}
+use Rattle.pawn_typing.specs.Operators.{operate, operator_rule, logical_rule, comma_rule}
+use Rattle.pawn_typing.specs.Operators.{between_rule, not_rule, negate_rule, invert_rule, chosen}
 use Rattle.pawn_typing.specs.Prefixes.{prefix_rule, postfix_rule}
 use Rattle.pawn_typing.specs.Indexes.{index_rule, character_in, character_rule}
 use Rattle.pawn_typing.specs.Choices.{choice_rule}
 use Rattle.pawn_typing.specs.Chains.{Compared, compared, links_code, chain_rule}
-use Rattle.pawn_typing.specs.Assignments.{unless_constant, target_in, target, assign_cell, cells_or_broken, copied_cells, literal_cells, known_line, copy_from, assign_to, set_rule, updated, update_rule, update_by, assign_rule, step_rule}
+use Rattle.pawn_typing.specs.Assignments.{unless_constant, target_in, target, assign_cell}
+use Rattle.pawn_typing.specs.Assignments.{cells_or_broken, copied_cells, literal_cells, known_line}
+use Rattle.pawn_typing.specs.Assignments.{copy_from, assign_to, set_rule, updated, update_rule}
+use Rattle.pawn_typing.specs.Assignments.{update_by, assign_rule, step_rule}
 use Rattle.pawn_typing.specs.Signs.{updater_of}
-use Rattle.sound_faults.proofs.Blames.{Blames, stood, blamed, when, blames_after, blames_both, blames_pair}
+use Rattle.sound_faults.proofs.Blames.{Blames, stood, blamed, when, blames_after, blames_both}
+use Rattle.sound_faults.proofs.Blames.{blames_pair}
 use Rattle.sound_faults.proofs.PathLaws.{AllMeant}
 
 -- ---- what surroundings ask

@@ -17,21 +17,31 @@ use Rattle.pawn_scopes.specs.Verdict.{Verdict, after}
 use Rattle.pawn_typing.specs.Typed.{Typed}
 use Rattle.pawn_typing.specs.Around.{Around}
 use Rattle.pawn_typing.specs.Scope.{Scope, Meaning, found_in_block}
-use Rattle.pawn_typing.proofs.VerdictLaws.{Holds, stands_itself, holds_after, holds_also, holds_unless}
+use Rattle.pawn_typing.proofs.VerdictLaws.{Holds, stands_itself, holds_after, holds_also}
+use Rattle.pawn_typing.proofs.VerdictLaws.{holds_unless}
 use Rattle.pawn_values.specs.Constants as constants
 use Rattle.pawn_values.specs.Arrays.{shaped}
-use Rattle.pawn_bodies.specs.Points.{Point, beyond, inside, tag_of, array_place, var_by, behind_var, behind_vars, behind_constant, behind_first, behind}
-use Rattle.pawn_bodies.specs.Counts.{slots_in_case, objects_in_case, slots_in_cases, objects_in_cases}
+use Rattle.pawn_bodies.specs.Points.{Point, beyond, inside, tag_of, array_place, var_by, behind_var}
+use Rattle.pawn_bodies.specs.Points.{behind_vars, behind_constant, behind_first, behind}
+use Rattle.pawn_bodies.specs.Counts.{slots_in_case, objects_in_case, slots_in_cases}
+use Rattle.pawn_bodies.specs.Counts.{objects_in_cases}
 use Rattle.pawn_bodies.specs.Stood.{Stood}
-use Rattle.pawn_bodies.specs.Locals.{unless_found, fresh_name, local_cell, local_by, local, locals, vars_parts, local_vars, local_constant}
+use Rattle.pawn_bodies.specs.Locals.{unless_found, fresh_name, local_cell, local_by, local, locals}
+use Rattle.pawn_bodies.specs.Locals.{vars_parts, local_vars, local_constant}
 use Rattle.pawn_bodies.specs.States.{automaton_named, state_in, state_of, reached_in, reached_by}
 use Rattle.pawn_bodies.specs.Switches.{Ends, last_part, ends, label_by, labels, apart}
-use Rattle.pawn_bodies.specs.Statements.{CasePart, Other, part, maybe_part, use_at, maybe_use, value, value_or_zero, perhaps, returned, first_done, for_by, cased, switch_by, in_a_loop, past, past_maybe, past_stmt, stmt, block, otherwise, cases, one_case}
-use Rattle.sound_faults.proofs.Blames.{Blames, stood, blamed, when, blames_after, blames_both, blames_also, blames_unless, blames_pair, blames_each}
-use Rattle.sound_faults.proofs.PathLaws.{AllMeant, meant_with, meant_inside, array_meant, value_meant, holds_then}
+use Rattle.pawn_bodies.specs.Statements.{CasePart, Other, part, maybe_part, use_at, maybe_use}
+use Rattle.pawn_bodies.specs.Statements.{value, value_or_zero, perhaps, returned, first_done}
+use Rattle.pawn_bodies.specs.Statements.{for_by, cased, switch_by, in_a_loop, past, past_maybe}
+use Rattle.pawn_bodies.specs.Statements.{past_stmt, stmt, block, otherwise, cases, one_case}
+use Rattle.sound_faults.proofs.Blames.{Blames, stood, blamed, when, blames_after, blames_both}
+use Rattle.sound_faults.proofs.Blames.{blames_also, blames_unless, blames_pair, blames_each}
+use Rattle.sound_faults.proofs.PathLaws.{AllMeant, meant_with, meant_inside, array_meant}
+use Rattle.sound_faults.proofs.PathLaws.{value_meant, holds_then}
 use Rattle.sound_faults.proofs.RuleFaults.{IsKnown, cell_blames}
 use Rattle.sound_faults.proofs.CallFaults.{expr_blames}
-use Rattle.sound_faults.proofs.ValueFaults.{constant_rule_blames, constant_blames, array_value_blames, static_blames, local_value_blames}
+use Rattle.sound_faults.proofs.ValueFaults.{constant_rule_blames, constant_blames}
+use Rattle.sound_faults.proofs.ValueFaults.{array_value_blames, static_blames, local_value_blames}
 
 -- ---- declarations
 
@@ -288,7 +298,8 @@ module _ (cx : Around) (automata : List Automaton) (result : ℕ) where
     stmt_blames point known in_loop (tree.Do at it) =
         blames_after (value_blames point known at it) (λ x s. stood _)
     stmt_blames point known in_loop (tree.Block at ss) =
-        blames_after (block_blames (inside point) (meant_inside IsKnown point.scope known) in_loop ss)
+        blames_after (block_blames (inside point)
+        (meant_inside IsKnown point.scope known) in_loop ss)
         (λ x s. stood _)
     stmt_blames point known in_loop (tree.If at c s other) =
         let there : Point = past cx automata result point c in

@@ -1,18 +1,23 @@
 -- Constants, sizes and first values break only with a fault where nothing that a name means is
 -- unknown.
-use Rattle.std.proofs.Common.{◌*◌, ℕ, zero, suc, ℤ, pos, negsuc, List, [], ◌∷◌, Bool, true, false, Option, None, Some}
+use Rattle.std.proofs.Common.{◌*◌, ℕ, zero, suc, ℤ, pos, negsuc, List, [], ◌∷◌, Bool, true, false}
+use Rattle.std.proofs.Common.{Option, None, Some}
 use Rattle.pawn_arrays.specs.Sizes.{elements_in}
 use Rattle.pawn_tree.specs.declared.name.At.{At}
 use Rattle.pawn_tree.specs.Expressions.{Expr}
-use Rattle.pawn_tree.specs.Variables.{Dim, Open, Cells, Chars, Init, Value, Braces, Inits, no_inits, then_init}
+use Rattle.pawn_tree.specs.Variables.{Dim, Open, Cells, Chars, Init, Value, Braces, Inits, no_inits}
+use Rattle.pawn_tree.specs.Variables.{then_init}
 use Rattle.pawn_scopes.specs.Verdict.{Verdict}
 use Rattle.pawn_typing.specs.Typed.{Typed}
 use Rattle.pawn_typing.specs.Around.{Around}
 use Rattle.pawn_typing.specs.Scope.{Scope}
 use Rattle.pawn_values.specs.Constants as constants
-use Rattle.pawn_values.specs.Sizes.{Dimension, size_in, dimension, inner_with, inner, dimensions, within, Inner}
+use Rattle.pawn_values.specs.Sizes.{Dimension, size_in, dimension, inner_with, inner, dimensions}
+use Rattle.pawn_values.specs.Sizes.{within, Inner}
 use Rattle.pawn_values.specs.FirstValues as values
-use Rattle.pawn_values.specs.FirstValues.{filled, literal_in, text_by, text, whole_value, value_cell, cell_of_list, cells_of_list, unless_goes_on, listed, parts, first_cells, rows, cells_or_zeros}
+use Rattle.pawn_values.specs.FirstValues.{filled, literal_in, text_by, text, whole_value}
+use Rattle.pawn_values.specs.FirstValues.{value_cell, cell_of_list, cells_of_list, unless_goes_on}
+use Rattle.pawn_values.specs.FirstValues.{listed, parts, first_cells, rows, cells_or_zeros}
 use Rattle.pawn_values.specs.Arrays.{text_size, size_from, first_size, shaped, array_value}
 use Rattle.pawn_values.specs.Cells.{static_rule, static_value, local_value}
 use Rattle.sound_faults.proofs.Blames.{Blames, stood, blamed, when, blames_after, blames_both}

@@ -1,14 +1,18 @@
 -- A tree stands, or it has a fault.
 use Rattle.std.proofs.Common.{◌≡◌, ◌⊎◌, inl, inr, ◌+◌, ℕ, ℤ, List, [], ◌∷◌, refl, arith}
-use Rattle.std.specs.Prelude.{flat_map, pos}
+use Rattle.std.specs.Prelude.{flat_map, pos, Option, None, Some}
 use Rattle.std.specs.List.{Contains}
 use Rattle.pawn_tree.specs.Declarations.{Tree}
 use Rattle.pawn_scopes.specs.Verdict.{Fault, Verdict, Stands, Breaks, faults_of}
 use Rattle.pawn_typed.specs.Headings.{Heading, Role, IsNative, IsForward, IsBody}
 use Rattle.pawn_automata.specs.Keys.{Key, Named, Operates, Enters, Misshapen}
 use Rattle.pawn_automata.specs.Groups.{Group}
-use Rattle.pawn_typed.specs.Sources.{Source, Stated, source_of, around_of, beginning, stated, natives_in, group_tag, function_entry, function_entries, native_entries, forward_entry, forward_entries}
-use Rattle.pawn_typed.specs.Whole.{Checked, unless, sum_faults, whole_faults, source_faults, done, checked_of, typed}
+use Rattle.pawn_typed.specs.Sources.{Source, Stated, source_of, around_of, beginning, stated}
+use Rattle.pawn_typed.specs.Sources.{natives_in, group_tag, function_entry, function_entries}
+use Rattle.pawn_typed.specs.Sources.{entry_by, entering_tag, native_entries, forward_entry}
+use Rattle.pawn_typed.specs.Sources.{forward_entries}
+use Rattle.pawn_typed.specs.Whole.{Checked, unless, sum_faults, whole_faults, source_faults, done}
+use Rattle.pawn_typed.specs.Whole.{checked_of, typed}
 use Rattle.sound_faults.specs.Faulted.{FaultsAreGiven, DeclarationsHaveFaults}
 use Rattle.sound_faults.proofs.Blames.{Blames, stood, blamed, blames_after, blames_both}
 use Rattle.sound_faults.proofs.PathLaws.{AllEntries, all_append, meant_first}
@@ -42,7 +46,7 @@ module _ (source : Source) where
       → AllEntries IsKnown (function_entry source number tag key)
   function_known number tag (Named name) = (λ same. let no : ⊥ = cc in no, tt)
   function_known number tag (Operates it) = tt
-  function_known number tag (Enters name) = (λ same. let no : ⊥ = cc in no, tt)
+  function_known number tag (Enters name) = tt
   function_known number tag Misshapen = tt
 
   functions_known : (number : ℕ) (all : List Stated) (groups : List Group)
@@ -54,13 +58,19 @@ module _ (source : Source) where
       (function_known number (group_tag source all group) group.key)
       (functions_known (number + 1) all more)
 
+  entry_known : (tag : Option ℕ) → AllEntries IsKnown (entry_by source tag)
+  entry_known None = tt
+  entry_known (Some tag) = (λ same. let no : ⊥ = cc in no, tt)
+
   beginning_known : KnownAt (beginning source)
   beginning_known =
       let all : List Stated = stated source source.headings [] in
       meant_first IsKnown _
       (all_append IsKnown (forward_entries source) _ (forwards_known source.headings)
       (all_append IsKnown (native_entries source 0 (natives_in source all)) _
-      (natives_known 0 (natives_in source all)) (functions_known 0 all source.groups)))
+      (natives_known 0 (natives_in source all))
+      (all_append IsKnown (function_entries source 0 all source.groups) _
+      (functions_known 0 all source.groups) (entry_known (entering_tag source all)))))
       (λ name x e same. let no : ⊥ = cc in no)
 
 -- ---- the whole

@@ -1,6 +1,8 @@
--- Sizes and first values that stand are good: sizes are 1 or more and within the limit, and there are
--- as many first cells as they say.
-use Rattle.std.proofs.Common.{◌≡◌, ◌-◌, ◌*◌, ◌/◌, ◌^◌, ◌<◌, ◌≤◌, ℕ, zero, suc, ℤ, pos, negsuc, ◌+ℤ◌, ◌<ℤ◌, List, [], ◌∷◌, Bool, true, false, Option, None, Some, refl, sym, ap, subst, arith}
+-- Sizes and first values that stand are good: sizes are 1 or more and within the limit, and there
+-- are as many first cells as they say.
+use Rattle.std.proofs.Common.{◌≡◌, ◌-◌, ◌*◌, ◌/◌, ◌^◌, ◌<◌, ◌≤◌, ℕ, zero, suc, ℤ, pos, negsuc, ◌+ℤ◌}
+use Rattle.std.proofs.Common.{◌<ℤ◌, List, [], ◌∷◌, Bool, true, false, Option, None, Some, refl, sym}
+use Rattle.std.proofs.Common.{ap, subst, arith}
 use Rattle.std.specs.Prelude.{length, slice_get, nat_le}
 use Rattle.std.proofs.lemmas.Bool.{leb-true}
 use Rattle.std.proofs.lemmas.Int.{ints}
@@ -9,7 +11,8 @@ use Rattle.pawn_cells.specs.Cells.{IsCell, floor_quotient}
 use Rattle.pawn_arrays.specs.Sizes.{cells_of, cell_limit, elements_in}
 use Rattle.pawn_tree.specs.declared.name.At.{At}
 use Rattle.pawn_tree.specs.Expressions.{Expr}
-use Rattle.pawn_tree.specs.Variables.{Dim, Open, Cells, Chars, Init, Value, Braces, Inits, no_inits, then_init}
+use Rattle.pawn_tree.specs.Variables.{Dim, Open, Cells, Chars, Init, Value, Braces, Inits, no_inits}
+use Rattle.pawn_tree.specs.Variables.{then_init}
 use Rattle.pawn_program.specs.Program.{StaticObject}
 use Rattle.pawn_program.specs.Valid.{AreSizes}
 use Rattle.pawn_meaning.specs.Limits.{IsWithinArray}
@@ -18,20 +21,29 @@ use Rattle.pawn_typing.specs.Typed.{Typed, Form, cell}
 use Rattle.pawn_typing.specs.Typed as typed
 use Rattle.pawn_typing.specs.Around.{Around}
 use Rattle.pawn_typing.specs.Scope.{Scope}
-use Rattle.pawn_typing.proofs.VerdictLaws.{Holds, stands_itself, breaks_holds, holds_after, holds_both, holds_all}
+use Rattle.pawn_typing.proofs.VerdictLaws.{Holds, stands_itself, breaks_holds, holds_after}
+use Rattle.pawn_typing.proofs.VerdictLaws.{holds_both, holds_all}
 use Rattle.pawn_values.specs.Constants as constants
-use Rattle.pawn_values.specs.Sizes.{Dimension, Inner, Dimensions, size_in, cells_for, dimension, inner_with, inner, dimensions, within}
+use Rattle.pawn_values.specs.Sizes.{Dimension, Inner, Dimensions, size_in, cells_for, dimension}
+use Rattle.pawn_values.specs.Sizes.{inner_with, inner, dimensions, within}
 use Rattle.pawn_values.specs.FirstValues as values
-use Rattle.pawn_values.specs.FirstValues.{no_cells, last_of, step_of, further, missing, filled_to, filled, object_cells, literal_in, text_by, text, whole_value, value_cell, cell_of_list, cells_of_list, unless_goes_on, listed, parts, first_cells, rows, cells_or_zeros}
-use Rattle.pawn_values.specs.Arrays.{Shaped, ArrayValue, count, text_size, size_from, first_size, shaped, array_value}
+use Rattle.pawn_values.specs.FirstValues.{no_cells, last_of, step_of, further, missing, filled_to}
+use Rattle.pawn_values.specs.FirstValues.{filled, object_cells, literal_in, text_by, text}
+use Rattle.pawn_values.specs.FirstValues.{whole_value, value_cell, cell_of_list, cells_of_list}
+use Rattle.pawn_values.specs.FirstValues.{unless_goes_on, listed, parts, first_cells, rows}
+use Rattle.pawn_values.specs.FirstValues.{cells_or_zeros}
+use Rattle.pawn_values.specs.Arrays.{Shaped, ArrayValue, count, text_size, size_from, first_size}
+use Rattle.pawn_values.specs.Arrays.{shaped, array_value}
 use Rattle.pawn_values.specs.Cells.{static_rule, static_value}
 use Rattle.pawn_bodies.specs.Points.{extent_of}
 use Rattle.pawn_sound.specs.Meant.{AreCells}
 use Rattle.sound_programs.specs.Objects.{Each, IsGoodObject}
-use Rattle.sound_programs.specs.Written.{IsWritten, IsAnyName, IsWrittenDim, IsConstantInit, AreConstantInits, IsWrittenInit}
+use Rattle.sound_programs.specs.Written.{IsWritten, IsAnyName, IsWrittenDim, IsConstantInit}
+use Rattle.sound_programs.specs.Written.{AreConstantInits, IsWrittenInit}
 use Rattle.sound_programs.specs.GoodArrays.{ArraysAreGood}
 use Rattle.sound_programs.specs.Plain.{IsValue, IsPlainPath, HasTags}
-use Rattle.sound_programs.proofs.Facts.{holds_as, when_holds, each_append, each_all, all_each, each_replicate, wrap_cell, small_cell}
+use Rattle.sound_programs.proofs.Facts.{holds_as, when_holds, each_append, each_all, all_each}
+use Rattle.sound_programs.proofs.Facts.{each_replicate, wrap_cell, small_cell}
 use Rattle.sound_programs.proofs.RuleValues.{HasText}
 use Rattle.sound_programs.proofs.ExpressionValues.{expr_plain}
 
@@ -328,7 +340,8 @@ module _ (cx : Around) (tags : HasTags cx) (path : Scope) (known : IsPlainPath p
     text_by_good size x (Some cells) k = filled_good at size false _ (k cells refl).cells
 
     -- one dimension has as many elements as its size
-    line : {it : values.First} (size : ℕ) → GoodCells size it → GoodCells (elements_in (size ∷ [])) it
+    line : {it : values.First} (size : ℕ) → GoodCells size it
+        → GoodCells (elements_in (size ∷ [])) it
     line size p = record { count = omega (arith, p.count); cells = p.cells }
 
     whole_good : (Calls : List ℕ → Type 0) (sizes : List ℕ) (e : Expr) → IsWritten Calls e
@@ -352,7 +365,10 @@ module _ (cx : Around) (tags : HasTags cx) (path : Scope) (known : IsPlainPath p
     cells_of_list_good no_inits h = stands_itself _ no_cells (record { cells = tt })
     cells_of_list_good (then_init x xs) h =
         holds_both (cell_of_list_good x h.0) (cells_of_list_good xs h.1) (λ v more p q.
-        stands_itself _ _ (record { cells = each_append IsCell v.cells more.cells p.cells q.cells }))
+        stands_itself _ _ (record {
+          cells = each_append IsCell v.cells more.cells p.cells
+              q.cells;
+        }))
 
     goes_on_good : (goes_on : Bool) (n : ℕ) (w : Verdict values.First) → Holds (GoodCells n) w
         → Holds (GoodCells n) (unless_goes_on cx path at tag goes_on w)

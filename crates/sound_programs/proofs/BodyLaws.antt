@@ -1,5 +1,6 @@
 -- The objects and bodies of declarations that stand are valid and within the limits.
-use Rattle.std.proofs.Common.{◌≡◌, ◌+◌, ◌-◌, ◌≤◌, ℕ, ℤ, pos, List, [], ◌∷◌, ◌++◌, Bool, false, Option, None, Some, refl, sym, ap, ◌∙◌, subst, arith}
+use Rattle.std.proofs.Common.{◌≡◌, ◌+◌, ◌-◌, ◌≤◌, ℕ, ℤ, pos, List, [], ◌∷◌, ◌++◌, Bool, false}
+use Rattle.std.proofs.Common.{Option, None, Some, refl, sym, ap, ◌∙◌, subst, arith}
 use Rattle.std.specs.Prelude.{length, nat_le, option_map, IsPermutation}
 use Rattle.std.proofs.lemmas.Bool.{leb-true}
 use Rattle.std.proofs.lemmas.List.{length-append, append-nil, take_at}
@@ -12,8 +13,11 @@ use Rattle.pawn_tree.specs.Expressions.{Expr}
 use Rattle.pawn_tree.specs.Variables.{Dim, Var}
 use Rattle.pawn_tree.specs.Statements.{ConstantOf}
 use Rattle.pawn_tree.specs.Declarations as tree
-use Rattle.pawn_tree.specs.Declarations.{Decl, Variables, Constant, Enum, Native, Forward, Function, Tree, FunctionOf, Item}
-use Rattle.pawn_program.specs.Program.{Scalar, Global, Own, Through, Element, Char, Array, Object, SlotArray, ParamArray, Row, From, Slot, Program, Automaton, Stmt}
+use Rattle.pawn_tree.specs.Declarations.{Decl, Variables, Constant, Enum, Native, Forward, Function}
+use Rattle.pawn_tree.specs.Declarations.{Tree, FunctionOf, Item}
+use Rattle.pawn_program.specs.Program.{Scalar, Global, Own, Through, Element, Char, Array, Object}
+use Rattle.pawn_program.specs.Program.{SlotArray, ParamArray, Row, From, Slot, Program, Automaton}
+use Rattle.pawn_program.specs.Program.{Stmt}
 use Rattle.pawn_program.specs.Scope.{Extent}
 use Rattle.pawn_program.specs.Valid.{IsSlot, numbers_from}
 use Rattle.pawn_program.specs.ValidStmts.{slots_made_by, all_slots_made, IsValidStmt}
@@ -24,28 +28,35 @@ use Rattle.pawn_scopes.specs.Verdict.{Verdict, Stands, Breaks}
 use Rattle.pawn_typing.specs.Around.{Around}
 use Rattle.pawn_typing.specs.Scope.{Scope, Meaning, Entry, with_entries}
 use Rattle.pawn_typing.specs.Scope as means
-use Rattle.pawn_typing.proofs.VerdictLaws.{Holds, stands_itself, breaks_holds, holds_after, holds_both, holds_all, holds_also, holds_unless}
+use Rattle.pawn_typing.proofs.VerdictLaws.{Holds, stands_itself, breaks_holds, holds_after}
+use Rattle.pawn_typing.proofs.VerdictLaws.{holds_both, holds_all, holds_also, holds_unless}
 use Rattle.pawn_values.specs.Constants as constants
 use Rattle.pawn_values.specs.Arrays.{array_value}
 use Rattle.pawn_values.specs.Cells.{static_value}
 use Rattle.pawn_bodies.specs.Counts.{objects_in}
-use Rattle.pawn_bodies.specs.Points.{Point, beyond, tag_of, constant_means, behind_var, behind_vars, behind_constant}
+use Rattle.pawn_bodies.specs.Points.{Point, beyond, tag_of, constant_means, behind_var, behind_vars}
+use Rattle.pawn_bodies.specs.Points.{behind_constant}
 use Rattle.pawn_bodies.specs.Stood.{Stood, Returned, stmts_in, one_of}
 use Rattle.pawn_bodies.specs.Locals.{local_by}
 use Rattle.pawn_bodies.specs.Statements.{stmt}
 use Rattle.pawn_bodies.proofs.StatementLaws.{stmt_made}
 use Rattle.pawn_heads.specs.Params.{Headed, head_parts, head_rule, in_body}
 use Rattle.pawn_automata.specs.Keys.{Key}
-use Rattle.pawn_typed.specs.Enums.{Counted, value_of, means_value, item_value, behind_item, behind_items, nothing_counted, named, behind_enum, enum_rule}
+use Rattle.pawn_typed.specs.Enums.{Counted, value_of, means_value, item_value, behind_item}
+use Rattle.pawn_typed.specs.Enums.{behind_items, nothing_counted, named, behind_enum, enum_rule}
 use Rattle.pawn_typed.specs.Sources.{Source}
 use Rattle.pawn_typed.specs.Paths.{behind_decl}
-use Rattle.pawn_typed.specs.Declarations.{Done, done_behind, nothing_done, warning, objects_done, body_of, bodied, shaped_key, native_name, function_key, body_point, function_with, bare_head, globals, constant_rule, decl_rule, declarations}
+use Rattle.pawn_typed.specs.Declarations.{Done, done_behind, nothing_done, warning, objects_done}
+use Rattle.pawn_typed.specs.Declarations.{body_of, bodied, shaped_key, native_name, function_key}
+use Rattle.pawn_typed.specs.Declarations.{body_point, function_with, bare_head, globals}
+use Rattle.pawn_typed.specs.Declarations.{constant_rule, decl_rule, declarations}
 use Rattle.pawn_sound.specs.Known.{KnowsAround}
 use Rattle.pawn_sound.specs.ValidExpressions.{ExpressionsAreValid}
 use Rattle.sound_programs.specs.Objects.{Each, IsGoodObject}
 use Rattle.sound_programs.specs.Written.{IsAnyName, IsWrittenVar}
 use Rattle.sound_programs.specs.Plain.{IsTag, IsValue, HasTags}
-use Rattle.sound_programs.proofs.Facts.{holds_and, when_holds, each_append, each_all, small_cell, wrap_cell}
+use Rattle.sound_programs.proofs.Facts.{holds_and, when_holds, each_append, each_all, small_cell}
+use Rattle.sound_programs.proofs.Facts.{wrap_cell}
 use Rattle.sound_programs.proofs.ArrayValues.{PlainConstant, constant_plain}
 use Rattle.sound_programs.specs.Sits.{Sits}
 use Rattle.sound_programs.specs.Seen.{IsSeenPlace, IsSeenArray, IsSeen, IsSeenPath}
@@ -53,10 +64,12 @@ use Rattle.sound_programs.specs.WrittenStatements.{IsConstant, MayBeConstant, Is
 use Rattle.sound_programs.specs.ValidStatements.{IsGoodSlot, IsCalled}
 use Rattle.sound_programs.proofs.Parts.{sits_left, sits_right, sits_at, sits_there}
 use Rattle.sound_programs.proofs.SeenLaws.{seen_with, seen_inside, plain_path}
-use Rattle.sound_programs.proofs.Variables.{Place, scope_at, Sound, StandsSound, tag_small, static_holds}
+use Rattle.sound_programs.proofs.Variables.{Place, scope_at, Sound, StandsSound, tag_small}
+use Rattle.sound_programs.proofs.Variables.{static_holds}
 use Rattle.sound_programs.proofs.StatementParts.{SubIn, sub_in}
 use Rattle.sound_programs.proofs.StatementLaws.{stmt_holds}
-use Rattle.sound_programs.specs.WrittenDeclarations.{IsWrittenItem, IsOwnHead, IsWrittenDecl, IsWrittenTree}
+use Rattle.sound_programs.specs.WrittenDeclarations.{IsWrittenItem, IsOwnHead, IsWrittenDecl}
+use Rattle.sound_programs.specs.WrittenDeclarations.{IsWrittenTree}
 use Rattle.sound_programs.specs.ValidBodies.{file_scope, IsSoundBody, BodiesAreValid}
 use Rattle.sound_programs.proofs.HeadLaws.{AreParams, params_stand}
 
@@ -65,7 +78,8 @@ use Rattle.sound_programs.proofs.HeadLaws.{AreParams, params_stand}
 abbrev pub body_place : Program → List Slot → ℕ → Place
 body_place it slots params = record { program = it; slots = slots; params = params }
 
-module _ (it : Program) (cx : Around) (Calls : List ℕ → Type 0) (slots : List Slot) (params : ℕ) where
+module _ (it : Program) (cx : Around) (Calls : List ℕ → Type 0) (slots : List Slot)
+    (params : ℕ) where
   place_there : (p : Scalar) → IsSeenPlace (file_scope it) p
       → IsSeenPlace (scope_at (body_place it slots params) []) p
   place_there (Global o) h = h
@@ -109,7 +123,8 @@ static_bare cx point at constant x [] =
     holds_after (holds_all (static_value cx point.scope at (tag_of cx x.tag) x.init)) (λ it t.
     stands_itself _ _ (record { stmts = refl; slots = refl }))
 static_bare cx point at constant x (dim ∷ dims) =
-    holds_after (holds_all (array_value cx point.scope at (tag_of cx x.tag) dim dims x.init)) (λ it t.
+    holds_after (holds_all (array_value cx point.scope at (tag_of cx x.tag) dim dims x.init))
+    (λ it t.
     stands_itself _ _ (record { stmts = refl; slots = refl }))
 
 -- ---- a body by its slots and statement
@@ -122,7 +137,8 @@ minus_first : (m n k : ℕ) → k ≡ m + n → k - m ≡ n
 minus_first m n k e = omega (arith, e)
 
 body_good : (it : Program) (own rest : List Slot) (s : Stmt) → Each IsGoodSlot own
-    → Each IsGoodSlot rest → IsValidStmt (scope_at (body_place it (own ++ rest) (length own)) []) false false s
+    → Each IsGoodSlot rest → IsValidStmt (scope_at (body_place it (own ++ rest) (length own)) [])
+    false false s
     → all_slots_made s ≡ numbers_from (length own) (length rest)
     → locals (own ++ rest) s ≤ LOCALS_LIMIT → (number : ℕ) (at : At) (returns : List Returned)
     → IsSoundBody it (record {
@@ -135,11 +151,14 @@ body_good : (it : Program) (own rest : List Slot) (s : Stmt) → Each IsGoodSlot
 body_good it own rest s p q valid made few number at returns = record {
   params = p;
   valid = record {
-    slots = each_all IsSlot (own ++ rest) (valid_slots (own ++ rest) (each_append IsGoodSlot own rest p q));
+    slots =
+        each_all IsSlot (own ++ rest) (valid_slots (own ++ rest)
+        (each_append IsGoodSlot own rest p q));
     begins = take_at own rest (length own) refl;
     makes = subst (λ (l : List ℕ). IsPermutation (all_slots_made s) l)
         (made ∙ ap (λ m. numbers_from (length own) m)
-        (sym (minus_first (length own) (length rest) (length (own ++ rest)) (length-append own rest))))
+        (sym (minus_first (length own) (length rest) (length (own ++ rest))
+        (length-append own rest))))
         (IsPermutation-refl (all_slots_made s));
     stmt = valid;
   };
@@ -172,7 +191,8 @@ pub record DeclSound (it : Program) (cx : Around) (Calls : List ℕ → Type 0) 
   pub sound : IsSeenPath (file_scope it) cx Calls point.scope
       → Sits it.objects point.objects d.objects → DeclIn it cx Calls point to d
 
-module _ (law : ExpressionsAreValid) (it : Program) (cx : Around) (Calls : List ℕ → Type 0) (known : KnowsAround it cx) (tags : HasTags cx) where
+module _ (law : ExpressionsAreValid) (it : Program) (cx : Around) (Calls : List ℕ → Type 0)
+    (known : KnowsAround it cx) (tags : HasTags cx) where
   behind_done : (point mid to : Point) (x y : Done) → DeclSound it cx Calls point mid x
       → DeclSound it cx Calls mid to y → DeclSound it cx Calls point to (done_behind x y)
   behind_done point mid to x y p q = record {
@@ -196,7 +216,8 @@ module _ (law : ExpressionsAreValid) (it : Program) (cx : Around) (Calls : List 
 
   -- what adds nothing to a program
   only_path : (point to : Point) (warned : List At) → to.objects ≡ point.objects
-      → (IsSeenPath (file_scope it) cx Calls point.scope → IsSeenPath (file_scope it) cx Calls to.scope)
+      → (IsSeenPath (file_scope it) cx Calls point.scope
+      → IsSeenPath (file_scope it) cx Calls to.scope)
       → DeclSound it cx Calls point to (warning warned)
   only_path point to warned e k = record {
     sound = λ seen fits. record {
@@ -221,12 +242,17 @@ module _ (law : ExpressionsAreValid) (it : Program) (cx : Around) (Calls : List 
   global_sound point to y bare p = record {
     sound = λ seen fits.
         let r : Sound (body_place it [] 0) cx Calls [] point false to y =
-        p.sound [] (record { path = path_there it cx Calls [] 0 point.scope seen; low = omega arith })
+        p.sound [] (record {
+          path = path_there it cx Calls [] 0 point.scope seen;
+          low = omega arith;
+        })
         fits (no_slots y bare point.slots) in
         record {
           objects = r.objects;
           bodies = tt;
-          path = subst (λ (l : List _). IsSeenPath (scope_at (body_place it [] 0) (slots_made_by (stmts_in l))) cx Calls to.scope)
+          path =
+              subst (λ (l : List _). IsSeenPath
+              (scope_at (body_place it [] 0) (slots_made_by (stmts_in l))) cx Calls to.scope)
               bare.stmts r.behind.path;
           at_objects = r.at_objects;
         };
@@ -242,12 +268,14 @@ module _ (law : ExpressionsAreValid) (it : Program) (cx : Around) (Calls : List 
         stands_itself _ nothing_done (only_path point point [] refl (λ seen. seen))
     globals_sound point at constant (x ∷ xs) w =
         holds_both (holds_and (static_bare cx point at constant x x.dims)
-        (static_holds law (body_place it [] 0) cx Calls known tags at false IsAnyName point constant x
+        (static_holds law (body_place it [] 0) cx Calls known tags at false IsAnyName point
+        constant x
         x.dims w.0.dims w.0.init))
         (globals_sound (behind_var cx point at storage.Static constant x) at constant xs w.1)
         (λ y more p q. stands_itself _ _
         (behind_done point (behind_var cx point at storage.Static constant x)
-        (behind_vars cx (behind_var cx point at storage.Static constant x) at storage.Static constant xs)
+        (behind_vars cx (behind_var cx point at storage.Static constant x) at storage.Static
+        constant xs)
         (objects_done y) more
         (global_sound point (behind_var cx point at storage.Static constant x) y p.0 p.1) q))
 
@@ -342,12 +370,14 @@ module _ (law : ExpressionsAreValid) (it : Program) (cx : Around) (Calls : List 
     record StoodAnywhere (point : Point) (at : At) (of : FunctionOf) (x : Stood) : Type 0 where
       pub counts : length x.objects ≡ objects_in of.body
       pub stood : (slots : List Slot) (params : ℕ) → (to : Point)
-          × StandsSound (body_place it slots params) cx Calls false (body_point source cx point at of) to x
+          × StandsSound (body_place it slots params) cx Calls false
+          (body_point source cx point at of) to x
 
     stood_anywhere : source.automata ≡ it.automata → (point : Point) (at : At) (of : FunctionOf)
         → IsWrittenStmt Calls of.body
         → Holds (StoodAnywhere point at of)
-        (stmt cx source.automata (tag_of cx of.head.tag) (body_point source cx point at of) false of.body)
+        (stmt cx source.automata (tag_of cx of.head.tag)
+        (body_point source cx point at of) false of.body)
     stood_anywhere e point at of w =
         subst (λ (automata : List Automaton). Holds (StoodAnywhere point at of)
         (stmt cx automata (tag_of cx of.head.tag) (body_point source cx point at of) false of.body))
@@ -357,7 +387,8 @@ module _ (law : ExpressionsAreValid) (it : Program) (cx : Around) (Calls : List 
                 (body_point source cx point at of) false of.body).of x stands).objects;
             stood = λ slots params. (
               _,
-              (stmt_holds law (body_place it slots params) cx Calls known tags (tag_of cx of.head.tag)
+              (stmt_holds law (body_place it slots params) cx Calls known tags
+                  (tag_of cx of.head.tag)
                   (body_point source cx point at of) false of.body w).of x stands,
             );
           };
@@ -381,14 +412,16 @@ module _ (law : ExpressionsAreValid) (it : Program) (cx : Around) (Calls : List 
           (sits_there [] head.slots x.slots) (omega arith) in
           let from : Point = body_point source cx point at of in
           let r : SubIn place [] from.slots false x =
-          sub_in law place cx Calls known tags (tag_of cx of.head.tag) false from whole.0 x whole.1 []
+          sub_in law place cx Calls known tags
+          (tag_of cx of.head.tag) false from whole.0 x whole.1 []
           point.objects from.slots params.behind (omega (arith, params.count)) refl refl fits
           (sits_at slots count from.slots x.slots params.count (sits_last head.slots x.slots)) in
           record {
             objects = r.objects;
             bodies = (
               body_good it head.slots x.slots (one_of x) params.slots r.slots r.valid
-                  (r.made_is ∙ ap (λ m. numbers_from m (length x.slots)) (sym params.count)) few number at
+                  (r.made_is ∙ ap (λ m. numbers_from m (length x.slots)) (sym params.count)) few
+                  number at
                   x.returns,
               tt,
             );
@@ -457,7 +490,9 @@ module _ (law : ExpressionsAreValid) (it : Program) (cx : Around) (Calls : List 
 
 pub bodies_valid : ExpressionsAreValid → BodiesAreValid
 bodies_valid law it cx called source point tree done site w stands fits =
-    let all = (declarations_sound law it cx (IsCalled called) site.around site.tags source site.automata
+    let all =
+    (declarations_sound law it cx (IsCalled called) site.around site.tags source
+    site.automata
     point tree w).of done stands in
     let r = all.sound.sound site.path fits in
     record { objects = r.objects; bodies = r.bodies }

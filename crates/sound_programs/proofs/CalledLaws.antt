@@ -3,11 +3,17 @@ use Rattle.std.proofs.Common.{ℕ, List, [], ◌∷◌, ◌++◌, Option, None, 
 use Rattle.pawn_tree.specs.Expressions as e
 use Rattle.pawn_tree.specs.Variables as v
 use Rattle.pawn_tree.specs.Statements as s
-use Rattle.pawn_calls.specs.Called.{called, called_by_links, called_by_link, called_by_args, called_by_arg}
-use Rattle.pawn_bodies.specs.CalledIn.{called_by, called_by_init, called_by_vars, called_first, called_in, called_in_all, called_in_other, called_in_cases, called_in_case}
+use Rattle.pawn_calls.specs.Called.{called, called_by_links, called_by_link, called_by_args}
+use Rattle.pawn_calls.specs.Called.{called_by_arg}
+use Rattle.pawn_bodies.specs.CalledIn.{called_by, called_by_init, called_by_vars, called_first}
+use Rattle.pawn_bodies.specs.CalledIn.{called_in, called_in_all, called_in_other, called_in_cases}
+use Rattle.pawn_bodies.specs.CalledIn.{called_in_case}
 use Rattle.sound_programs.specs.Objects.{Each}
-use Rattle.sound_programs.specs.Written.{IsAnyName, IsWritten, AreWrittenLinks, IsWrittenLink, AreWrittenArgs, IsWrittenArg, IsWrittenInit}
-use Rattle.sound_programs.specs.WrittenStatements.{MayBeWritten, AreWrittenVars, IsWrittenFirst, IsWrittenStmt, AreWrittenStmts, IsWrittenOther, AreWrittenCases, IsWrittenCase}
+use Rattle.sound_programs.specs.Written.{IsAnyName, IsWritten, AreWrittenLinks, IsWrittenLink}
+use Rattle.sound_programs.specs.Written.{AreWrittenArgs, IsWrittenArg, IsWrittenInit}
+use Rattle.sound_programs.specs.WrittenStatements.{MayBeWritten, AreWrittenVars, IsWrittenFirst}
+use Rattle.sound_programs.specs.WrittenStatements.{IsWrittenStmt, AreWrittenStmts, IsWrittenOther}
+use Rattle.sound_programs.specs.WrittenStatements.{AreWrittenCases, IsWrittenCase}
 
 each_left : {A : Type 0} (P : A → Type 0) (xs ys : List A) → Each P (xs ++ ys) → Each P xs
 each_left P [] ys h = tt
@@ -97,7 +103,11 @@ module _ (C : List ℕ → Type 0) where
       → AreWrittenVars C vars
   vars_calls [] w h = tt
   vars_calls (x ∷ more) w h = (
-    record { dims = w.0.dims; init = init_calls x.init w.0.init (l (called_by_init x.init) (called_by_vars more) h) },
+    record {
+      dims = w.0.dims;
+      init = init_calls x.init w.0.init
+          (l (called_by_init x.init) (called_by_vars more) h);
+    },
     vars_calls more w.1 (r (called_by_init x.init) (called_by_vars more) h),
   )
 
@@ -119,10 +129,14 @@ module _ (C : List ℕ → Type 0) where
           stmt_calls x w.1 (l (called_in x) _ more),
           other_calls other w.2 (r (called_in x) (called_in_other other) more),
         )
-    stmt_calls (s.While at c x) w h =
-        (expr_calls c w.0 (l (called c) (called_in x) h), stmt_calls x w.1 (r (called c) (called_in x) h))
-    stmt_calls (s.DoWhile at x c) w h =
-        (stmt_calls x w.0 (l (called_in x) (called c) h), expr_calls c w.1 (r (called_in x) (called c) h))
+    stmt_calls (s.While at c x) w h = (
+      expr_calls c w.0 (l (called c) (called_in x) h),
+      stmt_calls x w.1 (r (called c) (called_in x) h),
+    )
+    stmt_calls (s.DoWhile at x c) w h = (
+      stmt_calls x w.0 (l (called_in x) (called c) h),
+      expr_calls c w.1 (r (called_in x) (called c) h),
+    )
     stmt_calls (s.For at first c step x) w h =
         let a = r (called_first first) (called_by c ++ (called_by step ++ called_in x)) h in
         let b = r (called_by c) (called_by step ++ called_in x) a in (

@@ -14,12 +14,17 @@ use Rattle.pawn_typing.specs.Scope.{Scope, found}
 use Rattle.pawn_typing.specs.Names.{tagof_rule}
 use Rattle.pawn_typing.specs.Operators.{paren_rule, tagged_rule}
 use Rattle.pawn_typing.specs.Chains.{Compared, compared, link_rule}
-use Rattle.pawn_typing.proofs.VerdictLaws.{Holds, stands_itself, breaks_holds, holds_after, holds_both, holds_all}
+use Rattle.pawn_typing.proofs.VerdictLaws.{Holds, stands_itself, breaks_holds, holds_after}
+use Rattle.pawn_typing.proofs.VerdictLaws.{holds_both, holds_all}
 use Rattle.pawn_calls.specs.Literals.{literals, literals_of_link}
 use Rattle.pawn_calls.specs.Calls.{callee_rule}
 use Rattle.pawn_calls.specs.Expressions.{expr, chain, linked, offers}
 use Rattle.sound_programs.proofs.Facts.{holds_as, holds_and}
-use Rattle.sound_programs.proofs.ConstantRules.{itself, after_is, both_is, HasValue, IsConst, NeverConst, HaveValues, first, second, index_never, character_never, postfix_never, assign_never, call_never, between_two, prefix_one, choice_three, chain_of}
+use Rattle.sound_programs.proofs.ConstantRules.{itself, after_is, both_is, HasValue, IsConst}
+use Rattle.sound_programs.proofs.ConstantRules.{NeverConst, HaveValues, first, second, index_never}
+use Rattle.sound_programs.proofs.ConstantRules.{character_never, postfix_never, assign_never}
+use Rattle.sound_programs.proofs.ConstantRules.{call_never, between_two, prefix_one, choice_three}
+use Rattle.sound_programs.proofs.ConstantRules.{chain_of}
 
 -- where it is constant it stands by the other verdict too
 pub record SameConst (w : Verdict Typed) (x : Typed) : Type 0 where
@@ -45,7 +50,8 @@ link_by : (at : At) (it : Link) (x : Typed) → Holds (λ link. link.operand ≡
 link_by at No_link x = breaks_holds _ _
 link_by at (Compares s user) x = stands_itself _ _ refl
 
-module _ (names : List (List ℕ)) (operators : Overloads) (fs ns fs2 ns2 : List Callable) (path : Scope) where
+module _ (names : List (List ℕ)) (operators : Overloads) (fs ns fs2 ns2 : List Callable)
+    (path : Scope) where
   abbrev A : Around
   A = first names operators fs ns fs2 ns2
 
@@ -73,7 +79,10 @@ module _ (names : List (List ℕ)) (operators : Overloads) (fs ns fs2 ns2 : List
     expr_same before (tree.Prefix at s e) =
         holds_after (expr_same before e) (λ x p.
         holds_as (prefix_one names operators fs ns fs2 ns2 at s x) (λ z q.
-        record { same = λ c. after_is (expr B path before e) _ x (p.same (inl (q.back c))) ∙ q.same c }))
+        record {
+          same = λ c. after_is (expr B path before e) _ x (p.same (inl (q.back c)))
+              ∙ q.same c;
+        }))
     expr_same before (tree.Tagged at tag e) =
         holds_after (expr_same before e) (λ x p.
         stands_itself _ (tagged_rule A at tag x)
@@ -144,7 +153,8 @@ module _ (names : List (List ℕ)) (operators : Overloads) (fs ns fs2 ns2 : List
         (λ x rest p q.
         stands_itself _ (x ∷ rest) (record {
           same = λ v.
-              both_is (linked B path before link) (chain B path (before + literals_of_link link) more)
+              both_is (linked B path before link)
+              (chain B path (before + literals_of_link link) more)
               _ x rest (p.same v.0) (q.same v.1);
         }))
 

@@ -1,5 +1,6 @@
 -- A constant expression has no call in it, so it stands for the same whatever heads calls have.
-use Rattle.std.proofs.Common.{◌≡◌, ◌⊎◌, inl, inr, ℕ, ℤ, List, [], ◌∷◌, ◌++◌, Bool, true, false, Option, None, Some, refl, ap, ◌∙◌}
+use Rattle.std.proofs.Common.{◌≡◌, ◌⊎◌, inl, inr, ℕ, ℤ, List, [], ◌∷◌, ◌++◌, Bool, true, false}
+use Rattle.std.proofs.Common.{Option, None, Some, refl, ap, ◌∙◌}
 use Rattle.std.specs.Prelude.{option_map, flat_map}
 use Rattle.pawn_token.specs.declared.sign.Sign.{Sign}
 use Rattle.pawn_token.specs.declared.sign.Sign.TheVariants as sign
@@ -21,14 +22,22 @@ use Rattle.pawn_typing.specs.Typed.{Typed, Form, Held, cell, array}
 use Rattle.pawn_typing.specs.Typed as typed
 use Rattle.pawn_typing.specs.Around.{Around, Callable, Head}
 use Rattle.pawn_typing.specs.Scope.{found}
-use Rattle.pawn_typing.specs.Operators.{value_of_both, built_in, bool_tag, divides_by_zero, chosen, operate, operator_rule, logical_rule, comma_rule, between_rule, chosen_for_one, operate_one, unary_value, not_rule, negate_rule, invert_rule}
+use Rattle.pawn_typing.specs.Operators.{value_of_both, built_in, bool_tag, divides_by_zero, chosen}
+use Rattle.pawn_typing.specs.Operators.{operate, operator_rule, logical_rule, comma_rule}
+use Rattle.pawn_typing.specs.Operators.{between_rule, chosen_for_one, operate_one, unary_value}
+use Rattle.pawn_typing.specs.Operators.{not_rule, negate_rule, invert_rule}
 use Rattle.pawn_typing.specs.Prefixes.{prefix_rule, postfix_rule}
 use Rattle.pawn_typing.specs.Indexes.{part, index_rule, character_in, character_rule}
 use Rattle.pawn_typing.specs.Choices.{value_of_choice, choice_rule}
-use Rattle.pawn_typing.specs.Chains.{Compared, link_choice, link_code, links_code, link_warned, links_warned, link_tag, chain_tag, link_value, and_more, links_value, chain_value, chain_rule}
-use Rattle.pawn_typing.specs.Assignments.{target, unless_constant, assign_cell, copied_cells, literal_cells, known_line, copy_from, assign_to, set_rule, updated, update_rule, update_by, assign_rule, step_rule}
+use Rattle.pawn_typing.specs.Chains.{Compared, link_choice, link_code, links_code, link_warned}
+use Rattle.pawn_typing.specs.Chains.{links_warned, link_tag, chain_tag, link_value, and_more}
+use Rattle.pawn_typing.specs.Chains.{links_value, chain_value, chain_rule}
+use Rattle.pawn_typing.specs.Assignments.{target, unless_constant, assign_cell, copied_cells}
+use Rattle.pawn_typing.specs.Assignments.{literal_cells, known_line, copy_from, assign_to, set_rule}
+use Rattle.pawn_typing.specs.Assignments.{updated, update_rule, update_by, assign_rule, step_rule}
 use Rattle.pawn_typing.specs.Signs.{updater_of}
-use Rattle.pawn_typing.proofs.VerdictLaws.{Holds, stands_itself, breaks_holds, holds_after, holds_both, holds_all}
+use Rattle.pawn_typing.proofs.VerdictLaws.{Holds, stands_itself, breaks_holds, holds_after}
+use Rattle.pawn_typing.proofs.VerdictLaws.{holds_both, holds_all}
 use Rattle.pawn_calls.specs.Filling.{Offer, fill}
 use Rattle.pawn_calls.specs.Defaults.{args_of}
 use Rattle.pawn_calls.specs.Calls.{Callee, args_in, call_by, call_rule}
@@ -171,7 +180,8 @@ module _ (names : List (List ℕ)) (operators : Overloads) (fs ns fs2 ns2 : List
 
     assign_cell_never : (x y : Typed) → Holds NeverConst (assign_cell first at x y)
     assign_cell_never x y =
-        holds_both (holds_all (target at x)) (holds_all (cell at y)) (λ a e t u. stands_never _ no no)
+        holds_both (holds_all (target at x)) (holds_all (cell at y))
+        (λ a e t u. stands_never _ no no)
 
     copy_never : (x y : Typed) (to : Array) (reach : Extent) (form : Form)
         → Holds NeverConst (copy_from first at x y to reach form)
@@ -293,7 +303,8 @@ module _ (names : List (List ℕ)) (operators : Overloads) (fs ns fs2 ns2 : List
         → OfOne x (Stands (operate_one second at x e (unary_value at it tag x e) by))
         (operate_one first at x e (unary_value at it tag x e) by)
     operate_one_of x e it tag None = record {
-      back = λ c. mapped_back (cells.prefix it) x.value (const_value (unary_value at it tag x e) no c);
+      back =
+          λ c. mapped_back (cells.prefix it) x.value (const_value (unary_value at it tag x e) no c);
       same = λ c. refl;
     }
     operate_one_of x e it tag (Some by) =
@@ -341,7 +352,8 @@ module _ (names : List (List ℕ)) (operators : Overloads) (fs ns fs2 ns2 : List
         → Holds (OfThree x y u (choice_rule second at x y u)) (choice_rule first at x y u)
     unfolding choice_rule
     choice_three x y u =
-        holds_both {P = λ l. cell at x ≡ Stands l} {Q = λ r. pair (cell at y) (cell at u) ≡ Stands r}
+        holds_both {P = λ l. cell at x ≡ Stands l}
+        {Q = λ r. pair (cell at y) (cell at u) ≡ Stands r}
         (itself (cell at x)) (itself (pair (cell at y) (cell at u))) (λ l r e f.
         three_of x y u _ _ no (choice_back x.value y.value u.value)
         (both_is (cell at x) (pair (cell at y) (cell at u)) _ l r e f))
@@ -370,7 +382,8 @@ module _ (names : List (List ℕ)) (operators : Overloads) (fs ns fs2 ns2 : List
     unfolding links_value
     value_same left [] = refl
     value_same left (link ∷ more) =
-        ap (λ rest. and_more (link_value link.sign link.operand.value (link_choice first left link)) rest)
+        ap (λ rest. and_more (link_value link.sign link.operand.value (link_choice first left link))
+        rest)
         (value_same link.operand.tag more)
 
     abbrev HasLinks : Option (List (Comparison × ℤ)) → Type 0
@@ -429,7 +442,8 @@ module _ (names : List (List ℕ)) (operators : Overloads) (fs ns fs2 ns2 : List
         (link_back link.sign link.operand.value (link_choice first left link) p.0).1
     tag_same left (link ∷ next ∷ more) h = refl
 
-    pub record OfChain (x : Typed) (links : List Compared) (w : Verdict Typed) (z : Typed) : Type 0 where
+    pub record OfChain (x : Typed) (links : List Compared) (w : Verdict Typed)
+        (z : Typed) : Type 0 where
       pub back : IsConst z → HasValue x.value × HaveValues links
       pub same : IsConst z → w ≡ Stands z
 
@@ -437,7 +451,8 @@ module _ (names : List (List ℕ)) (operators : Overloads) (fs ns fs2 ns2 : List
         → Holds (OfChain x links (chain_rule second at x links)) (chain_rule first at x links)
     unfolding chain_rule
     chain_of x links =
-        holds_both {P = λ l. cell at x ≡ Stands l} {Q = λ r. links_code first at x.tag links ≡ Stands r}
+        holds_both {P = λ l. cell at x ≡ Stands l}
+        {Q = λ r. links_code first at x.tag links ≡ Stands r}
         (itself (cell at x)) (itself (links_code first at x.tag links)) (λ l r e f.
         stands_itself _ _ (record {
           back = λ c.

@@ -1,5 +1,6 @@
 -- An expression that stands is plain, by recursion on its tree.
-use Rattle.std.proofs.Common.{◌≡◌, ◌+◌, ℕ, List, [], ◌∷◌, ◌++◌, Bool, true, false, Option, None, Some, refl, sym, ap, ap₂, ◌∙◌, subst, arith}
+use Rattle.std.proofs.Common.{◌≡◌, ◌+◌, ℕ, List, [], ◌∷◌, ◌++◌, Bool, true, false, Option, None}
+use Rattle.std.proofs.Common.{Some, refl, sym, ap, ap₂, ◌∙◌, subst, arith}
 use Rattle.std.specs.Prelude.{flat_map, slice_get}
 use Rattle.std.proofs.lemmas.List.{append_assoc, append-nil}
 use Rattle.pawn_tree.specs.declared.name.At.{At}
@@ -10,24 +11,35 @@ use Rattle.pawn_scopes.specs.Signs.{Link, Compares, No_link, between_of, link_of
 use Rattle.pawn_typing.specs.Rule.{thread}
 use Rattle.pawn_typing.specs.Typed.{Typed}
 use Rattle.pawn_typing.specs.Around.{Around, Callable, Head, Param}
-use Rattle.pawn_typing.specs.Scope.{Meaning, Constant, Variable, Array, Function, Entering, Taken, Unknown, Scope, found}
+use Rattle.pawn_typing.specs.Scope.{Meaning, Constant, Variable, Array, Function, Entering, Taken}
+use Rattle.pawn_typing.specs.Scope.{Unknown, Scope, found}
 use Rattle.pawn_typing.specs.Scope as means
 use Rattle.pawn_typing.specs.Chains.{Compared, compared}
-use Rattle.pawn_typing.proofs.VerdictLaws.{Holds, stands_itself, breaks_holds, holds_after, holds_both, holds_all}
+use Rattle.pawn_typing.proofs.VerdictLaws.{Holds, stands_itself, breaks_holds, holds_after}
+use Rattle.pawn_typing.proofs.VerdictLaws.{holds_both, holds_all}
 use Rattle.pawn_calls.specs.Given.{given_rule}
-use Rattle.pawn_calls.specs.Filling.{Offer, Positional, Skipped, Filling, Argument, Default, in_slot, nothing_filled, put, for_param, for_rest, positional, skipped_rest, skipped, named_param, named, number_of_param, offer_step}
+use Rattle.pawn_calls.specs.Filling.{Offer, Positional, Skipped, Filling, Argument, Default}
+use Rattle.pawn_calls.specs.Filling.{in_slot, nothing_filled, put, for_param, for_rest, positional}
+use Rattle.pawn_calls.specs.Filling.{skipped_rest, skipped, named_param, named, number_of_param}
+use Rattle.pawn_calls.specs.Filling.{offer_step}
 use Rattle.pawn_calls.specs.Filling as filling
 use Rattle.pawn_calls.specs.Defaults.{args_of}
-use Rattle.pawn_calls.specs.Calls.{Callee, callable, callee_rule, args_in, judged, offer_literals, call_by, call_rule}
+use Rattle.pawn_calls.specs.Calls.{Callee, callable, callee_rule, args_in, judged, offer_literals}
+use Rattle.pawn_calls.specs.Calls.{call_by, call_rule}
 use Rattle.pawn_calls.specs.Literals.{literals, literals_of_arg, literals_of_link}
 use Rattle.pawn_calls.specs.Expressions.{expr, chain, linked, offers, offer}
 use Rattle.sound_programs.specs.Objects.{Each, IsGoodObject}
-use Rattle.sound_programs.specs.Written.{IsAnyName, IsWritten, AreWrittenLinks, IsWrittenLink, AreWrittenArgs, IsWrittenArg}
+use Rattle.sound_programs.specs.Written.{IsAnyName, IsWritten, AreWrittenLinks, IsWrittenLink}
+use Rattle.sound_programs.specs.Written.{AreWrittenArgs, IsWrittenArg}
 use Rattle.sound_programs.specs.Texts.{texts, link_texts, texts_of_link, arg_texts, texts_of_arg}
 use Rattle.sound_programs.specs.Plain.{IsTag, IsPlainPath, HasTags}
 use Rattle.sound_programs.specs.PlainExpressions.{ExpressionsArePlain}
 use Rattle.sound_programs.proofs.Facts.{each_append}
-use Rattle.sound_programs.proofs.RuleValues.{Plain, one, tag_number_small, small_tag, text_plain, number_plain, name_plain, sizeof_plain, tagof_plain, between_plain, index_plain, character_plain, assign_plain, prefix_plain, postfix_plain, choice_plain, chain_plain}
+use Rattle.sound_programs.proofs.RuleValues.{Plain, one, tag_number_small, small_tag, text_plain}
+use Rattle.sound_programs.proofs.RuleValues.{number_plain, name_plain, sizeof_plain, tagof_plain}
+use Rattle.sound_programs.proofs.RuleValues.{between_plain, index_plain, character_plain}
+use Rattle.sound_programs.proofs.RuleValues.{assign_plain, prefix_plain, postfix_plain}
+use Rattle.sound_programs.proofs.RuleValues.{choice_plain, chain_plain}
 
 -- ---- calls
 
@@ -189,7 +201,8 @@ joined xs ys ms ns p q = ap₂ (λ (l m : List StaticObject). l ++ m) p q
 
 -- ---- all expressions
 
-module _ (Calls : List ℕ → Type 0) (cx : Around) (tags : HasTags cx) (path : Scope) (known : IsPlainPath path) where
+module _ (Calls : List ℕ → Type 0) (cx : Around) (tags : HasTags cx) (path : Scope)
+    (known : IsPlainPath path) where
   mutual
     pub expr_plain : (before : ℕ) (e : tree.Expr) → IsWritten Calls e
         → Holds (Plain (texts e)) (expr cx path before e)

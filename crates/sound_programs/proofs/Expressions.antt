@@ -1,5 +1,6 @@
 -- Expressions in statements: plain, and valid where their literals sit among the objects.
-use Rattle.std.proofs.Common.{◌≡◌, ◌+◌, ℕ, List, ◌++◌, Bool, true, false, Option, None, Some, refl, ap, subst, arith}
+use Rattle.std.proofs.Common.{◌≡◌, ◌+◌, ℕ, List, ◌++◌, Bool, true, false, Option, None, Some, refl}
+use Rattle.std.proofs.Common.{ap, subst, arith}
 use Rattle.std.specs.Prelude.{if◌then◌else◌, length}
 use Rattle.std.specs.List.{list_any}
 use Rattle.std.proofs.lemmas.List.{length-append}
@@ -17,12 +18,15 @@ use Rattle.pawn_typing.specs.Around.{Around, first_tag}
 use Rattle.pawn_typing.specs.Scope.{Scope}
 use Rattle.pawn_typing.specs.Tests.{converter, converter_to, sent_by, sent}
 use Rattle.pawn_typing.proofs.VerdictLaws.{Holds, stands_itself, breaks_holds}
-use Rattle.pawn_calls.specs.Literals.{literals, link_literals, literals_of_link, arg_literals, literals_of_arg}
+use Rattle.pawn_calls.specs.Literals.{literals, link_literals, literals_of_link, arg_literals}
+use Rattle.pawn_calls.specs.Literals.{literals_of_arg}
 use Rattle.pawn_calls.specs.Expressions.{expr}
 use Rattle.pawn_sound.specs.Known.{KnowsAround}
-use Rattle.pawn_sound.specs.Placed.{IsPlaced, ArePlacedLinks, IsPlacedLink, ArePlacedArgs, IsPlacedArg}
+use Rattle.pawn_sound.specs.Placed.{IsPlaced, ArePlacedLinks, IsPlacedLink, ArePlacedArgs}
+use Rattle.pawn_sound.specs.Placed.{IsPlacedArg}
 use Rattle.pawn_sound.specs.ValidExpressions.{IsValidForm, ExpressionsAreValid}
-use Rattle.sound_programs.specs.Written.{IsWritten, AreWrittenLinks, IsWrittenLink, AreWrittenArgs, IsWrittenArg}
+use Rattle.sound_programs.specs.Written.{IsWritten, AreWrittenLinks, IsWrittenLink, AreWrittenArgs}
+use Rattle.sound_programs.specs.Written.{IsWrittenArg}
 use Rattle.sound_programs.specs.Texts.{texts, link_texts, texts_of_link, arg_texts, texts_of_arg}
 use Rattle.sound_programs.specs.Plain.{HasTags}
 use Rattle.sound_programs.proofs.RuleValues.{Plain}
@@ -49,7 +53,8 @@ mutual
   texts_count (tree.Prefix at sign e) = texts_count e
   texts_count (tree.Tagged at tag e) = texts_count e
   texts_count (tree.Postfix at sign e) = texts_count e
-  texts_count (tree.Index at a i) = two_count (texts a) (texts i) _ _ (texts_count a) (texts_count i)
+  texts_count (tree.Index at a i) =
+      two_count (texts a) (texts i) _ _ (texts_count a) (texts_count i)
   texts_count (tree.Character at a i) =
       two_count (texts a) (texts i) _ _ (texts_count a) (texts_count i)
   texts_count (tree.Binary at sign l r) =
@@ -83,7 +88,8 @@ mutual
 
 -- ---- where the texts sit among the objects, an expression is placed
 
-module _ (scope : program.Scope) (cx : Around) (Calls : List ℕ → Type 0) (path : Scope) (seen : IsSeenPath scope cx Calls path) where
+module _ (scope : program.Scope) (cx : Around) (Calls : List ℕ → Type 0) (path : Scope)
+    (seen : IsSeenPath scope cx Calls path) where
   abbrev Fits : ℕ → List StaticObject → Type 0
   Fits before ls = Sits scope.program.objects before ls
 
@@ -132,7 +138,8 @@ module _ (scope : program.Scope) (cx : Around) (Calls : List ℕ → Type 0) (pa
     placed before (tree.Choice at c a b) w h =
         let behind = right before (texts c) (texts a ++ texts b) _ (texts_count c) h in (
           placed before c w.0 (left before (texts c) (texts a ++ texts b) h),
-          placed (before + literals c) a w.1 (left (before + literals c) (texts a) (texts b) behind),
+          placed (before + literals c) a w.1
+              (left (before + literals c) (texts a) (texts b) behind),
           placed (before + (literals c + literals a)) b w.2
               (sits_at scope.program.objects (before + literals c + literals a)
               (before + (literals c + literals a)) (texts b) (omega arith)
@@ -176,17 +183,20 @@ module _ (scope : program.Scope) (cx : Around) (Calls : List ℕ → Type 0) (pa
 
 -- ---- what an expression that stands is
 
-pub record Fine (scope : program.Scope) (before : ℕ) (ls : List StaticObject) (x : Typed) : Type 0 where
+pub record Fine (scope : program.Scope) (before : ℕ) (ls : List StaticObject)
+    (x : Typed) : Type 0 where
   pub plain : Plain ls x
   pub valid : Sits scope.program.objects before x.literals → IsValidForm scope x.form
 
-module _ (law : ExpressionsAreValid) (scope : program.Scope) (cx : Around) (Calls : List ℕ → Type 0) (known : KnowsAround scope.program cx) (tags : HasTags cx) where
+module _ (law : ExpressionsAreValid) (scope : program.Scope) (cx : Around) (Calls : List ℕ → Type 0)
+    (known : KnowsAround scope.program cx) (tags : HasTags cx) where
   pub expr_fine : (path : Scope) → IsSeenPath scope cx Calls path → (before : ℕ) (e : tree.Expr)
       → IsWritten Calls e → Holds (Fine scope before (texts e)) (expr cx path before e)
   expr_fine path seen before e w = record {
     of = λ x stands.
         let p : Plain (texts e) x =
-        (expr_plain Calls cx tags path (plain_path cx Calls scope path seen) before e w).of x stands in
+        (expr_plain Calls cx tags path (plain_path cx Calls scope path seen) before e w).of x
+        stands in
         record {
           plain = p;
           valid = λ fits.
@@ -208,7 +218,9 @@ module _ (law : ExpressionsAreValid) (scope : program.Scope) (cx : Around) (Call
   converts : (formal : List ℕ) (actual f : ℕ) → converter_to cx formal actual ≡ Some f
       → IsOperator scope 1 f
   converts formal actual f e =
-      let to = unless_some (list_any (nat_eq actual) formal) (converter cx actual (first_tag formal)) f e in
+      let to =
+      unless_some (list_any (nat_eq actual) formal)
+      (converter cx actual (first_tag formal)) f e in
       known.operators op.Assign actual (first_tag formal) f
       (unless_some (nat_eq actual (first_tag formal))
       (function_of cx.operators op.Assign actual (first_tag formal)) f to)

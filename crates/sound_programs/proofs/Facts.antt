@@ -1,5 +1,6 @@
 -- Facts of cells, tags, lists and objects.
-use Rattle.std.proofs.Common.{◌≡◌, ◌^◌, ◌<◌, ◌%◌, ℕ, zero, suc, ℤ, pos, negsuc, List, [], ◌∷◌, ◌++◌, Bool, true, false, Option, None, Some, refl, subst, cond, arith}
+use Rattle.std.proofs.Common.{◌≡◌, ◌^◌, ◌<◌, ◌%◌, ℕ, zero, suc, ℤ, pos, negsuc, List, [], ◌∷◌, ◌++◌}
+use Rattle.std.proofs.Common.{Bool, true, false, Option, None, Some, refl, subst, cond, arith}
 use Rattle.std.specs.Prelude.{if◌then◌else◌, length, replicate, option_map, position, nat_lt}
 use Rattle.std.specs.List.{position_or_len, All}
 use Rattle.std.proofs.lemmas.List.Elements.{All-nil, All-cons, All-head, All-tail}

@@ -1,5 +1,6 @@
 -- What belongs to a function has the parameters of its first head, where its heads are equal.
-use Rattle.std.proofs.Common.{◌≡◌, ℕ, List, [], ◌∷◌, ◌++◌, Bool, true, false, Option, None, Some, refl, sym, ap, ◌∙◌, subst, cond}
+use Rattle.std.proofs.Common.{◌≡◌, ℕ, List, [], ◌∷◌, ◌++◌, Bool, true, false, Option, None, Some}
+use Rattle.std.proofs.Common.{refl, sym, ap, ◌∙◌, subst, cond}
 use Rattle.std.specs.Prelude.{map, filter, find, flat_map, not}
 use Rattle.pawn_tree.specs.declared.name.At.{At}
 use Rattle.pawn_typing.specs.Around.{Head}
@@ -29,7 +30,8 @@ flat_none p f (x ∷ xs) e = flat_by p f x xs (p x) refl e (flat_none p f xs)
 pub some_same : {A : Type 0} {x y : A} → Some x ≡ Some y → x ≡ y
 some_same e = cc
 
-find_by : {A : Type 0} (p : A → Bool) (P : A → Type 0) (x : A) (more : List A) (found : A) (b : Bool)
+find_by : {A : Type 0} (p : A → Bool) (P : A → Type 0) (x : A) (more : List A) (found : A)
+    (b : Bool)
     → p x ≡ b → P x → cond b (Some x) (find p more) ≡ Some found
     → (find p more ≡ Some found → P found × (p found ≡ true)) → P found × (p found ≡ true)
 find_by p P x more found true s h e k =
@@ -53,7 +55,8 @@ not_false false e = absurd (let no : ⊥ = cc in no)
 
 module _ (source : Source) where
   differs_by : (x y : Stated) (a b : Option Head) (head other : Head) → a ≡ Some head
-      → b ≡ Some other → differs source x a y b ≡ false → map slot_of head.params ≡ map slot_of other.params
+      → b ≡ Some other → differs source x a y b ≡ false
+      → map slot_of head.params ≡ map slot_of other.params
   differs_by x y None b head other e f d = absurd (let no : ⊥ = cc in no)
   differs_by x y (Some h) None head other e f d = absurd (let no : ⊥ = cc in no)
   differs_by x y (Some h) (Some o) head other e f d =
@@ -68,7 +71,8 @@ module _ (source : Source) where
   HasSlots head st = (other : Head) → st.head ≡ Some other
       → map slot_of other.params ≡ map slot_of head.params
 
-  same_as : (p : Stated → Bool) (x : Stated) (head : Head) → x.head ≡ Some head → (all : List Stated)
+  same_as : (p : Stated → Bool) (x : Stated) (head : Head) → x.head ≡ Some head
+      → (all : List Stated)
       → Each (λ y. p y ≡ true → differing source x y ≡ []) all
       → Each (λ y. p y ≡ true → HasSlots head y) all
   same_as p x head e [] h = tt

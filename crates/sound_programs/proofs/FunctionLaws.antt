@@ -1,32 +1,32 @@
 -- The bodies of a function have the parameters of the head that its calls see.
-use Rattle.std.proofs.Common.{◌≡◌, ◌⊎◌, inl, inr, ◌+◌, ◌<◌, ℕ, zero, suc, ℤ, List, [], ◌∷◌, ◌++◌, Bool, true, false, Option, None, Some, refl, sym, ap, ◌∙◌, subst, cond, arith}
+use Rattle.std.proofs.Common.{◌≡◌, ◌⊎◌, inl, inr, ◌+◌, ◌<◌, ℕ, zero, suc, ℤ, List, [], ◌∷◌, ◌++◌}
+use Rattle.std.proofs.Common.{Bool, true, false, Option, None, Some, refl, sym, ap, ◌∙◌, subst}
+use Rattle.std.proofs.Common.{cond, arith}
 use Rattle.std.specs.Prelude.{length, map, slice_get, unwrap_or, nat_eq}
 use Rattle.std.specs.Option.{option_and_then}
 use Rattle.std.proofs.lemmas.Bool.{eqb-true, eq-eqb}
 use Rattle.std.proofs.lemmas.List.Quantifiers.{position-Some}
 use Rattle.std.proofs.lemmas.Option.{get_or_from_slice_get, slice_get_within}
 use Rattle.pawn_tree.specs.declared.name.At.{At}
-use Rattle.pawn_tree.specs.declared.variable.Storage.TheVariants as storage
-use Rattle.pawn_tree.specs.declared.name.Name as n
-use Rattle.pawn_tree.specs.Variables.{Var}
-use Rattle.pawn_tree.specs.Statements.{ConstantOf}
-use Rattle.pawn_values.specs.Constants as constants
-use Rattle.pawn_typed.specs.Enums.{enum_rule}
-use Rattle.pawn_tree.specs.Declarations as tree
-use Rattle.pawn_tree.specs.Declarations.{Decl, Variables, Constant, Enum, Native, Forward, Function, Tree, FunctionOf}
+use Rattle.pawn_tree.specs.Declarations.{Variables, Constant, Enum, Native, Forward, Function, Tree}
+use Rattle.pawn_tree.specs.Declarations.{FunctionOf}
 use Rattle.pawn_scopes.specs.Verdict.{Verdict, Stands, Breaks}
 use Rattle.pawn_scopes.specs.Mark.{Mark}
 use Rattle.pawn_typing.specs.Around.{Around, Callable, Head}
-use Rattle.pawn_typing.proofs.VerdictLaws.{Holds, stands_itself, breaks_holds, holds_after, holds_both, holds_all, holds_also, holds_unless}
-use Rattle.pawn_bodies.specs.Points.{Point, tag_of, behind_var}
-use Rattle.pawn_heads.specs.Params.{Headed, head_parts, head_rule, head_of}
-use Rattle.pawn_automata.specs.Keys.{Key, Named, Operates, Enters, Misshapen, same_key}
+use Rattle.pawn_typing.proofs.VerdictLaws.{Holds, stands_itself, breaks_holds, holds_after}
+use Rattle.pawn_typing.proofs.VerdictLaws.{holds_both, holds_all, holds_also, holds_unless}
+use Rattle.pawn_bodies.specs.Points.{Point}
+use Rattle.pawn_heads.specs.Params.{Headed, head_rule, head_of}
+use Rattle.pawn_automata.specs.Keys.{Key, same_key}
 use Rattle.pawn_automata.specs.Groups.{Group, written, number_of}
 use Rattle.pawn_typed.specs.Headings.{Role, IsBody, headings, heading_key, is_of, belongs}
 use Rattle.pawn_typed.specs.Paths.{behind_decl, heads}
-use Rattle.pawn_typed.specs.Sources.{Source, Stated, source_of, stated, first_head, group_head, group_tag, functions_from, all_stated, around_of, beginning}
-use Rattle.pawn_typed.specs.Functions.{head_faults, heads_of_group, group_faults, classifier_faults, param_faults}
-use Rattle.pawn_typed.specs.Declarations.{Bodied, Done, nothing_done, shaped_key, native_name, function_key, function_with, function_rule, bare_head, globals, constant_rule, decl_rule, declarations}
+use Rattle.pawn_typed.specs.Sources.{Source, Stated, source_of, stated, first_head, group_head}
+use Rattle.pawn_typed.specs.Sources.{group_tag, functions_from, all_stated, around_of, beginning}
+use Rattle.pawn_typed.specs.Functions.{head_faults, heads_of_group, group_faults, classifier_faults}
+use Rattle.pawn_typed.specs.Functions.{param_faults}
+use Rattle.pawn_typed.specs.Declarations.{Bodied, Done, nothing_done, shaped_key, native_name}
+use Rattle.pawn_typed.specs.Declarations.{function_key, function_with, function_rule, declarations}
 use Rattle.pawn_typed.specs.Programs as programs
 use Rattle.pawn_typed.specs.Programs.{bodies_of, params_of, function_of, program_of}
 use Rattle.pawn_sound.specs.Known.{slot_of}
@@ -34,12 +34,17 @@ use Rattle.sound_programs.specs.Objects.{Each}
 use Rattle.sound_programs.specs.Written.{IsAnyName}
 use Rattle.sound_programs.proofs.Facts.{if_holds}
 use Rattle.sound_programs.proofs.ArrayValues.{each_at}
+use Rattle.sound_programs.proofs.BareLaws.{globals_bare, bare_bare, constant_bare, enum_bare}
+use Rattle.sound_programs.proofs.BareLaws.{shaped_is}
 use Rattle.sound_programs.specs.WrittenDeclarations.{IsOwnHead, IsWrittenTree}
 use Rattle.sound_programs.specs.SameHeads.{HeadsAreSame}
-use Rattle.sound_programs.specs.HeadedFunctions.{KeepTogether, HaveParams, IsHeadedBy, FunctionsAreHeaded}
-use Rattle.sound_programs.proofs.GroupLaws.{IsShaped, AreShaped, IsHit, HavePlaces, Numbers, place, number_is, keys_of, all_numbers}
+use Rattle.sound_programs.specs.HeadedFunctions.{KeepTogether, HaveParams, IsHeadedBy}
+use Rattle.sound_programs.specs.HeadedFunctions.{FunctionsAreHeaded}
+use Rattle.sound_programs.proofs.GroupLaws.{IsShaped, AreShaped, IsHit, HavePlaces, Numbers, place}
+use Rattle.sound_programs.proofs.GroupLaws.{number_is, keys_of, all_numbers}
 use Rattle.sound_programs.proofs.SlotLaws.{OwnHead, params_own}
-use Rattle.sound_programs.proofs.FirstHeads.{append_none, some_same, find_each, HasSlots, slots_same}
+use Rattle.sound_programs.proofs.FirstHeads.{append_none, some_same, find_each, HasSlots}
+use Rattle.sound_programs.proofs.FirstHeads.{slots_same}
 
 own_rest : (w : Verdict Headed) → Holds OwnHead w → (h : Head) → head_of w ≡ Some h
     → h.rest ≡ None
@@ -64,7 +69,8 @@ module _ (source : Source) where
 
   -- no function has a head with `...`
   record HasNoRest (st : Stated) : Type 0 where
-    pub none : (key : Key) → belongs source.tags source.fallback key st.heading ≡ true → (head : Head)
+    pub none : (key : Key) → belongs source.tags source.fallback key st.heading ≡ true
+        → (head : Head)
         → st.head ≡ Some head → head.rest ≡ None
 
   -- headings with the bodies and the keys of bodies
@@ -76,44 +82,7 @@ module _ (source : Source) where
     fit_other : {st : Stated} {more : List Stated} {rest : List Bodied} {keys : List Key}
         → HasNoRest st → BodiesFit more rest keys → BodiesFit (st ∷ more) rest keys
 
-  record IsBare (d : Done) : Type 0 where
-    pub bodies : d.bodies ≡ []
-
   module _ (cx : Around) where
-    globals_bare : (point : Point) (at : At) (constant : Bool) (vars : List Var)
-        → Holds IsBare (globals source cx point at constant vars)
-    unfolding globals
-    globals_bare point at constant [] = stands_itself _ nothing_done (record { bodies = refl })
-    globals_bare point at constant (x ∷ xs) =
-        holds_both (holds_all _)
-        (globals_bare (behind_var cx point at storage.Static constant x) at constant xs)
-        (λ y more t q. stands_itself _ _ (record { bodies = q.bodies }))
-
-    bare_bare : (point : Point) (at : At) (head : tree.Head)
-        → Holds IsBare (bare_head source cx point at head)
-    bare_bare point at head =
-        holds_unless (head_parts cx at point.scope head)
-        (holds_after (holds_all (head_rule cx at point.scope head))
-        (λ x t. stands_itself _ _ (record { bodies = refl })))
-
-    constant_bare : (point : Point) (at : At) (of : ConstantOf)
-        → Holds IsBare (constant_rule source cx point at of)
-    constant_bare point at of =
-        holds_after (holds_all (constants.constant cx point.scope at of.value))
-        (λ c t. stands_itself _ _ (record { bodies = refl }))
-
-    enum_bare : (point : Point) (at : At) (name : Option n.Name) (items : List tree.Item)
-        → Holds IsBare (decl_rule source cx point (Enum at name items))
-    enum_bare point at name items =
-        holds_after (holds_all (enum_rule cx point.scope at (tag_of cx name) items))
-        (λ c t. stands_itself _ _ (record { bodies = refl }))
-
-    shaped_is : (at : At) (key : Key) → Holds (λ k. IsShaped key) (shaped_key at key)
-    shaped_is at (Named name) = stands_itself _ _ tt
-    shaped_is at (Operates it) = stands_itself _ _ tt
-    shaped_is at (Enters name) = stands_itself _ _ tt
-    shaped_is at Misshapen = breaks_holds _ _
-
     abbrev stated_body : Point → At → FunctionOf → Stated
     stated_body point at of = record {
       heading = record {
@@ -136,10 +105,14 @@ module _ (source : Source) where
       pub own : head.rest ≡ None
 
     function_one : (point : Point) (at : At) (of : FunctionOf) → IsOwnHead of.head
-        → Holds (OneBody point at of) (function_with source cx point at of (function_key source cx of))
+        → Holds (OneBody point at of) (function_with source cx point at of
+        (function_key source cx of))
     function_one point at of w =
-        holds_unless _ (holds_both {P = λ h. (head_rule cx at point.scope of.head ≡ Stands h) × OwnHead h}
-        (record { of = λ h e. (e, (params_own cx at ([] ∷ point.scope) 0 of.head.params w).of h e) })
+        holds_unless _ (holds_both {P = λ h. (head_rule cx at point.scope of.head ≡ Stands h)
+        × OwnHead h}
+        (record {
+          of = λ h e. (e, (params_own cx at ([] ∷ point.scope) 0 of.head.params w).of h e);
+        })
         (holds_all _) (λ h x p t.
         if_holds _ (stands_itself _ _ (record {
           body = _;
@@ -188,25 +161,25 @@ module _ (source : Source) where
     unfolding declarations heads
     bodies_fit point [] w = stands_itself _ nothing_done fit_none
     bodies_fit point (Variables at of ∷ more) w =
-        holds_both (holds_unless _ (globals_bare point at of.constant of.vars))
+        holds_both (holds_unless _ (globals_bare source cx point at of.constant of.vars))
         (bodies_fit (behind_decl cx point (Variables at of)) more w.1)
         (λ x y p q. stands_itself _ _ (joined _ x.bodies y.bodies _ p.bodies q))
     bodies_fit point (Constant at of ∷ more) w =
-        holds_both (constant_bare point at of)
+        holds_both (constant_bare source cx point at of)
         (bodies_fit (behind_decl cx point (Constant at of)) more w.1)
         (λ x y p q. stands_itself _ _ (joined _ x.bodies y.bodies _ p.bodies q))
     bodies_fit point (Enum at name items ∷ more) w =
-        holds_both (enum_bare point at name items)
+        holds_both (enum_bare source cx point at name items)
         (bodies_fit (behind_decl cx point (Enum at name items)) more w.1)
         (λ x y p q. stands_itself _ _ (joined _ x.bodies y.bodies _ p.bodies q))
     bodies_fit point (Native at head ∷ more) w =
-        holds_both (holds_also (native_name at head.name) (bare_bare point at head))
+        holds_both (holds_also (native_name at head.name) (bare_bare source cx point at head))
         (bodies_fit (behind_decl cx point (Native at head)) more w.1)
         (λ x y p q. stands_itself _ _ (fit_other
         (record { none = λ key no h e. absurd (let never : ⊥ = cc in never) })
         (joined _ x.bodies y.bodies _ p.bodies q)))
     bodies_fit point (Forward at is_public head ∷ more) w =
-        holds_both (holds_also (shaped_key at _) (bare_bare point at head))
+        holds_both (holds_also (shaped_key at _) (bare_bare source cx point at head))
         (bodies_fit (behind_decl cx point (Forward at is_public head)) more w.1)
         (λ x y p q. stands_itself _ _ (fit_other
         (record {
@@ -233,7 +206,8 @@ module _ (source : Source) where
       → same_key key (key_at source st) ≡ true
       → belongs source.tags source.fallback key st.heading ≡ true
   belongs_to key st role same =
-      subst (λ (r : Role). is_of source.tags source.fallback key st.heading r ≡ true) (sym role) same
+      subst (λ (r : Role). is_of source.tags source.fallback key st.heading r ≡ true)
+      (sym role) same
 
   placed : (key : Key) (f : ℕ) (group : Group) → slice_get source.groups f ≡ Some group
       → place source.groups key < length source.groups → place source.groups key ≡ f
@@ -251,13 +225,15 @@ module _ (source : Source) where
   bodies_have : (f : ℕ) (group : Group) (head : Head) → slice_get source.groups f ≡ Some group
       → (sts : List Stated) (bodies : List Bodied) (keys : List Key)
       → BodiesFit source sts bodies keys
-      → Each (λ y. belongs source.tags source.fallback group.key y.heading ≡ true → HasSlots source head y) sts
+      → Each (λ y. belongs source.tags source.fallback group.key y.heading ≡ true
+      → HasSlots source head y) sts
       → HavePlaces source.groups keys → HaveParams bodies f head
   bodies_have f group head there _ _ _ fit_none same places = tt
   bodies_have f group head there _ _ _ (fit_body {st = st} {b = b} p more) same places = (
     λ t. p.params ∙ same.0 (belongs_to group.key st p.role
         (placed (key_at source st) f group there places.0
-        (sym (number_place (key_at source st) places.0) ∙ sym p.number ∙ eqb-true b.number f t))) p.head
+        (sym (number_place (key_at source st) places.0) ∙ sym p.number ∙ eqb-true b.number f t)))
+        p.head
         p.there,
     bodies_have f group head there _ _ _ more same.1 places.1,
   )
@@ -293,7 +269,8 @@ module _ (source : Source) where
 
   -- ---- functions by number
 
-  record FunctionAt (all : List Stated) (groups : List Group) (number f : ℕ) (it : Callable) : Type 0 where
+  record FunctionAt (all : List Stated) (groups : List Group) (number f : ℕ)
+      (it : Callable) : Type 0 where
     pub group : Group
     pub there : slice_get groups f ≡ Some group
     pub number_is : it.number ≡ number + f
@@ -305,7 +282,11 @@ module _ (source : Source) where
   unfolding functions_from
   function_at number all [] f it e = absurd (let no : ⊥ = cc in no)
   function_at number all (group ∷ more) zero it e =
-      let same : record { number = number; tag = group_tag source all group; head = group_head source all group } ≡ it = cc in
+      let same : record {
+        number = number;
+        tag = group_tag source all group;
+        head = group_head source all group;
+      } ≡ it = cc in
       record {
         group = group;
         there = refl;
@@ -327,18 +308,22 @@ module _ (source : Source) where
   program_at : (all : List Stated) (number : ℕ) (groups : List Group) (bodies : List Bodied) (f : ℕ)
       (group : Group) → slice_get groups f ≡ Some group
       → slice_get (programs.functions_from source all number groups bodies) f
-      ≡ Some (function_of source.automata (group_tag source all group) group (bodies_of bodies (number + f)))
+      ≡ Some (function_of source.automata (group_tag source all group) group
+      (bodies_of bodies (number + f)))
   unfolding programs.functions_from
   program_at all number [] bodies f group e = absurd (let no : ⊥ = cc in no)
   program_at all number (x ∷ more) bodies zero group e =
       let same : x ≡ group = cc in
       let plus : number ≡ number + 0 = omega arith in
-      ap (λ (g : Group). Some (function_of source.automata (group_tag source all g) g (bodies_of bodies number))) same
-      ∙ ap (λ (n : ℕ). Some (function_of source.automata (group_tag source all group) group (bodies_of bodies n))) plus
+      ap (λ (g : Group). Some (function_of source.automata (group_tag source all g) g
+      (bodies_of bodies number))) same
+      ∙ ap (λ (n : ℕ). Some (function_of source.automata (group_tag source all group) group
+      (bodies_of bodies n))) plus
   program_at all number (x ∷ more) bodies (suc f) group e =
       let plus : number + 1 + f ≡ number + suc f = omega arith in
       program_at all (number + 1) more bodies f group e
-      ∙ ap (λ (n : ℕ). Some (function_of source.automata (group_tag source all group) group (bodies_of bodies n))) plus
+      ∙ ap (λ (n : ℕ). Some (function_of source.automata (group_tag source all group) group
+      (bodies_of bodies n))) plus
 
   all_no_rest : (sts : List Stated) (bodies : List Bodied) (keys : List Key)
       → BodiesFit source sts bodies keys → Each (λ (st : Stated). HasNoRest source st) sts
@@ -375,13 +360,21 @@ module _ (source : Source) where
       let at_head = head_found all r.group.key head (first_head source all r.group.key) refl
       (sym r.head_is ∙ h) in
       let none = append_none (classifier_faults r.group) _
-      (each_at (λ (group : Group). group_faults source all group ≡ []) source.groups f r.group together
+      (each_at (λ (group : Group). group_faults source all group ≡ []) source.groups f r.group
+      together
       r.there) in
-      let heads_none = append_none (param_faults r.group) (head_faults source (heads_of_group source all r.group)) none.1 in
-      let same = slots_same source (λ (st : Stated). belongs source.tags source.fallback r.group.key st.heading)
+      let heads_none =
+      append_none (param_faults r.group)
+      (head_faults source (heads_of_group source all r.group)) none.1 in
+      let same =
+      slots_same source (λ (st : Stated). belongs source.tags source.fallback r.group.key
+      st.heading)
       all at_head.stated_there head at_head.found at_head.has heads_none.1 in
-      let first_is = find_each (λ (st : Stated). belongs source.tags source.fallback r.group.key st.heading)
-      (λ (st : Stated). HasNoRest source st) all at_head.stated_there (all_no_rest all done.bodies keys fit)
+      let first_is =
+      find_each (λ (st : Stated). belongs source.tags source.fallback r.group.key
+      st.heading)
+      (λ (st : Stated). HasNoRest source st) all at_head.stated_there
+      (all_no_rest all done.bodies keys fit)
       at_head.found in
       let have = bodies_have f r.group head r.there all done.bodies keys fit same numbers.places in
       record {
@@ -392,10 +385,12 @@ module _ (source : Source) where
                 (bodies_of done.bodies f);
             there = subst (λ (n : ℕ).
                 slice_get (programs.functions_from source all 0 source.groups done.bodies) n
-                ≡ Some (function_of source.automata (group_tag source all r.group) r.group (bodies_of done.bodies f)))
+                ≡ Some (function_of source.automata (group_tag source all r.group) r.group
+                (bodies_of done.bodies f)))
                 (sym number)
                 (program_at all 0 source.groups done.bodies f r.group r.there
-                ∙ ap (λ (n : ℕ). Some (function_of source.automata (group_tag source all r.group) r.group
+                ∙ ap (λ (n : ℕ). Some (function_of source.automata
+                (group_tag source all r.group) r.group
                 (bodies_of done.bodies n))) (nothing_plus f));
             params_are = first_params f head all done.bodies keys fit numbers.places
                 (numbers.hit f (slice_get_within source.groups f r.group r.there)) have;
@@ -415,6 +410,8 @@ functions_headed law tree done marks dynamic w e together f it head there h =
     let same = law source all (stated source source.headings []) (beginning source) tree done e in
     let fit = (bodies_fit source (around_of source tree) (beginning source) tree w).of done e in
     headed source all marks dynamic done (keys_of source.tags source.fallback (written tree))
-    (subst (λ (hs : List (Option Head)). BodiesFit source (stated source source.headings hs) done.bodies
+    (subst (λ (hs : List (Option Head)). BodiesFit source
+    (stated source source.headings hs) done.bodies
     (keys_of source.tags source.fallback (written tree))) (sym same.same) fit)
-    (all_numbers source.tags source.fallback (written tree) (fit_shaped source _ _ _ fit)) together f it head there h
+    (all_numbers source.tags source.fallback (written tree) (fit_shaped source _ _ _ fit)) together
+    f it head there h

@@ -1,5 +1,6 @@
 -- Each body has the number of a function, and each function has a body.
-use Rattle.std.proofs.Common.{◌≡◌, ◌⊎◌, inl, inr, ◌+◌, ◌<◌, ◌≤◌, ℕ, zero, suc, List, [], ◌∷◌, ◌++◌, Bool, true, false, None, Some, refl, sym, ap, ◌∙◌, subst, cond, arith}
+use Rattle.std.proofs.Common.{◌≡◌, ◌⊎◌, inl, inr, ◌+◌, ◌<◌, ◌≤◌, ℕ, zero, suc, List, [], ◌∷◌, ◌++◌}
+use Rattle.std.proofs.Common.{Bool, true, false, None, Some, refl, sym, ap, ◌∙◌, subst, cond, arith}
 use Rattle.std.specs.Prelude.{if◌then◌else◌, length, map, nat_lt, not, ◌&&◌}
 use Rattle.std.specs.List.{position_or_len}
 use Rattle.std.proofs.lemmas.Bool.{eq-eqb, lt-ltb}
@@ -216,7 +217,8 @@ module _ (names : List (List ℕ)) (fallback : List ℕ) where
   numbers_from_groups groups keys [] h n =
       subst (λ l. Numbers groups l) (sym (append-nil keys)) n
   numbers_from_groups groups keys (it ∷ more) h n =
-      subst (λ l. Numbers (grouped names fallback (with_body groups (body_key names fallback it) it) more) l)
+      subst (λ l. Numbers (grouped names fallback (with_body groups (body_key names fallback it) it)
+      more) l)
       (append_assoc keys (body_key names fallback it ∷ []) (keys_of more))
       (numbers_from_groups (with_body groups (body_key names fallback it) it)
       (keys ++ body_key names fallback it ∷ []) more h.1
@@ -225,4 +227,5 @@ module _ (names : List (List ℕ)) (fallback : List ℕ) where
   pub all_numbers : (all : List Written) → AreShaped (keys_of all)
       → Numbers (grouped names fallback [] all) (keys_of all)
   all_numbers all h =
-      numbers_from_groups [] [] all h (record { places = tt; hit = λ f lt. absurd (omega (arith, lt)) })
+      numbers_from_groups [] [] all h
+      (record { places = tt; hit = λ f lt. absurd (omega (arith, lt)) })

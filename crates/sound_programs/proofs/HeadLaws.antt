@@ -1,5 +1,6 @@
 -- Parameters that stand are good slots, and a body sees what their names mean.
-use Rattle.std.proofs.Common.{◌≡◌, inl, ◌+◌, ◌<◌, ◌≤◌, ℕ, List, [], ◌∷◌, Bool, true, false, Option, None, Some, refl, sym, ap, ◌∙◌, subst, arith}
+use Rattle.std.proofs.Common.{◌≡◌, inl, ◌+◌, ◌<◌, ◌≤◌, ℕ, List, [], ◌∷◌, Bool, true, false, Option}
+use Rattle.std.proofs.Common.{None, Some, refl, sym, ap, ◌∙◌, subst, arith}
 use Rattle.std.specs.Prelude.{length, slice_get, is_some}
 use Rattle.std.proofs.lemmas.List.{length-append}
 use Rattle.pawn_tree.specs.declared.name.At.{At}
@@ -13,11 +14,15 @@ use Rattle.pawn_program.specs.Scope as program
 use Rattle.pawn_scopes.specs.Verdict.{Verdict, Stands}
 use Rattle.pawn_typing.specs.Around.{Around, first_tag}
 use Rattle.pawn_typing.specs.Scope.{Scope, with_entries}
-use Rattle.pawn_typing.proofs.VerdictLaws.{Holds, stands_itself, holds_after, holds_both, holds_all, holds_also}
+use Rattle.pawn_typing.proofs.VerdictLaws.{Holds, stands_itself, holds_after, holds_both, holds_all}
+use Rattle.pawn_typing.proofs.VerdictLaws.{holds_also}
 use Rattle.pawn_values.specs.Sizes.{Dimensions}
 use Rattle.pawn_bodies.specs.Locals.{fresh_name}
 use Rattle.pawn_heads.specs.ParamDefaults.{default_rule}
-use Rattle.pawn_heads.specs.Params.{Headed, Reach, no_params, tag_numbers, reach_by, reach, array_slot, cell_slot, array_param_means, cell_param_means, param_entries, behind_params, no_default, no_reference, param_of, param_rule, headed_behind, params}
+use Rattle.pawn_heads.specs.Params.{Headed, Reach, no_params, tag_numbers, reach_by, reach}
+use Rattle.pawn_heads.specs.Params.{array_slot, cell_slot, array_param_means, cell_param_means}
+use Rattle.pawn_heads.specs.Params.{param_entries, behind_params, no_default, no_reference}
+use Rattle.pawn_heads.specs.Params.{param_of, param_rule, headed_behind, params}
 use Rattle.pawn_typed.specs.Declarations.{param_count}
 use Rattle.pawn_sound.specs.Meant.{AreCells}
 use Rattle.sound_programs.specs.Objects.{Each}
@@ -25,7 +30,8 @@ use Rattle.sound_programs.specs.Written.{IsWrittenDim}
 use Rattle.sound_programs.specs.Plain.{IsTag, IsPlainPath, HasTags}
 use Rattle.sound_programs.proofs.Facts.{each_append, each_all}
 use Rattle.sound_programs.proofs.RuleValues.{tag_number_small}
-use Rattle.sound_programs.proofs.ArrayValues.{IsSize, GoodDimensions, GoodShape, each_at, shape_good, dimensions_good, within_most}
+use Rattle.sound_programs.proofs.ArrayValues.{IsSize, GoodDimensions, GoodShape, each_at}
+use Rattle.sound_programs.proofs.ArrayValues.{shape_good, dimensions_good, within_most}
 use Rattle.sound_programs.specs.Sits.{Sits}
 use Rattle.sound_programs.specs.Seen.{IsSeen, IsSeenPath}
 use Rattle.sound_programs.specs.ValidStatements.{IsGoodSlot}
@@ -92,18 +98,19 @@ module _ (cx : Around) (tags : HasTags cx) (Calls : List ℕ → Type 0) (at : A
 
   pub record AreParams (path : Scope) (i : ℕ) (all : List tree.Param) (to : Scope) (h : Headed)
       : Type 0 where
-    pub stand : (scope : program.Scope) → IsSeenPath scope cx Calls path → Sits scope.slots i h.slots
+    pub stand : (scope : program.Scope) → IsSeenPath scope cx Calls path
+        → Sits scope.slots i h.slots
         → i + length h.slots ≤ scope.params → ParamsStand scope path i all to h
 
   -- one cell
   cell_slot_good : (reference : Bool)
-      → IsGoodSlot (cell_slot cx at reference)
+      → IsGoodSlot (cell_slot reference)
   cell_slot_good true = record { valid = tt; within = tt }
   cell_slot_good false = record { valid = tt; within = tt }
 
   cell_seen : (scope : program.Scope) (i tag : ℕ) (constant reference : Bool) (name : List ℕ)
       → IsTag tag → slice_get scope.slots i
-      ≡ Some (cell_slot cx at reference) → i < scope.params
+      ≡ Some (cell_slot reference) → i < scope.params
       → IsSeen scope cx Calls name (cell_param_means i tag constant reference)
   cell_seen scope i tag constant true name t e lt = ((e, lt), t)
   cell_seen scope i tag constant false name t e lt = ((e, inl lt), t)
@@ -115,21 +122,27 @@ module _ (cx : Around) (tags : HasTags cx) (Calls : List ℕ → Type 0) (at : A
       → IsSeen scope cx Calls name (array_param_means i tag constant w)
   array_means_seen scope i tag constant name w it e p t there lt =
       subst (λ (v : Verdict Reach). IsSeen scope cx Calls name (array_param_means i tag constant v))
-      (sym e)
-      ((ap (λ (s : Option Slot). param_extent s (is_some it.extent.first)) there ∙ p.seen, lt), p.cells, t)
+      (sym e) (
+        (ap (λ (s : Option Slot). param_extent s (is_some it.extent.first)) there ∙ p.seen, lt),
+        p.cells,
+        t,
+      )
 
   -- what one parameter is, with its entry behind it
   pub record IsParam (path : Scope) (i : ℕ) (param : tree.Param) (h : Headed) : Type 0 where
-    pub stand : (scope : program.Scope) → IsSeenPath scope cx Calls path → Sits scope.slots i h.slots
+    pub stand : (scope : program.Scope) → IsSeenPath scope cx Calls path
+        → Sits scope.slots i h.slots
         → i + length h.slots ≤ scope.params
-        → ParamsStand scope path i (param ∷ []) (with_entries path (param_entries cx at path i param)) h
+        → ParamsStand scope path i (param ∷ [])
+        (with_entries path (param_entries cx at path i param)) h
 
   plain_param : (path : Scope) (i : ℕ) (name : n.Name) (constant reference : Bool)
       (names : List n.Name) (dims : List Dim) (value : Option Expr) → Each IsWrittenDim dims
       → Holds (IsParam path i (tree.Plain constant reference names name dims value))
       (param_of cx at path name constant reference (tag_numbers cx names) dims value)
   plain_param path i name constant reference names [] value w =
-      holds_after (holds_all (default_rule cx path at reference (tag_numbers cx names) value)) (λ it t.
+      holds_after (holds_all (default_rule cx path at reference (tag_numbers cx names) value))
+      (λ it t.
       stands_itself _ _ (record {
         stand = λ scope seen fits few. record {
           slots = (cell_slot_good reference, tt);
@@ -143,7 +156,13 @@ module _ (cx : Around) (tags : HasTags cx) (Calls : List ℕ → Type 0) (at : A
       holds_also (no_reference cx at reference) (holds_also (no_default cx at value)
       (holds_after {P = λ it. (reach cx path at dim dims ≡ Stands it)
       × (IsPlainPath path → GoodReach it)}
-      (record { of = λ it e. (e, λ known. (reach_good cx tags path known at dim dims w.0 w.1).of it e) })
+      (record {
+        of = λ it e. (
+          e,
+          λ known. (reach_good cx tags path known at dim dims w.0 w.1).of
+              it e,
+        );
+      })
       (λ it p. stands_itself _ _ (record {
         stand = λ scope seen fits few.
             let good : GoodReach it = p.1 (plain_path cx Calls scope path seen) in

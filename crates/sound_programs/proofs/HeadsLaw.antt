@@ -1,6 +1,7 @@
--- Sizes, constants and heads that stand are the same whatever heads calls have, and so is what stands
--- behind declarations.
-use Rattle.std.proofs.Common.{◌≡◌, inl, inr, ◌+◌, ℕ, ℤ, List, [], ◌∷◌, ◌++◌, Bool, true, false, Option, None, Some, refl, sym, ap, ap₂, ◌∙◌, subst}
+-- Sizes, constants and heads that stand are the same whatever heads calls have, and so is what
+-- stands behind declarations.
+use Rattle.std.proofs.Common.{◌≡◌, inl, inr, ◌+◌, ℕ, ℤ, List, [], ◌∷◌, ◌++◌, Bool, true, false}
+use Rattle.std.proofs.Common.{Option, None, Some, refl, sym, ap, ap₂, ◌∙◌, subst}
 use Rattle.std.specs.Prelude.{if◌then◌else◌, length, nat_le}
 use Rattle.pawn_tree.specs.declared.name.At.{At}
 use Rattle.pawn_tree.specs.declared.name.Name as n
@@ -9,7 +10,8 @@ use Rattle.pawn_tree.specs.Expressions as tree
 use Rattle.pawn_tree.specs.Expressions.{Expr}
 use Rattle.pawn_tree.specs.Variables.{Dim, Open, Cells, Chars, Init, Value, Braces, Var}
 use Rattle.pawn_tree.specs.Declarations as decl
-use Rattle.pawn_tree.specs.Declarations.{Decl, Variables, Constant, Enum, Native, Forward, Function, Tree, Item}
+use Rattle.pawn_tree.specs.Declarations.{Decl, Variables, Constant, Enum, Native, Forward, Function}
+use Rattle.pawn_tree.specs.Declarations.{Tree, Item}
 use Rattle.pawn_tags.specs.Overloads.{Overloads}
 use Rattle.pawn_program.specs.Program.{Array}
 use Rattle.pawn_scopes.specs.Verdict.{Verdict, Stands, Breaks, after}
@@ -20,24 +22,33 @@ use Rattle.pawn_typing.specs.Around.{Around, Callable, Default, Head, first_tag}
 use Rattle.pawn_typing.specs.Scope.{Scope, Meaning, Entry, with_entries}
 use Rattle.pawn_typing.specs.Names.{tagof_rule}
 use Rattle.pawn_typing.specs.Operators.{paren_rule}
-use Rattle.pawn_typing.proofs.VerdictLaws.{Holds, stands_itself, breaks_holds, holds_after, holds_both, holds_all, holds_also, holds_unless}
+use Rattle.pawn_typing.proofs.VerdictLaws.{Holds, stands_itself, breaks_holds, holds_after}
+use Rattle.pawn_typing.proofs.VerdictLaws.{holds_both, holds_all, holds_also, holds_unless}
 use Rattle.pawn_calls.specs.Expressions.{expr}
 use Rattle.pawn_values.specs.Constants as constants
 use Rattle.pawn_values.specs.Sizes.{dimension, inner, dimensions}
 use Rattle.pawn_values.specs.FirstValues.{literal_in}
 use Rattle.pawn_values.specs.Arrays.{Shaped, text_size, size_from, first_size, shaped}
-use Rattle.pawn_bodies.specs.Points.{Point, tag_of, array_place, array_means, constant_means, var_by, behind_var, behind_vars, declared, beyond}
+use Rattle.pawn_bodies.specs.Points.{Point, tag_of, array_place, array_means, constant_means}
+use Rattle.pawn_bodies.specs.Points.{var_by, behind_var, behind_vars, declared, beyond}
 use Rattle.pawn_bodies.specs.Counts.{objects_of_var, slots_of_storage}
 use Rattle.pawn_bodies.specs.Locals.{fresh_name, local_by}
 use Rattle.pawn_heads.specs.ParamDefaults.{computed, default_by, default_rule}
-use Rattle.pawn_heads.specs.Params.{Reach, Headed, tag_numbers, reach, array_param_means, param_by, param_entries, no_default, no_reference, param_of, param_rule, params, head_parts, head_rule, head_of}
-use Rattle.pawn_typed.specs.Enums.{Counted, value_of, item_value, counted_behind, behind_item, behind_items, item_rule, items_rule, items_parts, nothing_counted, named, behind_enum, enum_rule}
+use Rattle.pawn_heads.specs.Params.{Reach, Headed, tag_numbers, reach, array_param_means, param_by}
+use Rattle.pawn_heads.specs.Params.{param_entries, no_default, no_reference, param_of, param_rule}
+use Rattle.pawn_heads.specs.Params.{params, head_parts, head_rule, head_of}
+use Rattle.pawn_typed.specs.Enums.{Counted, value_of, item_value, counted_behind, behind_item}
+use Rattle.pawn_typed.specs.Enums.{behind_items, item_rule, items_rule, items_parts}
+use Rattle.pawn_typed.specs.Enums.{nothing_counted, named, behind_enum, enum_rule}
 use Rattle.pawn_typed.specs.Paths.{behind_decl, heads_of, heads}
-use Rattle.pawn_typed.specs.Sources.{Source, operators_from, functions_from, natives_from, natives_in}
-use Rattle.pawn_typed.specs.Declarations.{shaped_key, native_name, function_key, function_with, bare_head, globals, decl_rule, declarations}
+use Rattle.pawn_typed.specs.Sources.{Source, operators_from, functions_from, natives_from}
+use Rattle.pawn_typed.specs.Sources.{natives_in}
+use Rattle.pawn_typed.specs.Declarations.{shaped_key, native_name, function_key, function_with}
+use Rattle.pawn_typed.specs.Declarations.{bare_head, globals, decl_rule, declarations}
 use Rattle.sound_programs.proofs.Facts.{holds_and, holds_as}
 use Rattle.sound_programs.specs.SameHeads.{AreThere, HeadsAreSame}
-use Rattle.sound_programs.proofs.ConstantRules.{Same, itself, after_is, both_is, same_after, same_both, HasValue, IsText, first, second}
+use Rattle.sound_programs.proofs.ConstantRules.{Same, itself, after_is, both_is, same_after}
+use Rattle.sound_programs.proofs.ConstantRules.{same_both, HasValue, IsText, first, second}
 use Rattle.sound_programs.proofs.ConstantExpressions.{SameConst, expr_same}
 
 same_if : {A : Type 0} (b : Bool) {v u : Verdict A} (w : Verdict A) → Same v u
@@ -206,7 +217,8 @@ module _ (names : List (List ℕ)) (operators : Overloads) (fs ns fs2 ns2 : List
     items_same done (it ∷ more) =
         holds_both (item_same done it.value) (items_same (behind_item A at tag done it) more)
         (λ x y p q. stands_itself _ _
-        (ap (λ (v : Option ℤ). behind_items B at tag (counted_behind A at tag done it.name.bytes v) more) p
+        (ap (λ (v : Option ℤ). behind_items B at tag
+        (counted_behind A at tag done it.name.bytes v) more) p
         ∙ q))
 
     enum_same : (path : Scope) (name : Option n.Name) (items : List Item)
@@ -307,7 +319,8 @@ module _ (names : List (List ℕ)) (operators : Overloads) (fs ns fs2 ns2 : List
         (λ x y p q. stands_itself _ _
         (both_is (param_rule B at path param)
         (params B at (with_entries path (param_entries B at path i param)) (i + 1) more) _ x y p.0
-        (ap (λ (entries : List Entry). params B at (with_entries path entries) (i + 1) more) p.1 ∙ q)))
+        (ap (λ (entries : List Entry). params B at (with_entries path entries) (i + 1) more) p.1
+        ∙ q)))
 
     head_same : (path : Scope) (head : decl.Head)
         → Same (head_rule A at path head) (head_rule B at path head)
@@ -360,12 +373,15 @@ module _ (names : List (List ℕ)) (operators : Overloads) (fs ns fs2 ns2 : List
         holds_unless _ (holds_as (globals_same source point at of.constant of.vars)
         (λ d p. record { heads_same = refl; there = tt; behind = p }))
     decl_same point (Constant at of) =
-        holds_as (constant_means_same (tag_of A of.tag) (constants.constant A point.scope at of.value)
+        holds_as (constant_means_same (tag_of A of.tag)
+        (constants.constant A point.scope at of.value)
         (constants.constant B point.scope at of.value) _ (constant_same point.scope at of.value))
         (λ d p. record {
           heads_same = refl;
           there = tt;
-          behind = ap (λ (m : Meaning). declared point (record { name = of.name.bytes; means = m } ∷ [])) p;
+          behind =
+              ap (λ (m : Meaning). declared point (record { name = of.name.bytes; means = m } ∷ []))
+              p;
         })
     decl_same point (Enum at name items) =
         holds_after (enum_same at (tag_of A name) point.scope name items) (λ warned p.
@@ -411,6 +427,7 @@ pub heads_same : HeadsAreSame
 heads_same source all others point tree done e =
     let r = (tree_same source.tags (operators_from source 0 source.groups)
     (functions_from source 0 all source.groups) (natives_from source 0 (natives_in source all))
-    (functions_from source 0 others source.groups) (natives_from source 0 (natives_in source others))
+    (functions_from source 0 others source.groups)
+    (natives_from source 0 (natives_in source others))
     source point tree).of done e in
     record { same = r.same; there = r.there }

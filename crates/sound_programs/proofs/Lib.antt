@@ -17,6 +17,7 @@ pub mod HeadsLaw
 pub mod GroupLaws
 pub mod SlotLaws
 pub mod FirstHeads
+pub mod BareLaws
 mod FunctionLaws
 mod CalledLaws
 pub mod SiteLaws

@@ -1,5 +1,6 @@
 -- A program that stands is within the limits.
-use Rattle.std.proofs.Common.{◌≡◌, ◌+◌, ◌≤ℤ◌, ℕ, ℤ, pos, List, [], ◌∷◌, ◌++◌, Bool, true, false, refl, sym, ap, subst, cond}
+use Rattle.std.proofs.Common.{◌≡◌, ◌+◌, ◌≤ℤ◌, ℕ, ℤ, pos, List, [], ◌∷◌, ◌++◌, Bool, true, false}
+use Rattle.std.proofs.Common.{refl, sym, ap, subst, cond}
 use Rattle.std.specs.Prelude.{map, filter, nat_eq, not, ◌&&◌, int_le}
 use Rattle.std.proofs.lemmas.Bool.{and_parts}
 use Rattle.std.proofs.lemmas.Float.{T_from_true}
@@ -11,12 +12,15 @@ use Rattle.pawn_meaning.specs.declared.limits.TheConstants.{DYNAMIC_LIMIT}
 use Rattle.pawn_meaning.specs.Limits.{IsWithinArray, IsWithinSlot, IsWithinBody, IsWithinFunction}
 use Rattle.pawn_scopes.specs.Verdict.{Fault, Stands}
 use Rattle.pawn_scopes.specs.TreeMarks.{tree_marks}
-use Rattle.pawn_typing.proofs.VerdictLaws.{Holds, stands_itself, breaks_holds, holds_after, holds_both, holds_all}
+use Rattle.pawn_typing.proofs.VerdictLaws.{Holds, stands_itself, breaks_holds, holds_after}
+use Rattle.pawn_typing.proofs.VerdictLaws.{holds_both, holds_all}
 use Rattle.pawn_automata.specs.Groups.{Group}
 use Rattle.pawn_typed.specs.Sources.{Source, Stated, source_of, all_stated, around_of, beginning}
 use Rattle.pawn_typed.specs.Declarations.{Bodied, Done}
 use Rattle.pawn_typed.specs.Programs.{bodies_of, params_of, functions_from, program_of}
-use Rattle.pawn_typed.specs.Whole.{Checked, passed, whole_fault, dynamic_faults, entry_faults, unless, sum_faults, whole_faults, source_faults, done, checked_of, typed}
+use Rattle.pawn_typed.specs.Whole.{Checked, passed, whole_fault, dynamic_faults, entry_faults}
+use Rattle.pawn_typed.specs.Whole.{unless, sum_faults, whole_faults, source_faults, done}
+use Rattle.pawn_typed.specs.Whole.{checked_of, typed}
 use Rattle.pawn_typed.specs.Sums.{IsWithinSums, StandsWithinSums}
 use Rattle.pawn_sound.specs.Known.{KnowsAround}
 use Rattle.sound_programs.specs.Objects.{Each, IsGoodObject}
@@ -94,7 +98,8 @@ objects_within : (objects : List StaticObject) → Each IsGoodObject objects
 objects_within [] h = tt
 objects_within (x ∷ more) h = (h.0.within, objects_within more h.1)
 
-objects_valid : (objects : List StaticObject) → Each IsGoodObject objects → Each IsValidObject objects
+objects_valid : (objects : List StaticObject) → Each IsGoodObject objects
+    → Each IsValidObject objects
 objects_valid [] h = tt
 objects_valid (x ∷ more) h = (h.0.valid, objects_valid more h.1)
 
@@ -121,16 +126,20 @@ typed_done tree dynamic =
     (record { it = it; stands = e; is = refl; none = none; together = t }))))
 
 pub programs_within : BodiesAreValid → FilesAreSites → StandsWithinSums → ProgramsAreWithinLimits
-programs_within bodies_law files_law sums_law tree dynamic program warnings typed_is written few known =
+programs_within bodies_law files_law sums_law tree dynamic program warnings typed_is written
+    few known =
     let checked : Checked = record { program = program; warnings = warnings } in
     let d = (typed_done tree dynamic).of checked typed_is in
     let sums = sums_law tree dynamic program warnings typed_is in
     let source : Source = source_of tree in
-    let made : Program = program_of source (all_stated source tree) (tree_marks tree) dynamic d.it in
+    let made : Program =
+    program_of source (all_stated source tree) (tree_marks tree) dynamic d.it in
     let same : program ≡ made = ap (λ (x : Checked). x.program) d.is in
     let file = files_law tree d.it (tree_marks tree) dynamic few
     (subst (λ (p : Program). KnowsAround p (around_of source tree)) same known) written in
-    let sound = bodies_law made (around_of source tree) source.called source (beginning source) tree d.it
+    let sound =
+    bodies_law made (around_of source tree) source.called source
+    (beginning source) tree d.it
     file.site file.written d.stands (sits_whole d.it.objects) in
     let range = and_parts (int_le (pos 0) dynamic) (int_le dynamic DYNAMIC_LIMIT)
     (no_fault (int_le (pos 0) dynamic && int_le dynamic DYNAMIC_LIMIT) _
@@ -140,7 +149,8 @@ programs_within bodies_law files_law sums_law tree dynamic program warnings type
         objects = each_all (λ (x : StaticObject). IsWithinArray x.sizes) d.it.objects
             (objects_within d.it.objects sound.objects);
         functions = each_all IsWithinFunction _
-            (functions_within made source (all_stated source tree) 0 source.groups d.it.bodies sound.bodies);
+            (functions_within made source (all_stated source tree) 0 source.groups d.it.bodies
+            sound.bodies);
         cells = (subst (λ (p : Program). IsWithinSums p) same sums).cells;
         weight = (subst (λ (p : Program). IsWithinSums p) same sums).code;
         dynamic = (at_most (pos 0) dynamic range.0, at_most dynamic DYNAMIC_LIMIT range.1);

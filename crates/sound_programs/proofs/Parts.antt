@@ -1,13 +1,17 @@
 -- Parts of lists, numbers in order, and lists of statements.
-use Rattle.std.proofs.Common.{◌≡◌, ◌+◌, ℕ, zero, suc, List, [], ◌∷◌, ◌++◌, Bool, refl, sym, ap, ap₂, ◌∙◌, subst, arith}
+use Rattle.std.proofs.Common.{◌≡◌, ◌+◌, ℕ, zero, suc, List, [], ◌∷◌, ◌++◌, Bool, refl, sym, ap, ap₂}
+use Rattle.std.proofs.Common.{◌∙◌, subst, arith}
 use Rattle.std.specs.Prelude.{length, slice_get, Some}
 use Rattle.std.specs.List.{Any}
 use Rattle.std.proofs.lemmas.List.{append_assoc, append-nil, length-append}
-use Rattle.pawn_program.specs.Program.{Stmt, Block, Local, LocalArray, Do, If, While, DoWhile, For, Switch, Return, Break, Continue, Exit, Sleep, Assert, State, Empty}
+use Rattle.pawn_program.specs.Program.{Stmt, Block, Local, LocalArray, Do, If, While, DoWhile, For}
+use Rattle.pawn_program.specs.Program.{Switch, Return, Break, Continue, Exit, Sleep, Assert, State}
+use Rattle.pawn_program.specs.Program.{Empty}
 use Rattle.pawn_program.specs.Scope as program
 use Rattle.pawn_program.specs.Scope.{with_made}
 use Rattle.pawn_program.specs.Valid.{numbers_from}
-use Rattle.pawn_program.specs.ValidStmts.{slots_made, slots_made_by, all_slots_made, all_slots_made_by, IsValidStmt, AreValidStmts}
+use Rattle.pawn_program.specs.ValidStmts.{slots_made, slots_made_by, all_slots_made}
+use Rattle.pawn_program.specs.ValidStmts.{all_slots_made_by, IsValidStmt, AreValidStmts}
 use Rattle.pawn_bodies.specs.Stood.{stmts_in, one}
 use Rattle.sound_programs.specs.Sits.{Sits}
 

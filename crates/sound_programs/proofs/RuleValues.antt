@@ -1,6 +1,8 @@
 -- What the rules of names and operators make is plain.
-use Rattle.std.proofs.Common.{◌≡◌, ◌^◌, ◌<◌, ◌≤◌, ℕ, zero, suc, ℤ, pos, List, [], ◌∷◌, ◌++◌, Bool, true, false, Option, None, Some, refl, sym, ap₂, ◌∙◌, subst, arith}
-use Rattle.std.specs.Prelude.{if◌then◌else◌, length, map, unwrap_or, option_map, slice_get, nat_eq, nat_le, flat_map, IfSome}
+use Rattle.std.proofs.Common.{◌≡◌, ◌^◌, ◌<◌, ◌≤◌, ℕ, zero, suc, ℤ, pos, List, [], ◌∷◌, ◌++◌, Bool}
+use Rattle.std.proofs.Common.{true, false, Option, None, Some, refl, sym, ap₂, ◌∙◌, subst, arith}
+use Rattle.std.specs.Prelude.{if◌then◌else◌, length, map, unwrap_or, option_map, slice_get, nat_eq}
+use Rattle.std.specs.Prelude.{nat_le, flat_map, IfSome}
 use Rattle.std.specs.Str.{bytes_eq}
 use Rattle.std.proofs.lemmas.Bool.{leb-true}
 use Rattle.std.proofs.lemmas.List.{length-append}
@@ -27,24 +29,36 @@ use Rattle.pawn_typing.specs.Rule.{pair}
 use Rattle.pawn_typing.specs.Typed.{Typed, Form, Held, cell, array}
 use Rattle.pawn_typing.specs.Typed as typed
 use Rattle.pawn_typing.specs.Around.{Around, Callable, tag_number, function_tag}
-use Rattle.pawn_typing.specs.Scope.{Meaning, Constant, Variable, Function, Native, Entering, Taken, Unknown, Scope, found}
+use Rattle.pawn_typing.specs.Scope.{Meaning, Constant, Variable, Function, Native, Entering, Taken}
+use Rattle.pawn_typing.specs.Scope.{Unknown, Scope, found}
 use Rattle.pawn_typing.specs.Scope as means
 use Rattle.pawn_typing.specs.Texts.{packed_cells, text_cells, text_object}
-use Rattle.pawn_typing.specs.Names.{constant_value, text_rule, name_rule, first_size, size_at, size_or_broken, size_of_cell, size_of, size_in, sizeof_rule, tag_in, tagof_rule}
-use Rattle.pawn_typing.specs.Operators.{bool_tag, unary_value, operator_tag, divides_by_zero, chosen, operate, operator_rule, logical_rule, comma_rule, between_rule, chosen_for_one, operate_one, not_rule, negate_rule, invert_rule}
+use Rattle.pawn_typing.specs.Names.{constant_value, text_rule, name_rule, first_size, size_at}
+use Rattle.pawn_typing.specs.Names.{size_or_broken, size_of_cell, size_of, size_in, sizeof_rule}
+use Rattle.pawn_typing.specs.Names.{tag_in, tagof_rule}
+use Rattle.pawn_typing.specs.Operators.{bool_tag, unary_value, operator_tag, divides_by_zero}
+use Rattle.pawn_typing.specs.Operators.{chosen, operate, operator_rule, logical_rule, comma_rule}
+use Rattle.pawn_typing.specs.Operators.{between_rule, chosen_for_one, operate_one, not_rule}
+use Rattle.pawn_typing.specs.Operators.{negate_rule, invert_rule}
 use Rattle.pawn_typing.specs.Prefixes.{prefix_rule, postfix_rule}
 use Rattle.pawn_typing.specs.Indexes.{part, index_rule, character_in, character_rule}
 use Rattle.pawn_typing.specs.Choices.{value_of_choice, choice_rule}
-use Rattle.pawn_typing.specs.Chains.{Compared, link_choice, links_code, links_value, chain_value, link_tag, chain_tag, chain_rule}
-use Rattle.pawn_typing.specs.Assignments.{target, unless_constant, assign_cell, copied_cells, literal_cells, known_line, copy_from, assign_to, set_rule, updated, update_rule, update_by, assign_rule, step_rule}
+use Rattle.pawn_typing.specs.Chains.{Compared, link_choice, links_code, links_value, chain_value}
+use Rattle.pawn_typing.specs.Chains.{link_tag, chain_tag, chain_rule}
+use Rattle.pawn_typing.specs.Assignments.{target, unless_constant, assign_cell, copied_cells}
+use Rattle.pawn_typing.specs.Assignments.{literal_cells, known_line, copy_from, assign_to, set_rule}
+use Rattle.pawn_typing.specs.Assignments.{updated, update_rule, update_by, assign_rule, step_rule}
 use Rattle.pawn_typing.specs.Signs.{updater_of}
-use Rattle.pawn_typing.proofs.VerdictLaws.{Holds, stands_itself, breaks_holds, holds_after, holds_both, holds_all}
+use Rattle.pawn_typing.proofs.VerdictLaws.{Holds, stands_itself, breaks_holds, holds_after}
+use Rattle.pawn_typing.proofs.VerdictLaws.{holds_both, holds_all}
 use Rattle.pawn_sound.specs.Meant.{AreCells}
 use Rattle.pawn_sound.specs.Placed.{IsShort}
 use Rattle.sound_programs.specs.Objects.{Each, IsGoodObject}
 use Rattle.sound_programs.specs.Written.{AreBytes}
 use Rattle.sound_programs.specs.Plain.{IsTag, IsValue, IsPlainMeaning, IsPlainPath, HasTags}
-use Rattle.sound_programs.proofs.Facts.{if_holds, when_holds, each_append, each_all, cell_of_cell, small_cell, truth_cell, prefix_cell, binary_value, logical_cell, both_value, mapped_value, position_within}
+use Rattle.sound_programs.proofs.Facts.{if_holds, when_holds, each_append, each_all, cell_of_cell}
+use Rattle.sound_programs.proofs.Facts.{small_cell, truth_cell, prefix_cell, binary_value}
+use Rattle.sound_programs.proofs.Facts.{logical_cell, both_value, mapped_value, position_within}
 
 -- a literal is one of the objects
 abbrev pub HasText : Form → List StaticObject → Type 0
@@ -74,7 +88,8 @@ one x y p f e v t = stands_itself _ y (record {
 })
 
 pub two : (ms ns : List StaticObject) (x y z : Typed) → Plain ms x → Plain ns y
-    → HasText z.form z.literals → z.literals ≡ x.literals ++ y.literals → IsValue z.value → IsTag z.tag
+    → HasText z.form z.literals → z.literals ≡ x.literals ++ y.literals → IsValue z.value
+    → IsTag z.tag
     → Plain (ms ++ ns) z
 two ms ns x y z p q f e v t = record {
   literals = e ∙ ap₂ (λ (l m : List StaticObject). l ++ m) p.literals q.literals;
@@ -279,7 +294,8 @@ module _ (cx : Around) (tags : HasTags cx) (at : At) where
   operator_small _ tag h = h
 
   module _ (ms ns : List StaticObject) (x y : Typed) (p : Plain ms x) (q : Plain ns y) where
-    made : (z : Typed) → HasText z.form z.literals → z.literals ≡ x.literals ++ y.literals → IsValue z.value → IsTag z.tag
+    made : (z : Typed) → HasText z.form z.literals → z.literals ≡ x.literals ++ y.literals
+        → IsValue z.value → IsTag z.tag
         → Holds (Plain (ms ++ ns)) (Stands z)
     made z f e v t = stands_itself _ z (two ms ns x y z p q f e v t)
 
@@ -287,7 +303,8 @@ module _ (cx : Around) (tags : HasTags cx) (at : At) where
         → Holds (Plain (ms ++ ns)) (operate cx at it x y l r by)
     operate_plain it l r None =
         if_holds (divides_by_zero it y.value) (breaks_holds _ _)
-        (made _ tt refl (both_value (cells.binary it) x.value y.value (binary_value it) p.value q.value)
+        (made _ tt refl (both_value (cells.binary it) x.value y.value
+        (binary_value it) p.value q.value)
         (operator_small it x.tag p.tag))
     operate_plain it l r (Some by) = made _ tt refl tt (function_tag_small cx tags by.function)
 
@@ -298,7 +315,8 @@ module _ (cx : Around) (tags : HasTags cx) (at : At) where
         operate_plain it l r (chosen cx user x.tag y.tag))
     between_plain (Decides it) =
         holds_both (holds_all (cell at x)) (holds_all (cell at y)) (λ l r t u.
-        made _ tt refl (both_value _ x.value y.value (λ a b c d. logical_cell it a b) p.value q.value)
+        made _ tt refl (both_value _ x.value y.value
+        (λ a b c d. logical_cell it a b) p.value q.value)
         (small_tag 1 (omega arith)))
     between_plain Takes =
         holds_both (holds_all (cell at x)) (holds_all (cell at y)) (λ l r t u.
@@ -372,7 +390,8 @@ module _ (cx : Around) (tags : HasTags cx) (at : At) where
   -- ---- one operand
 
   module _ (ls : List StaticObject) (x : Typed) (p : Plain ls x) where
-    pub kept : (z : Typed) → HasText z.form z.literals → z.literals ≡ x.literals → IsValue z.value → IsTag z.tag
+    pub kept : (z : Typed) → HasText z.form z.literals → z.literals ≡ x.literals → IsValue z.value
+        → IsTag z.tag
         → Holds (Plain ls) (Stands z)
     kept z f e v t = one x z p f e v t
 

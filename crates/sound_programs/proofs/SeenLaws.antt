@@ -1,17 +1,20 @@
 -- What names mean along declarations.
-use Rattle.std.proofs.Common.{◌≡◌, inl, inr, ℕ, List, [], ◌∷◌, ◌++◌, Bool, true, false, Option, Some, refl, sym, ap, ◌∙◌, subst, arith}
+use Rattle.std.proofs.Common.{◌≡◌, inl, inr, ℕ, List, [], ◌∷◌, ◌++◌, Bool, true, false, Option}
+use Rattle.std.proofs.Common.{Some, refl, sym, ap, ◌∙◌, subst, arith}
 use Rattle.std.specs.Prelude.{if◌then◌else◌, is_some}
 use Rattle.std.specs.List.{Any}
 use Rattle.std.specs.Str.{bytes_eq}
 use Rattle.std.proofs.lemmas.List.{length-append, get_or_append_left}
 use Rattle.std.proofs.lemmas.Slice.Eq.{bytes_eq-Decides}
-use Rattle.pawn_program.specs.Program.{Scalar, Global, Own, Through, Element, Char, Object, SlotArray, ParamArray, Row, From}
+use Rattle.pawn_program.specs.Program.{Scalar, Global, Own, Through, Element, Char, Object}
+use Rattle.pawn_program.specs.Program.{SlotArray, ParamArray, Row, From}
 use Rattle.pawn_program.specs.Program as code
 use Rattle.pawn_program.specs.Scope.{Extent, extent, IsMade, IsInSight, with_made}
 use Rattle.pawn_program.specs.Scope as program
 use Rattle.pawn_program.specs.ValidExprs.{IsValidScalar}
 use Rattle.pawn_typing.specs.Around.{Around}
-use Rattle.pawn_typing.specs.Scope.{Scope, Meaning, Constant, Variable, Array, Function, Native, Entering, Taken, Unknown, Entry, found, with_entries}
+use Rattle.pawn_typing.specs.Scope.{Scope, Meaning, Constant, Variable, Array, Function, Native}
+use Rattle.pawn_typing.specs.Scope.{Entering, Taken, Unknown, Entry, found, with_entries}
 use Rattle.pawn_sound.specs.Meant.{AreCells, IsReached, IsMeant, KnowsPath}
 use Rattle.pawn_sound.specs.Placed.{IsNumbered}
 use Rattle.sound_faults.proofs.PathLaws.{found_with}

@@ -1,6 +1,9 @@
 -- The beginning of a file is as laws of declarations ask.
-use Rattle.std.proofs.Common.{◌≡◌, ◌+◌, ◌<◌, ◌≤◌, ◌^◌, ℕ, zero, suc, ℤ, pos, List, [], ◌∷◌, ◌++◌, reverse, Bool, true, false, Option, None, Some, refl, sym, ap, ap₂, ◌∙◌, subst, cond, arith}
-use Rattle.std.specs.Prelude.{if◌then◌else◌, ◌||◌, length, map, filter, flat_map, slice_get, unwrap_or, option_map}
+use Rattle.std.proofs.Common.{◌≡◌, ◌+◌, ◌<◌, ◌≤◌, ◌^◌, ℕ, zero, suc, ℤ, pos, List, [], ◌∷◌, ◌++◌}
+use Rattle.std.proofs.Common.{reverse, Bool, true, false, Option, None, Some, refl, sym, ap, ap₂}
+use Rattle.std.proofs.Common.{◌∙◌, subst, cond, arith}
+use Rattle.std.specs.Prelude.{if◌then◌else◌, ◌||◌, length, map, filter, find, flat_map, slice_get}
+use Rattle.std.specs.Prelude.{unwrap_or, option_map}
 use Rattle.std.specs.Option.{option_or}
 use Rattle.std.specs.Str.{bytes_eq}
 use Rattle.std.proofs.lemmas.List.{reverse-append, length-map}
@@ -23,8 +26,12 @@ use Rattle.pawn_typing.specs.Scope.{Meaning, Entry, first_named, found, constant
 use Rattle.pawn_bodies.specs.CalledIn.{called_in}
 use Rattle.pawn_automata.specs.Keys.{Key, Named, Operates, Enters, Misshapen}
 use Rattle.pawn_automata.specs.Groups.{Written, Group, written}
-use Rattle.pawn_typed.specs.Headings.{Heading, Role, IsNative, IsForward, IsBody}
-use Rattle.pawn_typed.specs.Sources.{Source, Stated, source_of, name_of, is_called, is_native, stated, stated_tag, first_head, group_tag, functions_from, natives_from, natives_in, function_entry, function_entries, native_entries, forward_entry, forward_entries, all_stated, around_of, around_with, beginning}
+use Rattle.pawn_typed.specs.Headings.{Heading, Role, IsNative, IsForward, IsBody, is_enters}
+use Rattle.pawn_typed.specs.Sources.{Source, Stated, source_of, name_of, is_called, is_native}
+use Rattle.pawn_typed.specs.Sources.{stated, stated_tag, first_head, group_tag, functions_from}
+use Rattle.pawn_typed.specs.Sources.{natives_from, natives_in, function_entry, function_entries}
+use Rattle.pawn_typed.specs.Sources.{entry_by, entering_tag, native_entries, forward_entry}
+use Rattle.pawn_typed.specs.Sources.{forward_entries, all_stated, around_of, around_with, beginning}
 use Rattle.pawn_typed.specs.Declarations.{Done}
 use Rattle.pawn_typed.specs.Programs.{program_of}
 use Rattle.sound_programs.specs.Objects.{Each}
@@ -52,7 +59,8 @@ among_left : (name : List ℕ) (xs ys : List (List ℕ)) → is_among name xs �
     → is_among name (xs ++ ys) ≡ true
 among_left name [] ys e = absurd (let no : ⊥ = cc in no)
 among_left name (x ∷ xs) ys e =
-    among_by (bytes_eq name x) (is_among name xs) (is_among name (xs ++ ys)) (among_left name xs ys) e
+    among_by (bytes_eq name x) (is_among name xs) (is_among name (xs ++ ys))
+    (among_left name xs ys) e
 
 among_right : (name : List ℕ) (xs ys : List (List ℕ)) → is_among name ys ≡ true
     → is_among name (xs ++ ys) ≡ true
@@ -80,7 +88,8 @@ abbrev pub called_by_all : List Written → List (List ℕ)
 called_by_all all = flat_map (λ (it : Written). called_in it.function.body) all
 
 tree_calls : (tree : Tree) (all : List (List ℕ))
-    → ((name : List ℕ) → is_among name (called_by_all (written tree)) ≡ true → is_among name all ≡ true)
+    → ((name : List ℕ) → is_among name (called_by_all (written tree)) ≡ true
+    → is_among name all ≡ true)
     → IsWrittenTree IsAnyName tree → IsWrittenTree (IsCalled all) tree
 tree_calls [] all k w = tt
 tree_calls (Variables at of ∷ more) all k w = (w.0, tree_calls more all k w.1)
@@ -115,7 +124,8 @@ module _ (source : Source) (few : length source.tags ≤ 2 ^ 32) where
   stated_small : (it : Stated) → IsTag (stated_tag source it)
   stated_small it = tag_small it.heading.head.tag
 
-  found_small : (it : Option Stated) → IsTag (unwrap_or (option_map (stated_tag source) it) untagged)
+  found_small : (it : Option Stated)
+      → IsTag (unwrap_or (option_map (stated_tag source) it) untagged)
   found_small None = omega arith
   found_small (Some it) = stated_small it
 
@@ -147,7 +157,8 @@ module _ (source : Source) (few : length source.tags ≤ 2 ^ 32) where
       tag_of_some : Option Callable → ℕ
       tag_of_some None = 0
       tag_of_some (Some it) = it.tag
-  natives_small number (x ∷ more) (suc k) it e = natives_small (if is_called source x.heading then suc number else number) more k it e
+  natives_small number (x ∷ more) (suc k) it e =
+      natives_small (if is_called source x.heading then suc number else number) more k it e
 
   pub tags_are : (all : List Stated) → HasTags (around_with source all)
   tags_are all = record {
@@ -246,11 +257,13 @@ module _ (it : Program) (cx : Around) (source : Source) (few : length source.tag
   natives_seen number [] k = tt
   natives_seen number (st ∷ more) k = (
     (
-      subst (λ (m : ℕ). Numbered (name_of st.heading.head.name) m) (plus_nothing number) (k 0 st refl),
+      subst (λ (m : ℕ). Numbered (name_of st.heading.head.name) m) (plus_nothing number)
+          (k 0 st refl),
       stated_small source few st,
     ),
     natives_seen (number + 1) more (λ j x e.
-        subst (λ (m : ℕ). Numbered (name_of x.heading.head.name) m) (plus_one number j) (k (suc j) x e)),
+        subst (λ (m : ℕ). Numbered (name_of x.heading.head.name) m) (plus_one number j)
+        (k (suc j) x e)),
   )
     where
       plus_nothing : (m : ℕ) → m + 0 ≡ m
@@ -263,7 +276,7 @@ module _ (it : Program) (cx : Around) (source : Source) (few : length source.tag
       → Each Seen (function_entry source number tag key)
   function_seen number tag (Named name) h = (h, tt)
   function_seen number tag (Operates x) h = tt
-  function_seen number tag (Enters name) h = (h, tt)
+  function_seen number tag (Enters name) h = tt
   function_seen number tag Misshapen h = tt
 
   functions_seen : (number : ℕ) (all : List Stated) (groups : List Group)
@@ -272,8 +285,18 @@ module _ (it : Program) (cx : Around) (source : Source) (few : length source.tag
   functions_seen number all [] = tt
   functions_seen number all (group ∷ more) =
       each_append Seen (function_entry source number (group_tag source all group) group.key) _
-      (function_seen number (group_tag source all group) group.key (group_small source few all group))
+      (function_seen number (group_tag source all group) group.key
+      (group_small source few all group))
       (functions_seen (number + 1) all more)
+
+  entry_seen : (tag : Option ℕ) → IsTag (unwrap_or tag untagged) → Each Seen (entry_by source tag)
+  entry_seen None h = tt
+  entry_seen (Some tag) h = (h, tt)
+
+  entering_small : (all : List Stated) (group : Option Group)
+      → IsTag (unwrap_or (option_map (group_tag source all) group) untagged)
+  entering_small all None = omega arith
+  entering_small all (Some group) = group_small source few all group
 
   forward_seen : (x : Heading) (role : Role) → Each Seen (forward_entry source x role)
   forward_seen x IsNative = tt
@@ -284,7 +307,8 @@ module _ (it : Program) (cx : Around) (source : Source) (few : length source.tag
       → Each Seen (flat_map (λ (x : Heading). forward_entry source x x.role) all)
   forwards_seen [] = tt
   forwards_seen (x ∷ more) =
-      each_append Seen (forward_entry source x x.role) _ (forward_seen x x.role) (forwards_seen more)
+      each_append Seen (forward_entry source x x.role) _ (forward_seen x x.role)
+      (forwards_seen more)
 
   -- ---- of these entries and the predefined constants
 
@@ -369,7 +393,8 @@ module _ (it : Program) (cx : Around) (source : Source) (few : length source.tag
   unfolding found
   path_seen entries h = record {
     meant = λ name m e.
-        seen_as name (option_or (first_named (reverse entries) name) (option_map constant_meaning (predefined name)))
+        seen_as name (option_or (first_named (reverse entries) name)
+        (option_map constant_meaning (predefined name)))
         m (first_seen (reverse entries) name _ (each_reverse entries h)
         (constant_seen name (predefined name) (predefined_good name).good)) e;
   }
@@ -406,7 +431,11 @@ beginning_seen tree done marks dynamic few =
                 (λ (x : Stated). name_of x.heading.head.name),
           );
     }))
-    (functions_seen it cx source few 0 bare source.groups)))
+    (each_append (Seen it cx source few) (function_entries source 0 bare source.groups) _
+    (functions_seen it cx source few 0 bare source.groups)
+    (entry_seen it cx source few (entering_tag source bare)
+    (entering_small it cx source few bare
+    (find (λ (group : Group). is_enters group.key) source.groups))))))
   where
     nothing_plus : (j : ℕ) → 0 + j ≡ j
     nothing_plus j = omega arith

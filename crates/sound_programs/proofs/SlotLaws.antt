@@ -1,5 +1,6 @@
 -- Heads that are equal have the same slots, and a function's slots are those of its head.
-use Rattle.std.proofs.Common.{◌≡◌, ◌+◌, ℕ, List, [], ◌∷◌, ◌++◌, Bool, true, false, Option, None, Some, refl, sym, ap, ap₂, ◌∙◌}
+use Rattle.std.proofs.Common.{◌≡◌, ◌+◌, ℕ, List, [], ◌∷◌, ◌++◌, Bool, true, false, Option, None}
+use Rattle.std.proofs.Common.{Some, refl, sym, ap, ap₂, ◌∙◌}
 use Rattle.std.specs.Prelude.{map, nat_eq}
 use Rattle.std.specs.Str.{bytes_eq}
 use Rattle.std.proofs.lemmas.Bool.{eqb-true, and_parts}
@@ -14,13 +15,17 @@ use Rattle.pawn_program.specs.Program.{Slot}
 use Rattle.pawn_program.specs.Scope.{Extent}
 use Rattle.pawn_typing.specs.Around.{Around, Param, Head}
 use Rattle.pawn_typing.specs.Scope.{Scope, with_entries}
-use Rattle.pawn_typing.proofs.VerdictLaws.{Holds, stands_itself, holds_after, holds_both, holds_all, holds_also}
+use Rattle.pawn_typing.proofs.VerdictLaws.{Holds, stands_itself, holds_after, holds_both, holds_all}
+use Rattle.pawn_typing.proofs.VerdictLaws.{holds_also}
 use Rattle.pawn_bodies.specs.Locals.{fresh_name}
 use Rattle.pawn_heads.specs.ParamDefaults.{default_rule}
 use Rattle.pawn_heads.specs.Params as heads
-use Rattle.pawn_heads.specs.Params.{Headed, no_params, tag_numbers, reach, param_entries, no_default, no_reference, param_of, param_rule, either, headed_behind, params}
-use Rattle.pawn_heads.specs.SameHeads.{same_truth, same_first, same_extent, same_param, same_params, same_head}
-use Rattle.pawn_sound.specs.Known.{cell_slot, array_slot, slot_by, slot_of}
+use Rattle.pawn_heads.specs.Params.{Headed, no_params, tag_numbers, reach, param_entries}
+use Rattle.pawn_heads.specs.Params.{no_default, no_reference, param_of, param_rule, either}
+use Rattle.pawn_heads.specs.Params.{headed_behind, params}
+use Rattle.pawn_heads.specs.SameHeads.{same_truth, same_first, same_extent, same_param, same_params}
+use Rattle.pawn_heads.specs.SameHeads.{same_head}
+use Rattle.pawn_sound.specs.Known.{array_slot, slot_by, slot_of}
 use Rattle.sound_programs.specs.Objects.{Each}
 use Rattle.sound_programs.specs.WrittenDeclarations.{IsOwnParam}
 
@@ -78,10 +83,6 @@ pub record OwnHead (h : Headed) : Type 0 where
   pub rest : h.rest ≡ None
 
 module _ (cx : Around) (at : At) where
-  cell_is : (r : Bool) → heads.cell_slot cx at r ≡ cell_slot r
-  cell_is true = refl
-  cell_is false = refl
-
   array_is : (reach : Extent) (first : Option ℕ)
       → heads.array_slot reach first ≡ array_slot reach.inner first
   array_is reach None = refl
@@ -93,7 +94,7 @@ module _ (cx : Around) (at : At) where
   plain_own path name constant reference tags [] value =
       holds_after (holds_all (default_rule cx path at reference tags value)) (λ it t.
       stands_itself _ _
-      (record { slots = ap (λ (s : Slot). s ∷ []) (cell_is reference); rest = refl }))
+      (record { slots = refl; rest = refl }))
   plain_own path name constant reference tags (dim ∷ dims) value =
       holds_also (no_reference cx at reference) (holds_also (no_default cx at value)
       (holds_after (holds_all (reach cx path at dim dims)) (λ it t.
@@ -109,7 +110,7 @@ module _ (cx : Around) (at : At) where
       (plain_own path name constant reference (tag_numbers cx names) dims value)
   one_own path (tree.Rest rest_at names) w = absurd w
 
-  neither_rest : (a b : Option (List ℕ)) → a ≡ None → b ≡ None → either cx at a b ≡ None
+  neither_rest : (a b : Option (List ℕ)) → a ≡ None → b ≡ None → either a b ≡ None
   neither_rest None b e f = f
   neither_rest (Some tags) b e f = e
 

@@ -1,14 +1,18 @@
 -- Each kind of statement is valid where its parts are.
-use Rattle.std.proofs.Common.{◌≡◌, ◌+◌, ◌≤◌, ℕ, List, [], ◌∷◌, ◌++◌, Bool, true, refl, sym, ap, ◌∙◌, subst, arith}
+use Rattle.std.proofs.Common.{◌≡◌, ◌+◌, ◌≤◌, ℕ, List, [], ◌∷◌, ◌++◌, Bool, true, refl, sym, ap, ◌∙◌}
+use Rattle.std.proofs.Common.{subst, arith}
 use Rattle.std.specs.Prelude.{length}
 use Rattle.std.proofs.lemmas.List.{append-nil, length-append}
 use Rattle.pawn_program.specs.Program.{Stmt, Slot, StaticObject}
 use Rattle.pawn_program.specs.Valid.{numbers_from}
-use Rattle.pawn_program.specs.ValidStmts.{slots_made, slots_made_by, all_slots_made, all_slots_made_else, all_slots_made_in, all_slots_made_by, IsValidStmt}
+use Rattle.pawn_program.specs.ValidStmts.{slots_made, slots_made_by, all_slots_made}
+use Rattle.pawn_program.specs.ValidStmts.{all_slots_made_else, all_slots_made_in, all_slots_made_by}
+use Rattle.pawn_program.specs.ValidStmts.{IsValidStmt}
 use Rattle.pawn_typing.specs.Around.{Around}
 use Rattle.pawn_bodies.specs.Points.{Point, inside}
 use Rattle.pawn_bodies.specs.Stood.{Stood, stmts_in, one_of}
-use Rattle.pawn_bodies.specs.Statements.{Used, Maybe, Other, Cased, block_rule, if_rule, while_rule, do_while_rule, for_rule, switch_rule}
+use Rattle.pawn_bodies.specs.Statements.{Used, Maybe, Other, Cased, block_rule, if_rule, while_rule}
+use Rattle.pawn_bodies.specs.Statements.{do_while_rule, for_rule, switch_rule}
 use Rattle.pawn_bodies.proofs.StatementLaws.{MadeStood}
 use Rattle.pawn_sound.specs.Known.{KnowsAround}
 use Rattle.pawn_sound.specs.ValidExpressions.{ExpressionsAreValid}
@@ -21,11 +25,14 @@ use Rattle.sound_programs.specs.ValidStatements.{IsGoodSlot}
 use Rattle.sound_programs.proofs.Parts.{sits_left, sits_right, sits_at, numbers_joined}
 use Rattle.sound_programs.proofs.SeenLaws.{seen_inside}
 use Rattle.sound_programs.proofs.Variables.{Place, scope_at, Here, Sound, StandsSound}
-use Rattle.sound_programs.proofs.StatementParts.{OneIn, SubIn, OtherIn, CasedIn, UsedIn, MaybeIn, UsedFine, MaybeFine, CasedFine, sub_in}
+use Rattle.sound_programs.proofs.StatementParts.{OneIn, SubIn, OtherIn, CasedIn, UsedIn, MaybeIn}
+use Rattle.sound_programs.proofs.StatementParts.{UsedFine, MaybeFine, CasedFine, sub_in}
 
-module _ (law : ExpressionsAreValid) (place : Place) (cx : Around) (Calls : List ℕ → Type 0) (known : KnowsAround place.program cx) (tags : HasTags cx) (result : ℕ) where
+module _ (law : ExpressionsAreValid) (place : Place) (cx : Around) (Calls : List ℕ → Type 0)
+    (known : KnowsAround place.program cx) (tags : HasTags cx) (result : ℕ) where
   -- one statement that makes nothing for those behind it
-  pub record OneSound (in_loop : Bool) (point : Point) (stmts : List Stmt) (slots : List Slot) (objects : List StaticObject) : Type 0 where
+  pub record OneSound (in_loop : Bool) (point : Point) (stmts : List Stmt) (slots : List Slot)
+      (objects : List StaticObject) : Type 0 where
     pub sound : (made : List ℕ) → Here place cx Calls made point
         → Sits place.program.objects point.objects objects → Sits place.slots point.slots slots
         → OneIn place made point.slots in_loop stmts slots objects
@@ -107,7 +114,8 @@ module _ (law : ExpressionsAreValid) (place : Place) (cx : Around) (Calls : List
   }
 
   pub while_one : (in_loop : Bool) (point there to : Point) (n : ℕ) (c : Used) (x : Stood)
-      → UsedFine law place cx Calls known tags result point n c → StandsSound place cx Calls true there to x
+      → UsedFine law place cx Calls known tags result point n c
+      → StandsSound place cx Calls true there to x
       → there.scope ≡ point.scope → there.objects ≡ point.objects + n → there.slots ≡ point.slots
       → OneSound in_loop point (while_rule c x).stmts x.slots (c.objects ++ x.objects)
   while_one in_loop point there to n c x u p e eo es = record {
@@ -121,7 +129,10 @@ module _ (law : ExpressionsAreValid) (place : Place) (cx : Around) (Calls : List
         (sits_right place.program.objects point.objects c.objects x.objects fits) slots in
         record {
           valid = (
-            (v.valid (sits_left place.program.objects point.objects c.objects x.objects fits), r.valid),
+            (
+              v.valid (sits_left place.program.objects point.objects c.objects x.objects fits),
+              r.valid,
+            ),
             tt,
           );
           all_made = append-nil (all_slots_made (one_of x)) ∙ r.made_is;
@@ -158,7 +169,8 @@ module _ (law : ExpressionsAreValid) (place : Place) (cx : Around) (Calls : List
             tt,
           );
           all_made = append-nil (all_slots_made (one_of x)) ∙ r.made_is
-              ∙ ap (λ (l : List Slot). numbers_from point.slots (length l)) (sym (append-nil x.slots));
+              ∙ ap (λ (l : List Slot). numbers_from point.slots (length l))
+              (sym (append-nil x.slots));
           slots_good = each_append IsGoodSlot x.slots [] r.slots tt;
           objects_good = each_append IsGoodObject x.objects c.objects r.objects v.objects;
           unmade = refl;
@@ -207,7 +219,8 @@ module _ (law : ExpressionsAreValid) (place : Place) (cx : Around) (Calls : List
           all_made = append-nil (all_slots_made (one_of x) ++ all_slots_made_else other.other)
               ∙ numbers_joined _ _ point.slots (length x.slots) (length other.stood.slots) r.made_is
               o.made_is
-              ∙ ap (λ z. numbers_from point.slots z) (sym (length-append x.slots other.stood.slots));
+              ∙ ap (λ z. numbers_from point.slots z)
+              (sym (length-append x.slots other.stood.slots));
           slots_good = each_append IsGoodSlot x.slots other.stood.slots r.slots o.slots;
           objects_good = each_append IsGoodObject c.objects (x.objects ++ other.stood.objects)
               v.objects
@@ -258,7 +271,8 @@ module _ (law : ExpressionsAreValid) (place : Place) (cx : Around) (Calls : List
           all_made = append-nil (all_slots_made_in it.cases ++ all_slots_made_else other.other)
               ∙ numbers_joined _ _ point.slots (length x.slots) (length other.stood.slots)
               (r.made_is ∙ ap (λ z. numbers_from z (length x.slots)) es) o.made_is
-              ∙ ap (λ z. numbers_from point.slots z) (sym (length-append x.slots other.stood.slots));
+              ∙ ap (λ z. numbers_from point.slots z)
+              (sym (length-append x.slots other.stood.slots));
           slots_good = each_append IsGoodSlot x.slots other.stood.slots r.slots o.slots;
           objects_good = each_append IsGoodObject c.objects (x.objects ++ other.stood.objects)
               v.objects
@@ -320,7 +334,8 @@ module _ (law : ExpressionsAreValid) (place : Place) (cx : Around) (Calls : List
             ),
             tt,
           );
-          all_made = append-nil (all_slots_made_by (stmts_in first.stmts) ++ all_slots_made (one_of x))
+          all_made =
+              append-nil (all_slots_made_by (stmts_in first.stmts) ++ all_slots_made (one_of x))
               ∙ numbers_joined _ _ point.slots (length first.slots) (length x.slots) f.all_made
               r.made_is
               ∙ ap (λ z. numbers_from point.slots z) (sym (length-append first.slots x.slots));

@@ -1,5 +1,6 @@
 -- A statement that stands is valid where it stands, by recursion on its tree.
-use Rattle.std.proofs.Common.{◌≡◌, ◌+◌, ℕ, List, [], ◌∷◌, Bool, true, false, Option, None, Some, refl, sym, ap, ◌∙◌, arith}
+use Rattle.std.proofs.Common.{◌≡◌, ◌+◌, ℕ, List, [], ◌∷◌, Bool, true, false, Option, None, Some}
+use Rattle.std.proofs.Common.{refl, sym, ap, ◌∙◌, arith}
 use Rattle.pawn_tree.specs.declared.name.At.{At}
 use Rattle.pawn_tree.specs.declared.variable.Storage.TheVariants as storage
 use Rattle.pawn_tree.specs.Expressions as e
@@ -11,28 +12,44 @@ use Rattle.pawn_program.specs.ValidStmts.{slots_made, slots_made_by, all_slots_m
 use Rattle.pawn_typing.specs.Typed.{Typed}
 use Rattle.pawn_typing.specs.Around.{Around}
 use Rattle.pawn_typing.specs.Tests.{sent}
-use Rattle.pawn_typing.proofs.VerdictLaws.{Holds, stands_itself, breaks_holds, holds_after, holds_both, holds_all, holds_unless}
+use Rattle.pawn_typing.proofs.VerdictLaws.{Holds, stands_itself, breaks_holds, holds_after}
+use Rattle.pawn_typing.proofs.VerdictLaws.{holds_both, holds_all, holds_unless}
 use Rattle.pawn_calls.specs.Literals.{literals}
-use Rattle.pawn_bodies.specs.Counts.{literals_of, slots_in, objects_in, slots_in_other, objects_in_other, slots_in_case, objects_in_case, slots_in_cases, objects_in_cases}
+use Rattle.pawn_bodies.specs.Counts.{literals_of, slots_in, objects_in, slots_in_other}
+use Rattle.pawn_bodies.specs.Counts.{objects_in_other, slots_in_case, objects_in_case}
+use Rattle.pawn_bodies.specs.Counts.{slots_in_cases, objects_in_cases}
 use Rattle.pawn_bodies.specs.Points.{Point, beyond, inside, behind, behind_first}
 use Rattle.pawn_bodies.specs.Stood.{Stood, nothing_stood, stood_behind, stmts_in}
 use Rattle.pawn_bodies.specs.Switches.{apart}
-use Rattle.pawn_bodies.specs.Statements.{Used, Other, CasePart, do_rule, part, returned, first_done, for_by, switch_by, in_a_loop, past, past_maybe, past_stmt, stmt, block, otherwise, cases, one_case}
+use Rattle.pawn_bodies.specs.Statements.{Used, Other, CasePart, do_rule, part, returned, first_done}
+use Rattle.pawn_bodies.specs.Statements.{for_by, switch_by, in_a_loop, past, past_maybe, past_stmt}
+use Rattle.pawn_bodies.specs.Statements.{stmt, block, otherwise, cases, one_case}
 use Rattle.pawn_bodies.proofs.StatementLaws.{MadeStood, stmt_made}
 use Rattle.pawn_sound.specs.Known.{KnowsAround}
 use Rattle.pawn_sound.specs.ValidExpressions.{ExpressionsAreValid}
 use Rattle.sound_programs.specs.Plain.{IsTag, HasTags}
 use Rattle.sound_programs.proofs.Facts.{holds_and, small_cell}
-use Rattle.sound_programs.specs.WrittenStatements.{IsWrittenFirst, MayBeWritten, IsWrittenStmt, AreWrittenStmts, IsWrittenOther, AreWrittenCases, IsWrittenCase}
+use Rattle.sound_programs.specs.WrittenStatements.{IsWrittenFirst, MayBeWritten, IsWrittenStmt}
+use Rattle.sound_programs.specs.WrittenStatements.{AreWrittenStmts, IsWrittenOther, AreWrittenCases}
+use Rattle.sound_programs.specs.WrittenStatements.{IsWrittenCase}
 use Rattle.sound_programs.specs.ValidStatements.{IsCalled, StatementsAreValid}
 use Rattle.sound_programs.proofs.Parts.{one_valid, one_made}
 use Rattle.sound_programs.proofs.SeenLaws.{seen_more}
 use Rattle.sound_programs.proofs.Expressions.{sent_valid}
-use Rattle.sound_programs.proofs.Variables.{Place, scope_at, StandsSound, nothing_sound, behind_sound, vars_holds, local_vars_holds, constant_holds}
-use Rattle.sound_programs.proofs.StatementParts.{OneIn, SubIn, UsedFine, MaybeTyped, PartFine, PartOk, CasesOk, CasesFine, part_fine, used_fine, value_fine, zero_fine, perhaps_fine, maybe_part_fine, maybe_use_fine, all_ends_plain, cased_fine, sub_in, reached_sound}
-use Rattle.sound_programs.proofs.StatementForms.{OneSound, OtherFine, simple_one, block_one, while_one, do_while_one, if_one, switch_one, for_one}
+use Rattle.sound_programs.proofs.Variables.{Place, scope_at, StandsSound, nothing_sound}
+use Rattle.sound_programs.proofs.Variables.{behind_sound, vars_holds, local_vars_holds}
+use Rattle.sound_programs.proofs.Variables.{constant_holds}
+use Rattle.sound_programs.proofs.StatementParts.{OneIn, SubIn, UsedFine, MaybeTyped, PartFine}
+use Rattle.sound_programs.proofs.StatementParts.{PartOk, CasesOk, CasesFine, part_fine, used_fine}
+use Rattle.sound_programs.proofs.StatementParts.{value_fine, zero_fine, perhaps_fine}
+use Rattle.sound_programs.proofs.StatementParts.{maybe_part_fine, maybe_use_fine, all_ends_plain}
+use Rattle.sound_programs.proofs.StatementParts.{cased_fine, sub_in, reached_sound}
+use Rattle.sound_programs.proofs.StatementForms.{OneSound, OtherFine, simple_one, block_one}
+use Rattle.sound_programs.proofs.StatementForms.{while_one, do_while_one, if_one, switch_one}
+use Rattle.sound_programs.proofs.StatementForms.{for_one}
 
-module _ (law : ExpressionsAreValid) (place : Place) (cx : Around) (Calls : List ℕ → Type 0) (known : KnowsAround place.program cx) (tags : HasTags cx) (result : ℕ) where
+module _ (law : ExpressionsAreValid) (place : Place) (cx : Around) (Calls : List ℕ → Type 0)
+    (known : KnowsAround place.program cx) (tags : HasTags cx) (result : ℕ) where
   abbrev Automata : List Automaton
   Automata = place.program.automata
 
@@ -54,7 +71,9 @@ module _ (law : ExpressionsAreValid) (place : Place) (cx : Around) (Calls : List
           slots = r.slots_good;
           objects = r.objects_good;
           behind = record {
-            path = seen_more cx Calls (scope_at place made) (slots_made_by (stmts_in x.stmts)) point.scope
+            path =
+                seen_more cx Calls (scope_at place made)
+                (slots_made_by (stmts_in x.stmts)) point.scope
                 here.path;
             low = omega (arith, here.low);
           };
@@ -92,7 +111,8 @@ module _ (law : ExpressionsAreValid) (place : Place) (cx : Around) (Calls : List
       → MayBeWritten Calls it
       → Holds (One in_loop point) (returned cx Automata result point at it)
   returned_one point in_loop at None w =
-      stands_itself _ _ (simple_one law place cx Calls known tags result in_loop point _ [] refl refl
+      stands_itself _ _ (simple_one law place cx Calls known tags result in_loop point _ []
+      refl refl
       (λ made here. (tt, λ fits. small_cell 0 (omega arith))))
   returned_one point in_loop at (Some it) w =
       holds_after (value_fine law place cx Calls known tags result Automata point at it w) (λ x u.
@@ -132,28 +152,34 @@ module _ (law : ExpressionsAreValid) (place : Place) (cx : Around) (Calls : List
       first_value point in_loop at it x u = record {
         sound = λ made here fits slots.
             let v = u.fine made here in
-            (lift point in_loop (tree.Do at it) (do_rule x) (record { slots = refl; objects = v.count })
-            (by_value in_loop point (literals it) x (code.Do x.expr) u refl refl (λ m t p. p))).sound
+            (lift point in_loop (tree.Do at it) (do_rule x)
+            (record { slots = refl; objects = v.count })
+            (by_value in_loop point (literals it) x (code.Do x.expr) u refl refl
+            (λ m t p. p))).sound
             made here fits slots;
       }
 
   -- ---- all statements
 
-  pub record IfParts (point there : Point) (in_loop : Bool) (k m i j : ℕ) (to last : Point) (parts : Stood × Other) : Type 0 where
+  pub record IfParts (point there : Point) (in_loop : Bool) (k m i j : ℕ) (to last : Point)
+      (parts : Stood × Other) : Type 0 where
     pub first : StandsSound place cx Calls in_loop there to parts.0
     pub counts : MadeStood k m parts.0
     pub second : OtherFine law place cx Calls known tags result last in_loop i j parts.1
 
-  pub record SwitchParts (there last : Point) (in_loop : Bool) (cs : tree.Cases) (i j : ℕ) (parts : List CasePart × Other) : Type 0 where
+  pub record SwitchParts (there last : Point) (in_loop : Bool) (cs : tree.Cases) (i j : ℕ)
+      (parts : List CasePart × Other) : Type 0 where
     pub first : CasesOk law place cx Calls known tags result there in_loop cs parts.0
     pub second : OtherFine law place cx Calls known tags result last in_loop i j parts.1
 
-  pub record ForParts (inner then body to : Point) (c step : Option e.Expr) (parts : (Option Typed × Option Typed) × Stood) : Type 0 where
+  pub record ForParts (inner then body to : Point) (c step : Option e.Expr)
+      (parts : (Option Typed × Option Typed) × Stood) : Type 0 where
     pub first : MaybeTyped law place cx Calls known tags result inner c parts.0.0
     pub second : MaybeTyped law place cx Calls known tags result then step parts.0.1
     pub body_sound : StandsSound place cx Calls true body to parts.1
 
-  pub record TwoMaybe (inner then : Point) (c step : Option e.Expr) (parts : Option Typed × Option Typed) : Type 0 where
+  pub record TwoMaybe (inner then : Point) (c step : Option e.Expr)
+      (parts : Option Typed × Option Typed) : Type 0 where
     pub first : MaybeTyped law place cx Calls known tags result inner c parts.0
     pub second : MaybeTyped law place cx Calls known tags result then step parts.1
 
@@ -178,8 +204,18 @@ module _ (law : ExpressionsAreValid) (place : Place) (cx : Around) (Calls : List
       (ap (λ (z : Point). z.objects) e)
       (ap (λ (z : Point). z.slots) e ∙ plus_nothing point.slots)
       (ap (λ (z : Point). z.scope) e2 ∙ ap (λ (z : Point). z.scope) e)
-      (omega (arith, ap (λ (z : Point). z.objects) e2, ap (λ (z : Point). z.objects) e, v.counts.objects))
-      (omega (arith, ap (λ (z : Point). z.slots) e2, ap (λ (z : Point). z.slots) e, v.counts.slots)))))
+      (omega (
+        arith,
+        ap (λ (z : Point). z.objects) e2,
+        ap (λ (z : Point). z.objects) e,
+        v.counts.objects,
+      ))
+      (omega (
+        arith,
+        ap (λ (z : Point). z.slots) e2,
+        ap (λ (z : Point). z.slots) e,
+        v.counts.slots,
+      )))))
     where
       plus_nothing : (m : ℕ) → m + 0 ≡ m
       plus_nothing m = omega arith
@@ -195,7 +231,8 @@ module _ (law : ExpressionsAreValid) (place : Place) (cx : Around) (Calls : List
       holds_both
       (maybe_use_fine law place cx Calls known tags result Automata inner at c parts.0.0 q.first)
       (maybe_use_fine law place cx Calls known tags result Automata then at step parts.0.1 q.second)
-      (λ x y u w. stands_itself _ _ (for_one law place cx Calls known tags result in_loop point inner
+      (λ x y u w. stands_itself _ _ (for_one law place cx Calls known tags result in_loop
+      point inner
       then body to (literals_of c) (literals_of step) first x y parts.1 p u w q.body_sound
       (ap (λ (z : Point). z.scope) e) (ap (λ (z : Point). z.objects) e)
       (omega (arith, ap (λ (z : Point). z.slots) e))
@@ -213,25 +250,30 @@ module _ (law : ExpressionsAreValid) (place : Place) (cx : Around) (Calls : List
         (λ made here. (tt, λ fits. tt))))
     stmt_holds point in_loop (tree.Do at it) w =
         lifted point in_loop (tree.Do at it)
-        (holds_after (value_fine law place cx Calls known tags result Automata point at it w) (λ x u.
+        (holds_after (value_fine law place cx Calls known tags result Automata point at it w)
+        (λ x u.
         stands_itself _ _ (by_value in_loop point (literals it) x (code.Do x.expr) u refl refl
         (λ made t p. p))))
     stmt_holds point in_loop (tree.Block at ss) w =
         lifted point in_loop (tree.Block at ss)
         (holds_after (block_holds (inside point) in_loop ss w) (λ x p.
-        stands_itself _ _ (block_one law place cx Calls known tags result in_loop point p.to x p.sound)))
+        stands_itself _ _ (block_one law place cx Calls known tags result in_loop point p.to x
+        p.sound)))
     stmt_holds point in_loop (tree.If at c s other) w =
         let there : Point = past cx Automata result point c in
         let last : Point = past_stmt cx Automata result there s in
         lifted point in_loop (tree.If at c s other)
         (holds_both (part_fine law place cx Calls known tags result Automata point c w.0)
-        (holds_both (holds_and (stmt_holds there in_loop s w.1) (stmt_made cx Automata result there in_loop s))
+        (holds_both (holds_and (stmt_holds there in_loop s w.1)
+        (stmt_made cx Automata result there in_loop s))
         (other_holds last in_loop other w.2) (λ x y p q.
-        stands_itself (IfParts point there in_loop (slots_in s) (objects_in s) (slots_in_other other)
+        stands_itself (IfParts point there in_loop (slots_in s) (objects_in s)
+        (slots_in_other other)
         (objects_in_other other) (behind cx there s) last) (x, y)
         (record { first = p.0; counts = p.1; second = q })))
         (λ x parts p q.
-        holds_after (used_fine law place cx Calls known tags result Automata point at c x p) (λ it u.
+        holds_after (used_fine law place cx Calls known tags result Automata point at c x p)
+        (λ it u.
         stands_itself _ _ (if_one law place cx Calls known tags result in_loop point there
         (behind cx there s) last (slots_in s) (objects_in s) (literals c) (slots_in_other other)
         (objects_in_other other) it parts.0 parts.1 u q.first q.counts q.second refl refl
@@ -241,17 +283,21 @@ module _ (law : ExpressionsAreValid) (place : Place) (cx : Around) (Calls : List
         lifted point in_loop (tree.While at c s)
         (holds_both (part_fine law place cx Calls known tags result Automata point c w.0)
         (stmt_holds there true s w.1) (λ x y p q.
-        holds_after (used_fine law place cx Calls known tags result Automata point at c x p) (λ it u.
+        holds_after (used_fine law place cx Calls known tags result Automata point at c x p)
+        (λ it u.
         stands_itself _ _ (while_one law place cx Calls known tags result in_loop point there
         (behind cx there s) (literals c) it y u q refl refl (omega arith)))))
     stmt_holds point in_loop (tree.DoWhile at s c) w =
         let there : Point = past_stmt cx Automata result point s in
         lifted point in_loop (tree.DoWhile at s c)
-        (holds_both (holds_and (stmt_holds point true s w.0) (stmt_made cx Automata result point true s))
+        (holds_both (holds_and (stmt_holds point true s w.0)
+        (stmt_made cx Automata result point true s))
         (part_fine law place cx Calls known tags result Automata there c w.1) (λ x y p q.
-        holds_after (used_fine law place cx Calls known tags result Automata there at c y q) (λ it u.
+        holds_after (used_fine law place cx Calls known tags result Automata there at c y q)
+        (λ it u.
         stands_itself _ _ (do_while_one law place cx Calls known tags result in_loop point there
-        (behind cx point s) (slots_in s) (objects_in s) (literals c) x it p.0 p.1 u refl refl refl))))
+        (behind cx point s) (slots_in s) (objects_in s)
+        (literals c) x it p.0 p.1 u refl refl refl))))
     stmt_holds point in_loop (tree.For at first c step s) w =
         let inner : Point = behind_first cx (inside point) at first in
         let then : Point = past_maybe cx Automata result inner c in
@@ -266,7 +312,8 @@ module _ (law : ExpressionsAreValid) (place : Place) (cx : Around) (Calls : List
         (stmt_holds body true s w.3)
         (λ x y p q. stands_itself (ForParts inner then body (behind cx body s) c step) (x, y)
         (record { first = p.first; second = p.second; body_sound = q })))
-        (λ x parts p q. for_holds in_loop point inner then body (behind cx body s) at c step x parts p
+        (λ x parts p q. for_holds in_loop point inner
+        then body (behind cx body s) at c step x parts p
         q refl refl)))
     stmt_holds point in_loop (tree.Switch at it cs other) w =
         let there : Point = past cx Automata result point it in
@@ -288,11 +335,13 @@ module _ (law : ExpressionsAreValid) (place : Place) (cx : Around) (Calls : List
     stmt_holds point in_loop (tree.Sleep at it) w =
         lifted point in_loop (tree.Sleep at it)
         (holds_after (zero_fine law place cx Calls known tags result Automata point at it w) (λ x u.
-        stands_itself _ _ (by_value in_loop point (literals_of it) x (code.Sleep x.expr x.tag) u refl
+        stands_itself _ _ (by_value in_loop point (literals_of it) x
+        (code.Sleep x.expr x.tag) u refl
         refl (λ made t p. (p, t)))))
     stmt_holds point in_loop (tree.Assert at it) w =
         lifted point in_loop (tree.Assert at it)
-        (holds_after (value_fine law place cx Calls known tags result Automata point at it w) (λ x u.
+        (holds_after (value_fine law place cx Calls known tags result Automata point at it w)
+        (λ x u.
         stands_itself _ _ (by_value in_loop point (literals it) x (code.Assert x.expr) u refl refl
         (λ made t p. p))))
     stmt_holds point in_loop (tree.Break at) w =
@@ -303,7 +352,8 @@ module _ (law : ExpressionsAreValid) (place : Place) (cx : Around) (Calls : List
         (loop_one point in_loop at code.Continue refl refl (λ made. refl))
     stmt_holds point in_loop (tree.State at c name) w =
         lifted point in_loop (tree.State at c name)
-        (holds_after (perhaps_fine law place cx Calls known tags result Automata point at c w) (λ x u.
+        (holds_after (perhaps_fine law place cx Calls known tags result Automata point at c w)
+        (λ x u.
         holds_after (reached_sound (scope_at place []) at name.automaton name.state.bytes) (λ it r.
         stands_itself _ _ (simple_one law place cx Calls known tags result in_loop point
         (code.State it.automaton it.state x.expr) x.objects refl refl (λ made here.
@@ -319,7 +369,8 @@ module _ (law : ExpressionsAreValid) (place : Place) (cx : Around) (Calls : List
           ),
         ))))))
     stmt_holds point in_loop (tree.Local at it) w =
-        local_vars_holds law place cx Calls known tags at in_loop point it.storage it.constant it.vars w
+        local_vars_holds law place cx Calls known tags at in_loop point it.storage it.constant
+        it.vars w
     stmt_holds point in_loop (tree.Constant at it) w =
         constant_holds law place cx Calls known tags at in_loop point it w
 
@@ -334,7 +385,8 @@ module _ (law : ExpressionsAreValid) (place : Place) (cx : Around) (Calls : List
         (block_holds (behind cx point s) in_loop ss w.1) (λ x more p q.
         stands_itself _ (stood_behind x more) (record {
           to = q.to;
-          sound = behind_sound law place cx Calls known tags in_loop point (behind cx point s) q.to x
+          sound =
+              behind_sound law place cx Calls known tags in_loop point (behind cx point s) q.to x
               more p q.sound;
         }))
 
@@ -353,12 +405,14 @@ module _ (law : ExpressionsAreValid) (place : Place) (cx : Around) (Calls : List
           };
         })
     other_holds point in_loop (tree.one_stmt s) w =
-        holds_after (holds_and (stmt_holds point in_loop s w) (stmt_made cx Automata result point in_loop s))
+        holds_after (holds_and (stmt_holds point in_loop s w)
+        (stmt_made cx Automata result point in_loop s))
         (λ x p. stands_itself _ _ (record {
           counts = p.1;
           sound = λ made here fits slots.
               let r : SubIn place made point.slots in_loop x =
-              sub_in law place cx Calls known tags result in_loop point (behind cx point s) x p.0 made
+              sub_in law place cx Calls known tags result in_loop point
+              (behind cx point s) x p.0 made
               point.objects point.slots here.path here.low refl refl fits slots in
               record {
                 valid = r.valid;
@@ -392,8 +446,11 @@ module _ (law : ExpressionsAreValid) (place : Place) (cx : Around) (Calls : List
 
 pub statements_valid : ExpressionsAreValid → StatementsAreValid
 statements_valid law scope cx called result point in_loop s x site written stands part =
-    let place : Place = record { program = scope.program; slots = scope.slots; params = scope.params } in
-    let r = ((stmt_holds law place cx (IsCalled called) site.around site.tags result point in_loop s written).of x stands).sound
+    let place : Place =
+    record { program = scope.program; slots = scope.slots; params = scope.params } in
+    let r =
+    ((stmt_holds law place cx (IsCalled called) site.around site.tags result point in_loop s
+    written).of x stands).sound
     scope.made (record { path = site.path; low = site.low }) part.objects part.slots in
     record {
       valid = one_valid scope in_loop x.stmts r.valid true;

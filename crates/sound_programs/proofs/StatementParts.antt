@@ -1,5 +1,6 @@
 -- The parts of statements: values, cases, and what stands behind `else`.
-use Rattle.std.proofs.Common.{◌≡◌, ◌+◌, ◌<◌, ◌≤◌, ℕ, ℤ, List, [], ◌∷◌, Bool, false, Option, None, Some, refl, sym, ap, ◌∙◌, arith}
+use Rattle.std.proofs.Common.{◌≡◌, ◌+◌, ◌<◌, ◌≤◌, ℕ, ℤ, List, [], ◌∷◌, Bool, false, Option, None}
+use Rattle.std.proofs.Common.{Some, refl, sym, ap, ◌∙◌, arith}
 use Rattle.std.specs.Prelude.{length, slice_get, position}
 use Rattle.std.specs.Str.{bytes_eq}
 use Rattle.std.proofs.lemmas.List.{length-append}
@@ -12,19 +13,27 @@ use Rattle.pawn_program.specs.Program.{Stmt, Automaton, Slot, StaticObject}
 use Rattle.pawn_program.specs.Scope as program
 use Rattle.pawn_program.specs.Valid.{numbers_from}
 use Rattle.pawn_program.specs.ValidExprs.{IsValidExpr, IsValidPerhaps}
-use Rattle.pawn_program.specs.ValidStmts.{slots_made_by, all_slots_made, all_slots_made_else, all_slots_made_in, all_slots_made_by, IsStateOf, AreRanges, IsValidStmt, IsValidElse, AreValidCases, AreValidStmts}
+use Rattle.pawn_program.specs.ValidStmts.{slots_made_by, all_slots_made, all_slots_made_else}
+use Rattle.pawn_program.specs.ValidStmts.{all_slots_made_in, all_slots_made_by, IsStateOf}
+use Rattle.pawn_program.specs.ValidStmts.{AreRanges, IsValidStmt, IsValidElse, AreValidCases}
+use Rattle.pawn_program.specs.ValidStmts.{AreValidStmts}
 use Rattle.pawn_typing.specs.Rule.{each}
 use Rattle.pawn_typing.specs.Typed.{Typed}
 use Rattle.pawn_typing.specs.Around.{Around}
-use Rattle.pawn_typing.proofs.VerdictLaws.{Holds, stands_itself, breaks_holds, holds_after, holds_both}
+use Rattle.pawn_typing.proofs.VerdictLaws.{Holds, stands_itself, breaks_holds, holds_after}
+use Rattle.pawn_typing.proofs.VerdictLaws.{holds_both}
 use Rattle.pawn_calls.specs.Literals.{literals}
 use Rattle.pawn_calls.specs.Expressions.{expr}
-use Rattle.pawn_bodies.specs.Counts.{literals_of, slots_in_case, objects_in_case, slots_in_cases, objects_in_cases}
+use Rattle.pawn_bodies.specs.Counts.{literals_of, slots_in_case, objects_in_case, slots_in_cases}
+use Rattle.pawn_bodies.specs.Counts.{objects_in_cases}
 use Rattle.pawn_bodies.specs.Points.{Point, beyond}
 use Rattle.pawn_bodies.specs.Stood.{Stood, stmts_in, one_of}
-use Rattle.pawn_bodies.specs.States.{Reached, automaton_named, state_in, state_of, reached_in, reached_by}
+use Rattle.pawn_bodies.specs.States.{Reached, automaton_named, state_in, state_of, reached_in}
+use Rattle.pawn_bodies.specs.States.{reached_by}
 use Rattle.pawn_bodies.specs.Switches.{Labels, Ends, last_part, ends, label_by, labels}
-use Rattle.pawn_bodies.specs.Statements.{Used, Maybe, absent, present, Other, Cased, CasePart, case_before, no_cased, part, maybe_part, use_at, maybe_use, value, value_or_zero, perhaps, cased}
+use Rattle.pawn_bodies.specs.Statements.{Used, Maybe, absent, present, Other, Cased, CasePart}
+use Rattle.pawn_bodies.specs.Statements.{case_before, no_cased, part, maybe_part, use_at, maybe_use}
+use Rattle.pawn_bodies.specs.Statements.{value, value_or_zero, perhaps, cased}
 use Rattle.pawn_bodies.proofs.StatementLaws.{MadeStood}
 use Rattle.pawn_sound.specs.Known.{KnowsAround}
 use Rattle.pawn_sound.specs.ValidExpressions.{ExpressionsAreValid}
@@ -39,7 +48,8 @@ use Rattle.sound_programs.specs.Sits.{Sits}
 use Rattle.sound_programs.specs.Seen.{IsSeenPath}
 use Rattle.sound_programs.specs.WrittenStatements.{MayBeConstant, IsWrittenRange, MayBeWritten}
 use Rattle.sound_programs.specs.ValidStatements.{IsGoodSlot}
-use Rattle.sound_programs.proofs.Parts.{sits_left, sits_right, sits_at, numbers_joined, one_valid, one_made}
+use Rattle.sound_programs.proofs.Parts.{sits_left, sits_right, sits_at, numbers_joined, one_valid}
+use Rattle.sound_programs.proofs.Parts.{one_made}
 use Rattle.sound_programs.proofs.SeenLaws.{plain_path}
 use Rattle.sound_programs.proofs.Expressions.{Fine, CellOf, expr_fine, cell_valid, texts_count}
 use Rattle.sound_programs.proofs.Variables.{Place, scope_at, Here, Sound, StandsSound}
@@ -81,26 +91,30 @@ module _ (scope : program.Scope) where
 
 -- ---- one statement and its parts, by what they make
 
-pub record OneIn (place : Place) (made : List ℕ) (first : ℕ) (in_loop : Bool) (stmts : List Stmt) (slots : List Slot) (objects : List StaticObject) : Type 0 where
+pub record OneIn (place : Place) (made : List ℕ) (first : ℕ) (in_loop : Bool) (stmts : List Stmt)
+    (slots : List Slot) (objects : List StaticObject) : Type 0 where
   pub valid : AreValidStmts (scope_at place made) in_loop (stmts_in stmts)
   pub all_made : all_slots_made_by (stmts_in stmts) ≡ numbers_from first (length slots)
   pub slots_good : Each IsGoodSlot slots
   pub objects_good : Each IsGoodObject objects
   pub unmade : slots_made_by (stmts_in stmts) ≡ []
 
-pub record SubIn (place : Place) (made : List ℕ) (first : ℕ) (in_loop : Bool) (x : Stood) : Type 0 where
+pub record SubIn (place : Place) (made : List ℕ) (first : ℕ) (in_loop : Bool)
+    (x : Stood) : Type 0 where
   pub valid : IsValidStmt (scope_at place made) in_loop false (one_of x)
   pub made_is : all_slots_made (one_of x) ≡ numbers_from first (length x.slots)
   pub slots : Each IsGoodSlot x.slots
   pub objects : Each IsGoodObject x.objects
 
-pub record OtherIn (place : Place) (made : List ℕ) (first : ℕ) (in_loop : Bool) (it : Other) : Type 0 where
+pub record OtherIn (place : Place) (made : List ℕ) (first : ℕ) (in_loop : Bool)
+    (it : Other) : Type 0 where
   pub valid : IsValidElse (scope_at place made) in_loop it.other
   pub made_is : all_slots_made_else it.other ≡ numbers_from first (length it.stood.slots)
   pub slots : Each IsGoodSlot it.stood.slots
   pub objects : Each IsGoodObject it.stood.objects
 
-pub record CasedIn (place : Place) (made : List ℕ) (first : ℕ) (in_loop : Bool) (it : Cased) : Type 0 where
+pub record CasedIn (place : Place) (made : List ℕ) (first : ℕ) (in_loop : Bool)
+    (it : Cased) : Type 0 where
   pub valid : AreValidCases (scope_at place made) in_loop it.cases
   pub made_is : all_slots_made_in it.cases ≡ numbers_from first (length it.stood.slots)
   pub slots : Each IsGoodSlot it.stood.slots
@@ -119,7 +133,8 @@ pub record MaybeIn (place : Place) (made : List ℕ) (before n : ℕ) (it : Mayb
   pub valid : Sits place.program.objects before it.objects
       → IsValidPerhaps (scope_at place made) it.expr
 
-module _ (law : ExpressionsAreValid) (place : Place) (cx : Around) (Calls : List ℕ → Type 0) (known : KnowsAround place.program cx) (tags : HasTags cx) (result : ℕ) where
+module _ (law : ExpressionsAreValid) (place : Place) (cx : Around) (Calls : List ℕ → Type 0)
+    (known : KnowsAround place.program cx) (tags : HasTags cx) (result : ℕ) where
   -- a sub statement at a place where so many objects and slots stand before it
   pub sub_in : (in_loop : Bool) (point to : Point) (x : Stood)
       → StandsSound place cx Calls in_loop point to x → (made : List ℕ) (o s : ℕ)
@@ -272,7 +287,8 @@ module _ (law : ExpressionsAreValid) (place : Place) (cx : Around) (Calls : List
     of = λ x stands. record {
       plain = λ made here.
           ((expr_plain IsAnyName cx tags point.scope
-          (plain_path cx Calls (scope_at place made) point.scope here.path) 0 it w).of x stands).value;
+          (plain_path cx Calls (scope_at place made) point.scope here.path) 0 it w).of x
+          stands).value;
     };
   }
 
@@ -319,7 +335,8 @@ module _ (law : ExpressionsAreValid) (place : Place) (cx : Around) (Calls : List
     labels_ok (it ∷ more) h =
         holds_both (label_ok it.first it.last h.0.first h.0.last) (labels_ok more h.1) (λ x y p q.
         stands_itself _ _ (record {
-          ranges = each_append (λ (range : ℤ × ℤ). IsCell range.0 × IsCell range.1) x.ranges y.ranges
+          ranges =
+              each_append (λ (range : ℤ × ℤ). IsCell range.0 × IsCell range.1) x.ranges y.ranges
               p.ranges q.ranges;
         }))
 
@@ -337,10 +354,12 @@ module _ (law : ExpressionsAreValid) (place : Place) (cx : Around) (Calls : List
       PartOk point in_loop x it
       × CasesOk (beyond point (objects_in_case x) (slots_in_case x)) in_loop xs more
 
-  pub record CasesFine (point : Point) (in_loop : Bool) (cs : tree.Cases) (parts : List CasePart) : Type 0 where
+  pub record CasesFine (point : Point) (in_loop : Bool) (cs : tree.Cases)
+      (parts : List CasePart) : Type 0 where
     pub ok : CasesOk point in_loop cs parts
 
-  pub record CasedFine (point : Point) (in_loop : Bool) (cs : tree.Cases) (it : Cased) : Type 0 where
+  pub record CasedFine (point : Point) (in_loop : Bool) (cs : tree.Cases)
+      (it : Cased) : Type 0 where
     pub counts : MadeStood (slots_in_cases cs) (objects_in_cases cs) it.stood
     pub sound : (made : List ℕ) → Here place cx Calls made point
         → Sits place.program.objects point.objects it.stood.objects
@@ -367,8 +386,20 @@ module _ (law : ExpressionsAreValid) (place : Place) (cx : Around) (Calls : List
       → CasedFine point in_loop (tree.then_case x xs) (case_before values it.stood rest)
   case_fine point in_loop x xs it values rest p l q = record {
     counts = record {
-      slots = omega (arith, length-append it.stood.slots rest.stood.slots, p.counts.slots, q.counts.slots);
-      objects = omega (arith, length-append it.stood.objects rest.stood.objects, p.counts.objects, q.counts.objects);
+      slots =
+          omega (
+            arith,
+            length-append it.stood.slots rest.stood.slots,
+            p.counts.slots,
+            q.counts.slots,
+          );
+      objects =
+          omega (
+            arith,
+            length-append it.stood.objects rest.stood.objects,
+            p.counts.objects,
+            q.counts.objects,
+          );
     };
     sound = λ made here fits slots.
         let a : SubIn place made point.slots in_loop it.stood =
@@ -394,7 +425,8 @@ module _ (law : ExpressionsAreValid) (place : Place) (cx : Around) (Calls : List
               ∙ ap (λ m. numbers_from point.slots m)
               (sym (length-append it.stood.slots rest.stood.slots));
           slots = each_append IsGoodSlot it.stood.slots rest.stood.slots a.slots b.slots;
-          objects = each_append IsGoodObject it.stood.objects rest.stood.objects a.objects b.objects;
+          objects =
+              each_append IsGoodObject it.stood.objects rest.stood.objects a.objects b.objects;
         };
   }
 
@@ -416,6 +448,7 @@ module _ (law : ExpressionsAreValid) (place : Place) (cx : Around) (Calls : List
   cased_fine automata at tag point in_loop (tree.then_case x xs) [] p = absurd p
   cased_fine automata at tag point in_loop (tree.then_case x xs) (it ∷ more) p =
       holds_both (labels_fine at tag point it.ends p.0.ends)
-      (cased_fine automata at tag (beyond point (objects_in_case x) (slots_in_case x)) in_loop xs more p.1)
+      (cased_fine automata at tag (beyond point (objects_in_case x) (slots_in_case x)) in_loop xs
+      more p.1)
       (λ values rest l q.
       stands_itself _ _ (case_fine point in_loop x xs it values rest p.0 l q))

@@ -1,6 +1,7 @@
 -- Variables and constants of a block: they are valid where they stand, and what stands behind them
 -- sees what their names mean.
-use Rattle.std.proofs.Common.{◌≡◌, inr, ◌+◌, ◌≤◌, ℕ, List, [], ◌∷◌, ◌++◌, Bool, false, Option, None, Some, refl, sym, ap, ◌∙◌, subst, arith}
+use Rattle.std.proofs.Common.{◌≡◌, inr, ◌+◌, ◌≤◌, ℕ, List, [], ◌∷◌, ◌++◌, Bool, false, Option, None}
+use Rattle.std.proofs.Common.{Some, refl, sym, ap, ◌∙◌, subst, arith}
 use Rattle.std.specs.Prelude.{length, slice_get}
 use Rattle.std.proofs.lemmas.List.{append_assoc, append-nil, length-append}
 use Rattle.pawn_tree.specs.declared.name.At.{At}
@@ -9,9 +10,11 @@ use Rattle.pawn_tree.specs.declared.variable.Storage.{Storage}
 use Rattle.pawn_tree.specs.declared.variable.Storage.TheVariants as storage
 use Rattle.pawn_tree.specs.Variables.{Dim, Init, Value, Braces, Var}
 use Rattle.pawn_tree.specs.Statements.{ConstantOf}
-use Rattle.pawn_program.specs.Program.{Stmt, Local, LocalArray, Slot, ScalarSlot, ArraySlot, StaticObject, Object, SlotArray, Own, Global}
+use Rattle.pawn_program.specs.Program.{Stmt, Local, LocalArray, Slot, ScalarSlot, ArraySlot}
+use Rattle.pawn_program.specs.Program.{StaticObject, Object, SlotArray, Own, Global}
 use Rattle.pawn_program.specs.Program as code
-use Rattle.pawn_program.specs.Scope.{Extent, extent, known_extent, object_extent, slot_extent, with_made, IsMade}
+use Rattle.pawn_program.specs.Scope.{Extent, extent, known_extent, object_extent, slot_extent}
+use Rattle.pawn_program.specs.Scope.{with_made, IsMade}
 use Rattle.pawn_program.specs.Scope as program
 use Rattle.pawn_program.specs.Valid.{AreSizes, numbers_from}
 use Rattle.pawn_program.specs.ValidExprs.{IsValidExpr, IsCellObject}
@@ -20,28 +23,37 @@ use Rattle.pawn_scopes.specs.Verdict.{Verdict, Stands, Breaks, after}
 use Rattle.pawn_typing.specs.Around.{Around}
 use Rattle.pawn_typing.specs.Scope.{Scope, Meaning, Entry}
 use Rattle.pawn_typing.specs.Scope as means
-use Rattle.pawn_typing.proofs.VerdictLaws.{Holds, stands_itself, breaks_holds, holds_after, holds_both, holds_all, holds_also, holds_unless}
+use Rattle.pawn_typing.proofs.VerdictLaws.{Holds, stands_itself, breaks_holds, holds_after}
+use Rattle.pawn_typing.proofs.VerdictLaws.{holds_both, holds_all, holds_also, holds_unless}
 use Rattle.pawn_values.specs.Constants as constants
 use Rattle.pawn_values.specs.FirstValues as values
 use Rattle.pawn_values.specs.Arrays.{Shaped, ArrayValue, shaped, array_value}
 use Rattle.pawn_values.specs.FirstValues.{cells_or_zeros}
 use Rattle.pawn_values.specs.Cells.{LocalValue, local_value, static_value}
 use Rattle.pawn_bodies.specs.Counts.{slots_of_storage, literals_of_init, objects_by}
-use Rattle.pawn_bodies.specs.Points.{Point, beyond, declared, tag_of, extent_of, array_means, constant_means, array_place, var_by, behind_var, behind_vars, behind_constant}
+use Rattle.pawn_bodies.specs.Points.{Point, beyond, declared, tag_of, extent_of, array_means}
+use Rattle.pawn_bodies.specs.Points.{constant_means, array_place, var_by, behind_var, behind_vars}
+use Rattle.pawn_bodies.specs.Points.{behind_constant}
 use Rattle.pawn_bodies.specs.Stood.{Stood, stood_behind, nothing_stood, stmts_in}
-use Rattle.pawn_bodies.specs.Locals.{fresh_name, new_cell, new_array, static_cell, local_cell, array_by, local_by, locals, vars_parts, local_vars, local_constant}
+use Rattle.pawn_bodies.specs.Locals.{fresh_name, new_cell, new_array, static_cell, local_cell}
+use Rattle.pawn_bodies.specs.Locals.{array_by, local_by, locals, vars_parts, local_vars}
+use Rattle.pawn_bodies.specs.Locals.{local_constant}
 use Rattle.pawn_sound.specs.Known.{KnowsAround}
 use Rattle.pawn_sound.specs.ValidExpressions.{ExpressionsAreValid}
 use Rattle.sound_programs.specs.Objects.{Each, IsGoodObject}
-use Rattle.sound_programs.specs.Written.{IsAnyName, IsWritten, IsWrittenDim, IsWrittenInit, IsWrittenVar}
+use Rattle.sound_programs.specs.Written.{IsAnyName, IsWritten, IsWrittenDim, IsWrittenInit}
+use Rattle.sound_programs.specs.Written.{IsWrittenVar}
 use Rattle.sound_programs.specs.Plain.{IsTag, HasTags}
 use Rattle.sound_programs.proofs.Facts.{small_cell, each_append}
 use Rattle.sound_programs.proofs.RuleValues.{tag_number_small}
-use Rattle.sound_programs.proofs.ArrayValues.{PlainConstant, GoodArray, GoodCells, constant_plain, array_value_good, static_good, array_object, cell_object}
+use Rattle.sound_programs.proofs.ArrayValues.{PlainConstant, GoodArray, GoodCells, constant_plain}
+use Rattle.sound_programs.proofs.ArrayValues.{array_value_good, static_good, array_object}
+use Rattle.sound_programs.proofs.ArrayValues.{cell_object}
 use Rattle.sound_programs.specs.Sits.{Sits}
 use Rattle.sound_programs.specs.Seen.{IsSeen, IsSeenPath}
 use Rattle.sound_programs.specs.ValidStatements.{IsGoodSlot}
-use Rattle.sound_programs.proofs.Parts.{made_last, sits_left, sits_right, sits_at, numbers_joined, made_append, all_made_append, valid_append}
+use Rattle.sound_programs.proofs.Parts.{made_last, sits_left, sits_right, sits_at, numbers_joined}
+use Rattle.sound_programs.proofs.Parts.{made_append, all_made_append, valid_append}
 use Rattle.sound_programs.proofs.SeenLaws.{seen_more, seen_with, plain_path}
 use Rattle.sound_programs.proofs.Expressions.{expr_fine, sent_valid, cell_valid, texts_count}
 
@@ -62,12 +74,14 @@ scope_at place made = record {
   made = made;
 }
 
-pub record Here (place : Place) (cx : Around) (Calls : List ℕ → Type 0) (made : List ℕ) (point : Point) : Type 0 where
+pub record Here (place : Place) (cx : Around) (Calls : List ℕ → Type 0) (made : List ℕ)
+    (point : Point) : Type 0 where
   pub path : IsSeenPath (scope_at place made) cx Calls point.scope
   pub low : place.params ≤ point.slots
 
 -- statements that stand, and what stands behind them
-pub record Sound (place : Place) (cx : Around) (Calls : List ℕ → Type 0) (made : List ℕ) (point : Point) (in_loop : Bool) (to : Point) (x : Stood) : Type 0 where
+pub record Sound (place : Place) (cx : Around) (Calls : List ℕ → Type 0) (made : List ℕ)
+    (point : Point) (in_loop : Bool) (to : Point) (x : Stood) : Type 0 where
   pub valid : AreValidStmts (scope_at place made) in_loop (stmts_in x.stmts)
   pub all_made : all_slots_made_by (stmts_in x.stmts) ≡ numbers_from point.slots (length x.slots)
   pub slots : Each IsGoodSlot x.slots
@@ -77,7 +91,8 @@ pub record Sound (place : Place) (cx : Around) (Calls : List ℕ → Type 0) (ma
   pub at_slots : to.slots ≡ point.slots + length x.slots
 
 -- where they sit in the program
-pub record StandsSound (place : Place) (cx : Around) (Calls : List ℕ → Type 0) (in_loop : Bool) (point to : Point) (x : Stood) : Type 0 where
+pub record StandsSound (place : Place) (cx : Around) (Calls : List ℕ → Type 0) (in_loop : Bool)
+    (point to : Point) (x : Stood) : Type 0 where
   pub sound : (made : List ℕ) → Here place cx Calls made point
       → Sits place.program.objects point.objects x.objects → Sits place.slots point.slots x.slots
       → Sound place cx Calls made point in_loop to x
@@ -108,7 +123,8 @@ cell_there : (it : Option StaticObject) (object : StaticObject) → it ≡ Some 
 cell_there it object e h =
     subst (λ (x : Option StaticObject). IsCellObject x) (sym e) h
 
-module _ (law : ExpressionsAreValid) (place : Place) (cx : Around) (Calls : List ℕ → Type 0) (known : KnowsAround place.program cx) (tags : HasTags cx) where
+module _ (law : ExpressionsAreValid) (place : Place) (cx : Around) (Calls : List ℕ → Type 0)
+    (known : KnowsAround place.program cx) (tags : HasTags cx) where
   pub tag_small : (tag : Option n.Name) → IsTag (tag_of cx tag)
   tag_small None = omega arith
   tag_small (Some tag) = tag_number_small cx tags tag.bytes
@@ -134,7 +150,8 @@ module _ (law : ExpressionsAreValid) (place : Place) (cx : Around) (Calls : List
 
   local_value_fine : (made : List ℕ) (path : Scope) → IsSeenPath (scope_at place made) cx Calls path
       → (before : ℕ) (at : At) (tag : ℕ) (init : Option Init) → IsWrittenInit Calls init
-      → Holds (LocalFine made before (literals_of_init init)) (local_value cx path before at tag init)
+      → Holds (LocalFine made before (literals_of_init init))
+      (local_value cx path before at tag init)
   local_value_fine made path seen before at tag None w =
       stands_itself _ _ (record {
         objects = tt;
@@ -168,7 +185,10 @@ module _ (law : ExpressionsAreValid) (place : Place) (cx : Around) (Calls : List
         → Sits place.slots point.slots (ScalarSlot ∷ [])
         → Sound place cx Calls made point in_loop
         (declared (beyond point (literals_of_init x.init) 1)
-        (record { name = x.name.bytes; means = means.Variable (Own point.slots) (tag_of cx x.tag) constant } ∷ []))
+        (record {
+          name = x.name.bytes;
+          means = means.Variable (Own point.slots) (tag_of cx x.tag) constant;
+        } ∷ []))
         (new_cell point it)
     new_cell_sound point constant x it made here p fits slots = record {
       valid = ((refl, here.low, slots.0, p.valid fits), tt);
@@ -184,7 +204,10 @@ module _ (law : ExpressionsAreValid) (place : Place) (cx : Around) (Calls : List
     new_cell_holds : (point : Point) (constant : Bool) (x : Var) → IsWrittenInit Calls x.init
         → Holds (StandsSound place cx Calls in_loop point
         (declared (beyond point (literals_of_init x.init) 1)
-        (record { name = x.name.bytes; means = means.Variable (Own point.slots) (tag_of cx x.tag) constant } ∷ [])))
+        (record {
+          name = x.name.bytes;
+          means = means.Variable (Own point.slots) (tag_of cx x.tag) constant;
+        } ∷ [])))
         (after (local_value cx point.scope point.objects at (tag_of cx x.tag) x.init)
         (λ it. Stands (new_cell point it)))
     new_cell_holds point constant x w =
@@ -208,7 +231,10 @@ module _ (law : ExpressionsAreValid) (place : Place) (cx : Around) (Calls : List
         (record { sizes = 1 ∷ []; constant = constant; first = it.cells } ∷ [])
         → Sound place cx Calls made point in_loop
         (declared (beyond point 1 0)
-        (record { name = x.name.bytes; means = means.Variable (Global point.objects) (tag_of cx x.tag) constant } ∷ []))
+        (record {
+          name = x.name.bytes;
+          means = means.Variable (Global point.objects) (tag_of cx x.tag) constant;
+        } ∷ []))
         (static_cell constant it)
     static_cell_sound point constant x it made here p fits = record {
       valid = tt;
@@ -221,10 +247,14 @@ module _ (law : ExpressionsAreValid) (place : Place) (cx : Around) (Calls : List
       at_slots = refl;
     }
 
-    static_cell_holds : (Named : List ℕ → Type 0) (point : Point) (constant : Bool) (x : Var) → IsWrittenInit Named x.init
+    static_cell_holds : (Named : List ℕ → Type 0) (point : Point) (constant : Bool) (x : Var)
+        → IsWrittenInit Named x.init
         → Holds (StandsSound place cx Calls in_loop point
         (declared (beyond point 1 0)
-        (record { name = x.name.bytes; means = means.Variable (Global point.objects) (tag_of cx x.tag) constant } ∷ [])))
+        (record {
+          name = x.name.bytes;
+          means = means.Variable (Global point.objects) (tag_of cx x.tag) constant;
+        } ∷ [])))
         (after (static_value cx point.scope at (tag_of cx x.tag) x.init)
         (λ it. Stands (static_cell constant it)))
     static_cell_holds Named point constant x w =
@@ -244,7 +274,8 @@ module _ (law : ExpressionsAreValid) (place : Place) (cx : Around) (Calls : List
 
     array_means_is : (a : code.Array) (tag : ℕ) (constant : Bool) (w : Verdict Shaped)
         (cells : Shaped → Verdict values.First)
-        → Holds (λ (it : ArrayValue). array_means a tag constant w ≡ means.Array a (extent_of it.sizes) tag constant)
+        → Holds (λ (it : ArrayValue). array_means a tag constant w
+        ≡ means.Array a (extent_of it.sizes) tag constant)
         (after w (λ it. after (cells it) (λ values.
         Stands (record {
           sizes = it.sizes;
@@ -328,11 +359,13 @@ module _ (law : ExpressionsAreValid) (place : Place) (cx : Around) (Calls : List
       at_slots = refl;
     }
 
-    array_holds : (Named : List ℕ → Type 0) (point : Point) (kind : Storage) (constant : Bool) (x : Var) (dim : Dim)
+    array_holds : (Named : List ℕ → Type 0) (point : Point) (kind : Storage) (constant : Bool)
+        (x : Var) (dim : Dim)
         (dims : List Dim) → IsWrittenDim dim
         → Each IsWrittenDim dims
         → IsWrittenInit Named x.init
-        → Holds (StandsSound place cx Calls in_loop point (behind_by point kind constant x (dim ∷ dims)))
+        → Holds (StandsSound place cx Calls in_loop point
+        (behind_by point kind constant x (dim ∷ dims)))
         (after (array_value cx point.scope at (tag_of cx x.tag) dim dims x.init)
         (λ it. Stands (array_by cx point kind constant it)))
     array_holds Named point kind constant x dim dims h hs w =
@@ -379,7 +412,8 @@ module _ (law : ExpressionsAreValid) (place : Place) (cx : Around) (Calls : List
     -- an object calls nothing, whatever names its first value calls
     pub static_holds : (Named : List ℕ → Type 0) (point : Point) (constant : Bool) (x : Var)
         (dims : List Dim) → Each IsWrittenDim dims → IsWrittenInit Named x.init
-        → Holds (StandsSound place cx Calls in_loop point (behind_by point storage.Static constant x dims))
+        → Holds (StandsSound place cx Calls in_loop point
+        (behind_by point storage.Static constant x dims))
         (local_by cx point at storage.Static constant x dims)
     static_holds Named point constant x [] h w = static_cell_holds Named point constant x w
     static_holds Named point constant x (dim ∷ dims) h w =
@@ -408,9 +442,11 @@ module _ (law : ExpressionsAreValid) (place : Place) (cx : Around) (Calls : List
   behind_sound in_loop point mid to y more p q = record {
     sound = λ made here fits slots.
         let a : Sound place cx Calls made point in_loop mid y =
-        p.sound made here (sits_left place.program.objects point.objects y.objects more.objects fits)
+        p.sound made here (sits_left place.program.objects point.objects y.objects
+        more.objects fits)
         (sits_left place.slots point.slots y.slots more.slots slots) in
-        let b : Sound place cx Calls (made ++ slots_made_by (stmts_in y.stmts)) mid in_loop to more =
+        let b : Sound place cx Calls (made ++ slots_made_by (stmts_in y.stmts)) mid in_loop to more
+        =
         q.sound (made ++ slots_made_by (stmts_in y.stmts)) a.behind
         (sits_at place.program.objects (point.objects + length y.objects) mid.objects more.objects
         (sym a.at_objects)
@@ -426,7 +462,8 @@ module _ (law : ExpressionsAreValid) (place : Place) (cx : Around) (Calls : List
           slots = each_append IsGoodSlot y.slots more.slots a.slots b.slots;
           objects = each_append IsGoodObject y.objects more.objects a.objects b.objects;
           behind = subst (λ (m : List ℕ). Here place cx Calls m to)
-              (append_assoc made (slots_made_by (stmts_in y.stmts)) (slots_made_by (stmts_in more.stmts))
+              (append_assoc made (slots_made_by (stmts_in y.stmts))
+              (slots_made_by (stmts_in more.stmts))
               ∙ ap (λ (m : List ℕ). made ++ m) (sym (made_append y.stmts more.stmts))) b.behind;
           at_objects = omega (
             arith,
@@ -441,10 +478,12 @@ module _ (law : ExpressionsAreValid) (place : Place) (cx : Around) (Calls : List
   module _ (at : At) (in_loop : Bool) where
     pub vars_holds : (point : Point) (kind : Storage) (constant : Bool) (vars : List Var)
         → Each (IsWrittenVar Calls) vars
-        → Holds (StandsSound place cx Calls in_loop point (behind_vars cx point at kind constant vars))
+        → Holds (StandsSound place cx Calls in_loop point
+        (behind_vars cx point at kind constant vars))
         (locals cx point at kind constant vars)
     unfolding locals behind_vars
-    vars_holds point kind constant [] w = stands_itself _ nothing_stood (nothing_sound in_loop point)
+    vars_holds point kind constant [] w =
+        stands_itself _ nothing_stood (nothing_sound in_loop point)
     vars_holds point kind constant (x ∷ xs) w =
         holds_both (holds_also (fresh_name point.scope at x.name.bytes)
         (var_holds at in_loop point kind constant x x.dims w.0.dims w.0.init))
@@ -455,10 +494,12 @@ module _ (law : ExpressionsAreValid) (place : Place) (cx : Around) (Calls : List
 
     pub local_vars_holds : (point : Point) (kind : Storage) (constant : Bool) (vars : List Var)
         → Each (IsWrittenVar Calls) vars
-        → Holds (StandsSound place cx Calls in_loop point (behind_vars cx point at kind constant vars))
+        → Holds (StandsSound place cx Calls in_loop point
+        (behind_vars cx point at kind constant vars))
         (local_vars cx point at kind constant vars)
     local_vars_holds point kind constant vars w =
-        holds_unless (vars_parts cx point at kind constant vars) (vars_holds point kind constant vars w)
+        holds_unless (vars_parts cx point at kind constant vars)
+        (vars_holds point kind constant vars w)
 
     -- ---- constants
 

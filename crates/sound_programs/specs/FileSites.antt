@@ -1,5 +1,5 @@
--- At the beginning of a file names mean what is there, tags are numbers, and bodies call natives that
--- are the program's.
+-- At the beginning of a file names mean what is there, tags are numbers, and bodies call natives
+-- that are the program's.
 use Rattle.std.specs.Prelude.{◌≤◌, ◌^◌, ℤ, List, length}
 use Rattle.pawn_tree.specs.Declarations.{Tree}
 use Rattle.pawn_program.specs.Program.{Program}
@@ -15,7 +15,8 @@ use Rattle.sound_programs.specs.ValidBodies.{IsFileSite}
 
 -- what a tree and its program are to the laws of declarations
 pub record IsFile (tree : Tree) (it : Program) : Type 0 where
-  pub site : IsFileSite it (around_of (source_of tree) tree) (source_of tree).called (source_of tree)
+  pub site : IsFileSite it (around_of (source_of tree) tree) (source_of tree).called
+      (source_of tree)
       (beginning (source_of tree))
   pub written : IsWrittenTree (IsCalled (source_of tree).called) tree
 

@@ -43,4 +43,5 @@ FunctionsAreHeaded =
     → KeepTogether source (all_stated source tree)
     → (f : ℕ) (it : Callable) (head : Head)
     → slice_get (around_of source tree).functions f ≡ Some it → it.head ≡ Some head
-    → IsHeadedBy (program_of source (all_stated source tree) marks dynamic done) done.bodies f it head
+    → IsHeadedBy (program_of source (all_stated source tree) marks dynamic done) done.bodies
+    f it head

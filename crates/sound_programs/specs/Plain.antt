@@ -2,7 +2,8 @@
 use Rattle.std.specs.Prelude.{◌≡◌, ◌<◌, ◌≤◌, ◌^◌, ℕ, ℤ, List, Option, None, Some, length, slice_get}
 use Rattle.pawn_cells.specs.Cells.{IsCell}
 use Rattle.pawn_typing.specs.Around.{Around, Callable}
-use Rattle.pawn_typing.specs.Scope.{Meaning, Constant, Variable, Array, Function, Native, Entering, Taken, Unknown, Scope, found}
+use Rattle.pawn_typing.specs.Scope.{Meaning, Constant, Variable, Array, Function, Native, Entering}
+use Rattle.pawn_typing.specs.Scope.{Taken, Unknown, Scope, found}
 use Rattle.pawn_sound.specs.Meant.{AreCells}
 
 -- the number of a tag

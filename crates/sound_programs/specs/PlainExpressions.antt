@@ -1,5 +1,5 @@
--- The value of an expression that stands is a cell, its tag a number, and its literals are the texts
--- in it, each of them a good object.
+-- The value of an expression that stands is a cell, its tag a number, and its literals are the
+-- texts in it, each of them a good object.
 use Rattle.std.specs.Prelude.{◌≡◌, ℕ}
 use Rattle.pawn_tree.specs.Expressions.{Expr}
 use Rattle.pawn_scopes.specs.Verdict.{Stands}

@@ -18,7 +18,8 @@ AreThere (Some head ∷ more) = AreThere more
 -- all heads of a tree, by two sets of heads for its calls
 pub record HasSameHeads (source : Source) (all others : List Stated) (point : Point) (tree : Tree)
     : Type 0 where
-  pub same : heads (around_with source others) point tree ≡ heads (around_with source all) point tree
+  pub same : heads (around_with source others) point tree
+      ≡ heads (around_with source all) point tree
   pub there : AreThere (heads (around_with source all) point tree)
 
 -- with whatever heads calls have besides

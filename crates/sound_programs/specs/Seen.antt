@@ -1,14 +1,16 @@
--- What names mean is there, where an expression stands: a value is a cell, a variable or an array is
--- an object, a local or a parameter, and each native that is called has a number.
+-- What names mean is there, where an expression stands: a value is a cell, a variable or an array
+-- is an object, a local or a parameter, and each native that is called has a number.
 use Rattle.std.specs.Prelude.{◌≡◌, ◌<◌, ℕ, List, Some, length, slice_get}
 use Rattle.pawn_cells.specs.Cells.{IsCell}
-use Rattle.pawn_program.specs.Program.{Scalar, Global, Own, Through, Element, Char, Object, SlotArray, ParamArray, Row, From, ScalarSlot, ReferenceSlot}
+use Rattle.pawn_program.specs.Program.{Scalar, Global, Own, Through, Element, Char, Object}
+use Rattle.pawn_program.specs.Program.{SlotArray, ParamArray, Row, From, ScalarSlot, ReferenceSlot}
 use Rattle.pawn_program.specs.Program as code
 use Rattle.pawn_program.specs.Scope.{Extent, extent, IsMade, IsInSight}
 use Rattle.pawn_program.specs.Scope as program
 use Rattle.pawn_program.specs.ValidExprs.{IsCellObject}
 use Rattle.pawn_typing.specs.Around.{Around, Callable}
-use Rattle.pawn_typing.specs.Scope.{Meaning, Constant, Variable, Array, Function, Native, Entering, Taken, Unknown, Scope, found}
+use Rattle.pawn_typing.specs.Scope.{Meaning, Constant, Variable, Array, Function, Native, Entering}
+use Rattle.pawn_typing.specs.Scope.{Taken, Unknown, Scope, found}
 use Rattle.pawn_sound.specs.Meant.{AreCells}
 use Rattle.sound_programs.specs.Plain.{IsTag}
 

@@ -1,6 +1,9 @@
 -- The objects that the texts in an expression are, in token order. A text under `sizeof` is none.
 use Rattle.std.specs.Prelude.{List, [], ◌∷◌, ◌++◌}
-use Rattle.pawn_tree.specs.Expressions.{Expr, Number, Text, Name, Paren, Sizeof, Tagof, Prefix, Tagged, Postfix, Index, Character, Binary, Chain, Choice, Assign, Call, Arg, Value, Default, Named, Args, no_args, then_arg, Link, Compare, Links, no_links, then_link}
+use Rattle.pawn_tree.specs.Expressions.{Expr, Number, Text, Name, Paren, Sizeof, Tagof, Prefix}
+use Rattle.pawn_tree.specs.Expressions.{Tagged, Postfix, Index, Character, Binary, Chain, Choice}
+use Rattle.pawn_tree.specs.Expressions.{Assign, Call, Arg, Value, Default, Named, Args, no_args}
+use Rattle.pawn_tree.specs.Expressions.{then_arg, Link, Compare, Links, no_links, then_link}
 use Rattle.pawn_program.specs.Program.{StaticObject}
 use Rattle.pawn_typing.specs.Texts.{text_object}
 

@@ -1,5 +1,5 @@
--- A statement that stands is valid where it stands, and makes its slots in order: each a good one, as
--- its objects are.
+-- A statement that stands is valid where it stands, and makes its slots in order: each a good one,
+-- as its objects are.
 use Rattle.std.specs.Prelude.{◌≡◌, ◌≤◌, ℕ, List, Bool, true, length}
 use Rattle.name_table.specs.Among.{is_among}
 use Rattle.pawn_tree.specs.Statements.{Stmt}

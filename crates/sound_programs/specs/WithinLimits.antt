@@ -1,5 +1,5 @@
--- A program that stands is within the limits, its objects are valid, and so is each body for its own
--- parameters.
+-- A program that stands is within the limits, its objects are valid, and so is each body for its
+-- own parameters.
 use Rattle.std.specs.Prelude.{◌≤◌, ◌^◌, ℤ, List, length}
 use Rattle.pawn_cells.specs.declared.place.Place.{Place}
 use Rattle.pawn_tree.specs.Declarations.{Tree}

@@ -2,7 +2,10 @@
 -- names that are called are among some.
 use Rattle.std.specs.Prelude.{◌≡◌, ◌<◌, ℕ, List, Option, None, Some}
 use Rattle.pawn_cells.specs.Cells.{IsCell}
-use Rattle.pawn_tree.specs.Expressions.{Expr, Number, Text, Name, Paren, Sizeof, Tagof, Prefix, Tagged, Postfix, Index, Character, Binary, Chain, Choice, Assign, Call, Arg, Value, Default, Named, Args, no_args, then_arg, Link, Compare, Links, no_links, then_link}
+use Rattle.pawn_tree.specs.Expressions.{Expr, Number, Text, Name, Paren, Sizeof, Tagof, Prefix}
+use Rattle.pawn_tree.specs.Expressions.{Tagged, Postfix, Index, Character, Binary, Chain, Choice}
+use Rattle.pawn_tree.specs.Expressions.{Assign, Call, Arg, Value, Default, Named, Args, no_args}
+use Rattle.pawn_tree.specs.Expressions.{then_arg, Link, Compare, Links, no_links, then_link}
 use Rattle.pawn_sound.specs.Placed.{IsShort}
 use Rattle.pawn_tree.specs.Variables as v
 use Rattle.pawn_tree.specs.Variables.{Dim, Init, Braces, Inits, no_inits, then_init, Var}

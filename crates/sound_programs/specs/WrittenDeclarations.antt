@@ -1,6 +1,7 @@
 -- Declarations as a source has them.
 use Rattle.std.specs.Prelude.{ℕ, List}
-use Rattle.pawn_tree.specs.Declarations.{Decl, Variables, Constant, Enum, Native, Forward, Function, Tree, Item, Param, Plain, Rest, Head}
+use Rattle.pawn_tree.specs.Declarations.{Decl, Variables, Constant, Enum, Native, Forward, Function}
+use Rattle.pawn_tree.specs.Declarations.{Tree, Item, Param, Plain, Rest, Head}
 use Rattle.sound_programs.specs.Objects.{Each}
 use Rattle.sound_programs.specs.Written.{IsAnyName, IsWrittenDim, IsWrittenVar}
 use Rattle.sound_programs.specs.WrittenStatements.{IsConstant, MayBeConstant, IsWrittenStmt}

@@ -2,7 +2,11 @@
 use Rattle.std.specs.Prelude.{ℕ, List, Option, None, Some}
 use Rattle.pawn_tree.specs.Expressions.{Expr}
 use Rattle.pawn_tree.specs.Variables.{Var}
-use Rattle.pawn_tree.specs.Statements.{Range, Stmt, Empty, Do, Block, If, While, DoWhile, For, Switch, Return, Exit, Sleep, Assert, Break, Continue, State, Local, Constant, First, Nothing, New, Value, Stmts, no_stmts, then_stmt, MaybeStmt, no_stmt, one_stmt, Case, Values, Cases, no_cases, then_case}
+use Rattle.pawn_tree.specs.Statements.{Range, Stmt, Empty, Do, Block, If, While, DoWhile, For}
+use Rattle.pawn_tree.specs.Statements.{Switch, Return, Exit, Sleep, Assert, Break, Continue, State}
+use Rattle.pawn_tree.specs.Statements.{Local, Constant, First, Nothing, New, Value, Stmts, no_stmts}
+use Rattle.pawn_tree.specs.Statements.{then_stmt, MaybeStmt, no_stmt, one_stmt, Case, Values, Cases}
+use Rattle.pawn_tree.specs.Statements.{no_cases, then_case}
 use Rattle.sound_programs.specs.Objects.{Each}
 use Rattle.sound_programs.specs.Written.{IsAnyName, IsWritten, IsWrittenVar}
 

@@ -1,5 +1,6 @@
 -- What can be called in a source that stands is a function of its program.
-use Rattle.std.proofs.Common.{◌≡◌, ◌+◌, ℕ, ℤ, List, [], ◌∷◌, Option, None, Some, refl, sym, ap, ◌∙◌, subst}
+use Rattle.std.proofs.Common.{◌≡◌, ◌+◌, ℕ, ℤ, List, [], ◌∷◌, Option, None, Some, refl, sym, ap, ◌∙◌}
+use Rattle.std.proofs.Common.{subst}
 use Rattle.std.specs.Prelude.{map, flat_map, replicate, slice_get}
 use Rattle.std.specs.Option.{option_and_then}
 use Rattle.pawn_tree.specs.Declarations.{Tree}
@@ -17,7 +18,8 @@ use Rattle.pawn_automata.specs.Keys.{Key, Operates}
 use Rattle.pawn_automata.specs.Groups.{Group, written}
 use Rattle.pawn_typed.specs.Headings.{headings, heading_key}
 use Rattle.pawn_typed.specs.Paths.{heads}
-use Rattle.pawn_typed.specs.Sources.{Source, Stated, source_of, stated, first_head, group_head, all_stated, around_of, without_heads, beginning}
+use Rattle.pawn_typed.specs.Sources.{Source, Stated, source_of, stated, first_head, group_head}
+use Rattle.pawn_typed.specs.Sources.{all_stated, around_of, without_heads, beginning}
 use Rattle.pawn_typed.specs.Functions.{group_faults}
 use Rattle.pawn_typed.specs.Declarations.{Done, declarations}
 use Rattle.pawn_typed.specs.Programs.{program_of}
@@ -38,9 +40,12 @@ use Rattle.sound_programs.proofs.SiteLaws.{tags_are, beginning_seen}
 use Rattle.sound_programs.specs.WithinLimits.{ProgramsAreWithinLimits}
 use Rattle.sound_programs.proofs.LimitLaws.{typed_done}
 use Rattle.sound_sources.specs.KnownAround.{AroundsAreKnown, TypedProgramsAreWithinLimits}
-use Rattle.sound_sources.proofs.KnownHeads.{IsFine, IsThere, heads_fine, heads_there, natives_defaults, function_defaults}
+use Rattle.sound_sources.proofs.KnownHeads.{IsFine, IsThere, heads_fine, heads_there}
+use Rattle.sound_sources.proofs.KnownHeads.{natives_defaults, function_defaults}
 use Rattle.sound_sources.proofs.OperatorHeads.{IsOperatorHead, operator_head, same_operates}
-use Rattle.sound_sources.proofs.OperatorGroups.{IsFound, HasKey, of_key, operator_at, callable, callable_at, all_keyed, key_headed, key_found, operator_belongs}
+use Rattle.sound_sources.proofs.OperatorGroups.{IsFound, HasKey, of_key, operator_at, callable}
+use Rattle.sound_sources.proofs.OperatorGroups.{callable_at, all_keyed, key_headed, key_found}
+use Rattle.sound_sources.proofs.OperatorGroups.{operator_belongs}
 
 -- ---- no function breaks what its bodies keep together
 
@@ -60,7 +65,8 @@ record FirstOperator (source : Source) (all : List Stated) (it : Signature) : Ty
   pub has : stated_there.head ≡ Some head
   pub shape : IsOperatorHead source.tags stated_there.heading.head it
 
-module _ (source : Source) (all : List Stated) (there : Each (λ (st : Stated). IsThere st.head) all) where
+module _ (source : Source) (all : List Stated)
+    (there : Each (λ (st : Stated). IsThere st.head) all) where
   with_head : (it : Signature) (st : Stated) → first_head source all (Operates it) ≡ Some st
       → (o : Option Head) → st.head ≡ o → IsThere o → FirstOperator source all it
   with_head it st e None h t = absurd t
@@ -88,7 +94,8 @@ module _ (source : Source) (all : List Stated) (there : Each (λ (st : Stated). 
 
 -- ---- all that is known
 
-module _ (law : FunctionsAreHeaded) (tree : Tree) (it : Done) (marks : List Mark) (dynamic : ℤ) (written_is : IsWrittenTree IsAnyName tree) where
+module _ (law : FunctionsAreHeaded) (tree : Tree) (it : Done) (marks : List Mark) (dynamic : ℤ)
+    (written_is : IsWrittenTree IsAnyName tree) where
   abbrev of_tree : Source
   of_tree = source_of tree
 
@@ -98,7 +105,9 @@ module _ (law : FunctionsAreHeaded) (tree : Tree) (it : Done) (marks : List Mark
   abbrev made : Program
   made = program_of of_tree all_of marks dynamic it
 
-  module _ (stands : declarations of_tree (around_of of_tree tree) (beginning of_tree) tree ≡ Stands it) (together : KeepTogether of_tree all_of) (fine : Each IsFine all_of) (there : Each (λ (st : Stated). IsThere st.head) all_of) where
+  module _ (stands : declarations of_tree (around_of of_tree tree) (beginning of_tree) tree
+      ≡ Stands it) (together : KeepTogether of_tree all_of) (fine : Each IsFine all_of)
+      (there : Each (λ (st : Stated). IsThere st.head) all_of) where
     first_of : (sign : Signature)
         → HasKey of_tree.tags of_tree.fallback (written tree) (Operates sign)
         → FirstOperator of_tree all_of sign

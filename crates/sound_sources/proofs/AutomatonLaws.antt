@@ -1,5 +1,6 @@
 -- Each classifier's automaton is known, with a state where it names one.
-use Rattle.std.proofs.Common.{◌≡◌, ◌≤◌, ℕ, List, [], ◌∷◌, ◌++◌, Bool, true, false, Option, None, Some, refl, sym, ap, ◌∙◌, subst, cond, arith}
+use Rattle.std.proofs.Common.{◌≡◌, ◌≤◌, ℕ, List, [], ◌∷◌, ◌++◌, Bool, true, false, Option, None}
+use Rattle.std.proofs.Common.{Some, refl, sym, ap, ◌∙◌, subst, cond, arith}
 use Rattle.std.specs.Prelude.{if◌then◌else◌, length, find}
 use Rattle.std.specs.Str.{bytes_eq}
 use Rattle.std.proofs.lemmas.List.{length-append}
@@ -10,7 +11,9 @@ use Rattle.pawn_program.specs.Program.{Automaton}
 use Rattle.pawn_automata.specs.Clauses.{Item, items, items_behind, named_or}
 use Rattle.pawn_automata.specs.Keys.{Key, Enters}
 use Rattle.pawn_automata.specs.Groups.{Written, Group, number_of, body_key}
-use Rattle.pawn_automata.specs.Automata.{with_state, with_item, with_items, has_other, with_fallback, with_classifier, classified, entered, automata}
+use Rattle.pawn_automata.specs.Automata.{with_state, with_item, with_items, has_other}
+use Rattle.pawn_automata.specs.Automata.{with_fallback, with_classifier, classified, entered}
+use Rattle.pawn_automata.specs.Automata.{automata}
 use Rattle.sound_programs.specs.Objects.{Each}
 
 -- ---- names among automata
@@ -67,7 +70,8 @@ has_later : (x : Automaton) (more : List Automaton) (name : List ℕ) (least : �
     → is_named name x ≡ false → Has more name least → Has (x ∷ more) name least
 has_later x more name least e h = record { it = h.it; found = rw e h.found; enough = h.enough }
 
-own_by : (x : Automaton) (more : List Automaton) (name : List ℕ) (state : Option (List ℕ)) (b : Bool)
+own_by : (x : Automaton) (more : List Automaton) (name : List ℕ) (state : Option (List ℕ))
+    (b : Bool)
     → is_named name x ≡ b → Has (with_item more name state) name (least_of state)
     → Has (joined b x more name state) name (least_of state)
 own_by x more name state true e ih =

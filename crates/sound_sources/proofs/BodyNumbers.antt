@@ -1,30 +1,30 @@
 -- Bodies that stand beside those that are written: each has the number of its function.
-use Rattle.std.proofs.Common.{◌≡◌, ℕ, suc, List, [], ◌∷◌, ◌++◌, Bool, true, false, Option, refl, sym, ap, ◌∙◌, subst, cond}
+use Rattle.std.proofs.Common.{◌≡◌, ℕ, suc, List, [], ◌∷◌, ◌++◌, Bool, true, false, Option, refl}
+use Rattle.std.proofs.Common.{sym, ap, ◌∙◌, subst, cond}
 use Rattle.std.specs.Prelude.{length, nat_eq, unwrap_or}
 use Rattle.pawn_tree.specs.declared.name.At.{At}
-use Rattle.pawn_tree.specs.declared.name.Name as n
-use Rattle.pawn_tree.specs.declared.variable.Storage.TheVariants as storage
-use Rattle.pawn_tree.specs.Variables.{Var}
-use Rattle.pawn_tree.specs.Statements.{ConstantOf}
 use Rattle.pawn_tree.specs.Declarations as tree
-use Rattle.pawn_tree.specs.Declarations.{Decl, Variables, Constant, Enum, Native, Forward, Function, Tree, FunctionOf}
+use Rattle.pawn_tree.specs.Declarations.{Variables, Constant, Enum, Native, Forward, Function, Tree}
+use Rattle.pawn_tree.specs.Declarations.{FunctionOf}
 use Rattle.pawn_program.specs.Program.{Slot}
 use Rattle.pawn_scopes.specs.Verdict.{Verdict, Stands, Breaks}
 use Rattle.pawn_typing.specs.Around.{Around}
 use Rattle.pawn_typing.specs.Scope.{Scope}
-use Rattle.pawn_typing.proofs.VerdictLaws.{Holds, stands_itself, breaks_holds, holds_after, holds_both, holds_all, holds_also, holds_unless}
-use Rattle.pawn_values.specs.Constants as constants
-use Rattle.pawn_bodies.specs.Points.{Point, tag_of, behind_var}
-use Rattle.pawn_heads.specs.Params.{Headed, head_parts, head_rule, params}
-use Rattle.pawn_automata.specs.Keys.{Key, Named, Operates, Enters, Misshapen}
+use Rattle.pawn_typing.proofs.VerdictLaws.{Holds, stands_itself, breaks_holds, holds_after}
+use Rattle.pawn_typing.proofs.VerdictLaws.{holds_both, holds_all, holds_also, holds_unless}
+use Rattle.pawn_bodies.specs.Points.{Point}
+use Rattle.pawn_heads.specs.Params.{Headed, head_rule, params}
 use Rattle.pawn_automata.specs.Groups.{Written, written, body_key, number_of}
-use Rattle.pawn_typed.specs.Enums.{enum_rule}
 use Rattle.pawn_typed.specs.Paths.{behind_decl}
 use Rattle.pawn_typed.specs.Sources.{Source}
-use Rattle.pawn_typed.specs.Declarations.{Bodied, Done, nothing_done, shaped_key, native_name, function_key, function_with, function_rule, bare_head, globals, constant_rule, decl_rule, declarations}
+use Rattle.pawn_typed.specs.Declarations.{Bodied, Done, nothing_done, shaped_key, native_name}
+use Rattle.pawn_typed.specs.Declarations.{function_key, function_with, function_rule, declarations}
+use Rattle.sound_programs.proofs.BareLaws.{globals_bare, bare_bare, constant_bare, enum_bare}
+use Rattle.sound_programs.proofs.BareLaws.{shaped_is}
 use Rattle.sound_programs.proofs.Facts.{if_holds}
 use Rattle.pawn_typed.specs.Programs.{bodies_of}
-use Rattle.sound_programs.proofs.GroupLaws.{IsShaped, AreShaped, HavePlaces, place, number_is, keys_of}
+use Rattle.sound_programs.proofs.GroupLaws.{IsShaped, AreShaped, HavePlaces, place, number_is}
+use Rattle.sound_programs.proofs.GroupLaws.{keys_of}
 use Rattle.sound_sources.proofs.GroupBodies.{placed_at}
 
 module _ (source : Source) where
@@ -41,9 +41,6 @@ module _ (source : Source) where
   Fits (it ∷ more) [] = ⊥
   Fits (it ∷ more) (b ∷ rest) = FitsBody it b × Fits more rest
 
-  record IsBare (d : Done) : Type 0 where
-    pub bodies : d.bodies ≡ []
-
   none_slots : (cx : Around) (at : At) (scope : Scope) (ps : List tree.Param) (h : Headed) → ps ≡ []
       → params cx at scope 0 ps ≡ Stands h → h.slots ≡ []
   unfolding params
@@ -55,40 +52,6 @@ module _ (source : Source) where
   none_slots cx at scope (p ∷ ps) h e s = absurd (let no : ⊥ = cc in no)
 
   module _ (cx : Around) where
-    globals_bare : (point : Point) (at : At) (constant : Bool) (vars : List Var)
-        → Holds IsBare (globals source cx point at constant vars)
-    unfolding globals
-    globals_bare point at constant [] = stands_itself _ nothing_done (record { bodies = refl })
-    globals_bare point at constant (x ∷ xs) =
-        holds_both (holds_all _)
-        (globals_bare (behind_var cx point at storage.Static constant x) at constant xs)
-        (λ y more t q. stands_itself _ _ (record { bodies = q.bodies }))
-
-    bare_bare : (point : Point) (at : At) (head : tree.Head)
-        → Holds IsBare (bare_head source cx point at head)
-    bare_bare point at head =
-        holds_unless (head_parts cx at point.scope head)
-        (holds_after (holds_all (head_rule cx at point.scope head))
-        (λ x t. stands_itself _ _ (record { bodies = refl })))
-
-    constant_bare : (point : Point) (at : At) (of : ConstantOf)
-        → Holds IsBare (constant_rule source cx point at of)
-    constant_bare point at of =
-        holds_after (holds_all (constants.constant cx point.scope at of.value))
-        (λ c t. stands_itself _ _ (record { bodies = refl }))
-
-    enum_bare : (point : Point) (at : At) (name : Option n.Name) (items : List tree.Item)
-        → Holds IsBare (decl_rule source cx point (Enum at name items))
-    enum_bare point at name items =
-        holds_after (holds_all (enum_rule cx point.scope at (tag_of cx name) items))
-        (λ c t. stands_itself _ _ (record { bodies = refl }))
-
-    shaped_is : (at : At) (key : Key) → Holds (λ k. IsShaped key) (shaped_key at key)
-    shaped_is at (Named name) = stands_itself _ _ tt
-    shaped_is at (Operates it) = stands_itself _ _ tt
-    shaped_is at (Enters name) = stands_itself _ _ tt
-    shaped_is at Misshapen = breaks_holds _ _
-
     record OneBody (of : FunctionOf) (d : Done) : Type 0 where
       pub body : Bodied
       pub is : d.bodies ≡ body ∷ []
@@ -130,23 +93,23 @@ module _ (source : Source) where
     unfolding declarations
     bodies_fit point [] = stands_itself _ nothing_done tt
     bodies_fit point (Variables at of ∷ more) =
-        holds_both (holds_unless _ (globals_bare point at of.constant of.vars))
+        holds_both (holds_unless _ (globals_bare source cx point at of.constant of.vars))
         (bodies_fit (behind_decl cx point (Variables at of)) more)
         (λ x y p q. stands_itself _ _ (joined _ x.bodies y.bodies p.bodies q))
     bodies_fit point (Constant at of ∷ more) =
-        holds_both (constant_bare point at of)
+        holds_both (constant_bare source cx point at of)
         (bodies_fit (behind_decl cx point (Constant at of)) more)
         (λ x y p q. stands_itself _ _ (joined _ x.bodies y.bodies p.bodies q))
     bodies_fit point (Enum at name items ∷ more) =
-        holds_both (enum_bare point at name items)
+        holds_both (enum_bare source cx point at name items)
         (bodies_fit (behind_decl cx point (Enum at name items)) more)
         (λ x y p q. stands_itself _ _ (joined _ x.bodies y.bodies p.bodies q))
     bodies_fit point (Native at head ∷ more) =
-        holds_both (holds_also (native_name at head.name) (bare_bare point at head))
+        holds_both (holds_also (native_name at head.name) (bare_bare source cx point at head))
         (bodies_fit (behind_decl cx point (Native at head)) more)
         (λ x y p q. stands_itself _ _ (joined _ x.bodies y.bodies p.bodies q))
     bodies_fit point (Forward at is_public head ∷ more) =
-        holds_both (holds_also (shaped_key at _) (bare_bare point at head))
+        holds_both (holds_also (shaped_key at _) (bare_bare source cx point at head))
         (bodies_fit (behind_decl cx point (Forward at is_public head)) more)
         (λ x y p q. stands_itself _ _ (joined _ x.bodies y.bodies p.bodies q))
     bodies_fit point (Function at of ∷ more) =

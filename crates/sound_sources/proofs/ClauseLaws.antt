@@ -1,6 +1,9 @@
 -- The clauses of a function: its automaton, its cases, and how many bodies it has without them.
-use Rattle.std.proofs.Common.{◌≡◌, ◌⊎◌, inl, inr, ◌+◌, ◌<◌, ◌≤◌, ℕ, zero, suc, List, [], ◌∷◌, Bool, true, false, not, ◌||◌, Option, None, Some, refl, ap, ◌∙◌, cond, arith}
-use Rattle.std.specs.Prelude.{length, map, filter_map, find, slice_get, position, nat_lt, nat_eq, unwrap_or}
+use Rattle.std.proofs.Common.{◌≡◌, ◌⊎◌, inl, inr, ◌+◌, ◌<◌, ◌≤◌, ℕ, zero, suc, List, [], ◌∷◌, Bool}
+use Rattle.std.proofs.Common.{true, false, not, ◌||◌, Option, None, Some, refl, ap, ◌∙◌, cond}
+use Rattle.std.proofs.Common.{arith}
+use Rattle.std.specs.Prelude.{length, map, filter_map, find, slice_get, position, nat_lt, nat_eq}
+use Rattle.std.specs.Prelude.{unwrap_or}
 use Rattle.std.specs.List.{position_or_len, list_any}
 use Rattle.std.proofs.lemmas.Bool.{eqb-true, lt-ltb}
 use Rattle.pawn_tree.specs.declared.name.StateName.{StateName}
@@ -14,7 +17,8 @@ use Rattle.pawn_automata.specs.Keys.{same_key}
 use Rattle.pawn_automata.specs.Groups.{Written, Group, body_key}
 use Rattle.pawn_automata.specs.Automata.{names_states, names_some, has_other}
 use Rattle.pawn_typed.specs.Headings.{is_enters}
-use Rattle.pawn_typed.specs.Functions.{fault, fault_if, has_classifier, clause_of, bare_faults, bodies_faults}
+use Rattle.pawn_typed.specs.Functions.{fault, fault_if, has_classifier, clause_of, bare_faults}
+use Rattle.pawn_typed.specs.Functions.{bodies_faults}
 use Rattle.sound_programs.specs.Objects.{Each}
 use Rattle.sound_programs.proofs.Facts.{each_append}
 use Rattle.sound_programs.proofs.GroupLaws.{place}
@@ -116,7 +120,8 @@ pub record NamesNone (bodies : List Written) : Type 0 where
   pub none : name_some bodies ≡ false
   pub cases : (n : ℕ) → cases_from n (clauses_in bodies) ≡ []
 
-module _ (names : List (List ℕ)) (fallback : List ℕ) (groups : List Group) (all : List Automaton) where
+module _ (names : List (List ℕ)) (fallback : List ℕ) (groups : List Group)
+    (all : List Automaton) where
   names_by : (it : Written) (more : List Written) (states : Option (List StateName))
       → Serves names fallback groups all (body_key names fallback it) states
       → NamesOne all more ⊎ NamesNone more
@@ -222,7 +227,9 @@ alone_by group x y more (Some s) t e h = let never : ⊥ = cc in never
 alone_by group x y more None (Some t) e h = let never : ⊥ = cc in never
 alone_by group x y more None None e h =
     let first = append_none (bare_faults group [] (with_states x None)) _ h in
-    let second = append_none (bare_faults group (with_states x None ∷ []) (with_states y None)) _ first.1 in
+    let second =
+    append_none (bare_faults group (with_states x None ∷ []) (with_states y None)) _
+    first.1 in
     let twice = append_none
     (fault_if (list_any has_classifier group.bodies || is_enters group.key) MIXED_AUTOMATA y.at)
     (fault REDEFINED y.at ∷ []) second.0 in

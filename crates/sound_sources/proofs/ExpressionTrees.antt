@@ -1,5 +1,6 @@
 -- Expressions that tokens spell are as a source has them.
-use Rattle.std.proofs.Common.{◌≡◌, ◌+◌, ◌<◌, ◌≤◌, ◌^◌, ℕ, pos, List, [], ◌∷◌, Bool, true, false, Option, None, Some, refl, arith}
+use Rattle.std.proofs.Common.{◌≡◌, ◌+◌, ◌<◌, ◌≤◌, ◌^◌, ℕ, pos, List, [], ◌∷◌, Bool, true, false}
+use Rattle.std.proofs.Common.{Option, None, Some, refl, arith}
 use Rattle.std.specs.Prelude.{length, map, slice_get}
 use Rattle.std.proofs.lemmas.List.{length-append, length-map}
 use Rattle.pawn_cells.specs.Cells.{IsCell}
@@ -8,12 +9,15 @@ use Rattle.pawn_token.specs.declared.kind.TokenKind.TheVariants as kind
 use Rattle.pawn_lex.specs.declared.token.Token.{Token}
 use Rattle.pawn_tree.specs.declared.expression.SizeofOperand.{SizeofOperand}
 use Rattle.pawn_tree.specs.Expressions.{Expr, Arg, Link, args, links}
-use Rattle.pawn_grammar.specs.Tokens.{value_of, value_at, value, spelling_of, spelling_at, spelling, is_packed}
+use Rattle.pawn_grammar.specs.Tokens.{value_of, value_at, value, spelling_of, spelling_at, spelling}
+use Rattle.pawn_grammar.specs.Tokens.{is_packed}
 use Rattle.pawn_grammar.specs.Expressions as g
-use Rattle.pawn_grammar.specs.Expressions.{IsSizeof, IsExpr, IsLink, AreLinks, IsValue, IsNamed, AreArgs, AreMore, Whole}
+use Rattle.pawn_grammar.specs.Expressions.{IsSizeof, IsExpr, IsLink, AreLinks, IsValue, IsNamed}
+use Rattle.pawn_grammar.specs.Expressions.{AreArgs, AreMore, Whole}
 use Rattle.pawn_typing.specs.Texts.{packed_cells, text_cells}
 use Rattle.pawn_sound.specs.Placed.{IsShort}
-use Rattle.sound_programs.specs.Written.{IsAnyName, IsWritten, AreWrittenLinks, IsWrittenLink, AreWrittenArgs, IsWrittenArg}
+use Rattle.sound_programs.specs.Written.{IsAnyName, IsWritten, AreWrittenLinks, IsWrittenLink}
+use Rattle.sound_programs.specs.Written.{AreWrittenArgs, IsWrittenArg}
 use Rattle.sound_programs.proofs.Facts.{small_cell}
 use Rattle.sound_sources.specs.WrittenTrees.{IsSmallText, IsSmallKind, AreSmallTokens}
 
@@ -58,7 +62,12 @@ cells_count : (packed : Bool) (bytes : List ℕ) → length bytes < 2 ^ 30
     → IsCell (pos (length (text_cells packed bytes)))
 cells_count true bytes h = small_cell _ (omega (arith, h, packed_count bytes))
 cells_count false bytes h =
-    small_cell _ (omega (arith, h, length-append (map pos bytes) (pos 0 ∷ []), length-map bytes pos))
+    small_cell _ (omega (
+      arith,
+      h,
+      length-append (map pos bytes) (pos 0 ∷ []),
+      length-map bytes pos,
+    ))
 
 module _ (ts : List Token) (small : AreSmallTokens ts) where
   value_is : (i : ℕ) → IsCell (value ts i)
@@ -71,7 +80,8 @@ module _ (ts : List Token) (small : AreSmallTokens ts) where
 
   sizeof_is : {x : SizeofOperand} {i j : ℕ} → IsSizeof ts x i j → IsShort x
   sizeof_is (g.sizeof_name a b c) = tt
-  sizeof_is (g.sizeof_text {i = i} a b c) = cells_count (is_packed ts i) (spelling ts i) (text_is i).short
+  sizeof_is (g.sizeof_text {i = i} a b c) =
+      cells_count (is_packed ts i) (spelling ts i) (text_is i).short
 
   -- ---- expressions
 

@@ -1,12 +1,14 @@
 -- Each function has a head that its calls see, and its bodies have the parameters of that.
-use Rattle.std.proofs.Common.{◌≡◌, ◌+◌, ◌≤◌, ℕ, zero, suc, List, [], ◌∷◌, Bool, true, false, Option, None, Some, refl, ap, ◌∙◌, cond, arith}
+use Rattle.std.proofs.Common.{◌≡◌, ◌+◌, ◌≤◌, ℕ, zero, suc, List, [], ◌∷◌, Bool, true, false, Option}
+use Rattle.std.proofs.Common.{None, Some, refl, ap, ◌∙◌, cond, arith}
 use Rattle.std.specs.Prelude.{length, find, slice_get, nat_eq}
 use Rattle.std.specs.Option.{option_and_then}
 use Rattle.std.proofs.lemmas.Bool.{eqb-true}
 use Rattle.pawn_tree.specs.declared.name.At.{At}
 use Rattle.pawn_tree.specs.declared.name.StateName.{StateName}
 use Rattle.pawn_tree.specs.Declarations as tree
-use Rattle.pawn_tree.specs.Declarations.{Decl, Variables, Constant, Enum, Native, Forward, Function, Tree}
+use Rattle.pawn_tree.specs.Declarations.{Decl, Variables, Constant, Enum, Native, Forward, Function}
+use Rattle.pawn_tree.specs.Declarations.{Tree}
 use Rattle.pawn_typing.specs.Around.{Around, Head}
 use Rattle.pawn_bodies.specs.Points.{Point}
 use Rattle.pawn_automata.specs.Keys.{Key, same_key}
@@ -14,7 +16,8 @@ use Rattle.pawn_automata.specs.Groups.{Written, Group, written, body_key}
 use Rattle.pawn_heads.specs.Params.{head_rule, head_of}
 use Rattle.pawn_typed.specs.Headings.{Role, IsNative, IsForward, IsBody, headings, belongs}
 use Rattle.pawn_typed.specs.Paths.{behind_decl, heads}
-use Rattle.pawn_typed.specs.Sources.{Source, Stated, stated, first_head, group_head, group_tag, functions_from}
+use Rattle.pawn_typed.specs.Sources.{Source, Stated, stated, first_head, group_head, group_tag}
+use Rattle.pawn_typed.specs.Sources.{functions_from}
 use Rattle.pawn_typed.specs.Declarations.{Bodied}
 use Rattle.pawn_typed.specs.Programs.{bodies_of}
 use Rattle.sound_programs.specs.Objects.{Each}
@@ -68,15 +71,18 @@ module _ (source : Source) where
       none_written cx key (behind_decl cx point (Enum at name items)) more e
   none_written cx key point (Native at head ∷ more) e =
       none_written cx key point more
-      (not_found (belongs_at key) (stated_head at IsNative false head None (head_of (head_rule cx at point.scope head)))
+      (not_found (belongs_at key) (stated_head at IsNative false head None
+      (head_of (head_rule cx at point.scope head)))
       (stated source (headings more) (heads cx point more)) e).1
   none_written cx key point (Forward at is_public head ∷ more) e =
       none_written cx key point more
-      (not_found (belongs_at key) (stated_head at IsForward is_public head None (head_of (head_rule cx at point.scope head)))
+      (not_found (belongs_at key) (stated_head at IsForward is_public head None
+      (head_of (head_rule cx at point.scope head)))
       (stated source (headings more) (heads cx point more)) e).1
   none_written cx key point (Function at of ∷ more) e =
       let r = not_found (belongs_at key)
-      (stated_head at IsBody of.is_public of.head of.states (head_of (head_rule cx at point.scope of.head)))
+      (stated_head at IsBody of.is_public of.head of.states
+      (head_of (head_rule cx at point.scope of.head)))
       (stated source (headings more) (heads cx (behind_decl cx point (Function at of)) more)) e in
       (r.0, none_written cx key (behind_decl cx point (Function at of)) more r.1)
 
@@ -119,7 +125,8 @@ module _ (source : Source) where
 
   pub has_head : (cx : Around) (point : Point) (tree : Tree) (bodies : List Bodied)
       → IsReady source (written tree) bodies
-      → Each (λ (st : Stated). IsThere st.head) (stated source (headings tree) (heads cx point tree))
+      → Each (λ (st : Stated). IsThere st.head)
+      (stated source (headings tree) (heads cx point tree))
       → (f : ℕ) (group : Group) → slice_get source.groups f ≡ Some group
       → HasHead (stated source (headings tree) (heads cx point tree)) group
   has_head cx point tree bodies ready there f group at =
@@ -130,12 +137,17 @@ module _ (source : Source) where
 
       by : (o : Option Stated) → first_head source all group.key ≡ o → HasHead all group
       by None e =
-          let none = none_placed f group at (written tree) (none_written cx group.key point tree e) in
-          let some = each_at (λ (g : Group). 1 ≤ length g.bodies) source.groups f group ready.have at in
+          let none =
+          none_placed f group at (written tree) (none_written cx group.key point tree e) in
+          let some =
+          each_at (λ (g : Group). 1 ≤ length g.bodies) source.groups f group
+          ready.have at in
           let same = ap length (owned source (written tree) bodies ready f group at ∙ none) in
           absurd (omega (arith, some, same))
       by (Some st) e =
-          let first = find_each (belongs_at group.key) (λ (s : Stated). IsThere s.head) all st there e in
+          let first =
+          find_each (belongs_at group.key)
+          (λ (s : Stated). IsThere s.head) all st there e in
           let h = there_head st.head first.0 (λ head. st.head ≡ Some head) (λ head is. is) in
           record {
             head = h.0;
@@ -147,7 +159,11 @@ module _ (source : Source) where
   pub callable_at : (all : List Stated) (n : ℕ) (groups : List Group) (f : ℕ) (group : Group)
       → slice_get groups f ≡ Some group
       → slice_get (functions_from source n all groups) f
-      ≡ Some (record { number = n + f; tag = group_tag source all group; head = group_head source all group })
+      ≡ Some (record {
+        number = n + f;
+        tag = group_tag source all group;
+        head = group_head source all group;
+      })
   unfolding functions_from
   callable_at all n [] f group e = absurd (let never : ⊥ = cc in never)
   callable_at all n (x ∷ more) zero group e =

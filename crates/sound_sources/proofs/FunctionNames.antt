@@ -1,5 +1,6 @@
 -- The names of public functions are those of bodies.
-use Rattle.std.proofs.Common.{◌≡◌, ◌+◌, ◌≤◌, ℕ, List, [], ◌∷◌, ◌++◌, Bool, true, false, refl, sym, ap, subst, arith}
+use Rattle.std.proofs.Common.{◌≡◌, ◌+◌, ◌≤◌, ℕ, List, [], ◌∷◌, ◌++◌, Bool, true, false, refl, sym}
+use Rattle.std.proofs.Common.{ap, subst, arith}
 use Rattle.std.specs.Prelude.{if◌then◌else◌, length, map}
 use Rattle.pawn_tree.specs.Declarations.{Variables, Constant, Enum, Native, Forward, Function, Tree}
 use Rattle.pawn_program.specs.Program.{Public}
@@ -8,7 +9,8 @@ use Rattle.pawn_automata.specs.Keys.{Key, same_key}
 use Rattle.pawn_automata.specs.Groups.{Written, Group, written, with_body, body_key, grouped}
 use Rattle.pawn_typed.specs.Headings.{public_name}
 use Rattle.pawn_typed.specs.Sources.{Source}
-use Rattle.pawn_typed.specs.Publics.{not_above, inserted, sorted, group_name, is_public, publics_from, publics}
+use Rattle.pawn_typed.specs.Publics.{not_above, inserted, sorted, group_name, is_public}
+use Rattle.pawn_typed.specs.Publics.{publics_from, publics}
 use Rattle.sound_programs.specs.Objects.{Each}
 use Rattle.sound_sources.proofs.Sizes.{sizes}
 use Rattle.sound_sources.proofs.TreeCounts.{IsNamedDecl}
@@ -27,7 +29,8 @@ group_sizes [] = 0
 group_sizes (group ∷ more) = length (group_name group.bodies) + group_sizes more
 
 name_more : (bodies : List Written) (it : Written)
-    → length (group_name (bodies ++ it ∷ [])) ≤ length (group_name bodies) + length (written_name it)
+    → length (group_name (bodies ++ it ∷ [])) ≤ length (group_name bodies)
+    + length (written_name it)
 name_more [] it = omega arith
 name_more (x ∷ more) it = omega arith
 

@@ -1,12 +1,14 @@
 -- The bodies of a function are those whose keys have its place.
-use Rattle.std.proofs.Common.{◌≡◌, ◌+◌, ◌<◌, ℕ, zero, suc, List, [], ◌∷◌, ◌++◌, Bool, true, false, Option, None, Some, refl, sym, ap, ◌∙◌, subst, cond, arith}
+use Rattle.std.proofs.Common.{◌≡◌, ◌+◌, ◌<◌, ℕ, zero, suc, List, [], ◌∷◌, ◌++◌, Bool, true, false}
+use Rattle.std.proofs.Common.{Option, None, Some, refl, sym, ap, ◌∙◌, subst, cond, arith}
 use Rattle.std.specs.Prelude.{if◌then◌else◌, length, filter, slice_get, nat_eq}
 use Rattle.std.proofs.lemmas.Bool.{eq-eqb, eqb-true}
 use Rattle.std.proofs.lemmas.List.{append-nil, append_assoc}
 use Rattle.std.proofs.lemmas.List.Elements.{filter-append}
 use Rattle.pawn_automata.specs.Keys.{Key, same_key}
 use Rattle.pawn_automata.specs.Groups.{Written, Group, with_body, grouped, body_key}
-use Rattle.sound_programs.proofs.GroupLaws.{IsShaped, AreShaped, HavePlaces, key_itself, place, place_kept, own_place, no_fewer, keys_of}
+use Rattle.sound_programs.proofs.GroupLaws.{IsShaped, AreShaped, HavePlaces, key_itself, place}
+use Rattle.sound_programs.proofs.GroupLaws.{place_kept, own_place, no_fewer, keys_of}
 
 -- ---- numbers
 

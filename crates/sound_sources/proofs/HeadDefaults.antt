@@ -1,6 +1,7 @@
 -- The defaults of heads are cells, and none is an array's; a head whose parameters all take plain
 -- values has that many slots of one cell.
-use Rattle.std.proofs.Common.{◌≡◌, ◌+◌, ℕ, zero, suc, List, [], ◌∷◌, ◌++◌, Bool, true, false, Option, None, Some, refl, sym, ap, ap₂, ◌∙◌, subst}
+use Rattle.std.proofs.Common.{◌≡◌, ◌+◌, ℕ, zero, suc, List, [], ◌∷◌, ◌++◌, Bool, true, false}
+use Rattle.std.proofs.Common.{Option, None, Some, refl, sym, ap, ap₂, ◌∙◌, subst}
 use Rattle.std.specs.Prelude.{length, map, replicate, option_map}
 use Rattle.std.specs.Option.{option_and_then}
 use Rattle.std.proofs.lemmas.List.{map-append}
@@ -10,7 +11,9 @@ use Rattle.pawn_tree.specs.declared.expression.SizeofOperand.{SizeofOperand}
 use Rattle.pawn_tree.specs.declared.expression.SizeofOperand.TheVariants as sized
 use Rattle.pawn_tree.specs.declared.expression.TagofOperand.{TagofOperand}
 use Rattle.pawn_tree.specs.declared.expression.TagofOperand.TheVariants as tagged
-use Rattle.pawn_tree.specs.Expressions.{Expr, Number, Text, Name, Paren, Sizeof, Tagof, Prefix, Tagged, Postfix, Index, Character, Binary, Chain, Choice, Assign, Call}
+use Rattle.pawn_tree.specs.Expressions.{Expr, Number, Text, Name, Paren, Sizeof, Tagof, Prefix}
+use Rattle.pawn_tree.specs.Expressions.{Tagged, Postfix, Index, Character, Binary, Chain, Choice}
+use Rattle.pawn_tree.specs.Expressions.{Assign, Call}
 use Rattle.pawn_tree.specs.Variables.{Dim}
 use Rattle.pawn_tree.specs.Declarations as tree
 use Rattle.pawn_program.specs.Program.{Slot, ScalarSlot}
@@ -19,10 +22,14 @@ use Rattle.pawn_scopes.specs.Overloads.{plain_tag, plain_tags, with_tag}
 use Rattle.pawn_typing.specs.Typed.{Typed}
 use Rattle.pawn_typing.specs.Around.{Around, Default, SizeOf, TagOf, Param, Head}
 use Rattle.pawn_typing.specs.Scope.{Scope, found, with_entries}
-use Rattle.pawn_typing.proofs.VerdictLaws.{Holds, stands_itself, holds_after, holds_both, holds_all, holds_also}
+use Rattle.pawn_typing.proofs.VerdictLaws.{Holds, stands_itself, holds_after, holds_both, holds_all}
+use Rattle.pawn_typing.proofs.VerdictLaws.{holds_also}
 use Rattle.pawn_bodies.specs.Locals.{fresh_name}
-use Rattle.pawn_heads.specs.ParamDefaults.{Defaulted, param_meant, size_default, tag_default, computed, default_by, default_rule}
-use Rattle.pawn_heads.specs.Params.{Headed, no_params, tag_numbers, reach, param_entries, no_default, no_reference, param_of, param_rule, headed_behind, params, head_of}
+use Rattle.pawn_heads.specs.ParamDefaults.{Defaulted, param_meant, size_default, tag_default}
+use Rattle.pawn_heads.specs.ParamDefaults.{computed, default_by, default_rule}
+use Rattle.pawn_heads.specs.Params.{Headed, no_params, tag_numbers, reach, param_entries}
+use Rattle.pawn_heads.specs.Params.{no_default, no_reference, param_of, param_rule, headed_behind}
+use Rattle.pawn_heads.specs.Params.{params, head_of}
 use Rattle.pawn_sound.specs.Known.{slot_of, IsDefault, HasDefaults}
 use Rattle.sound_programs.specs.Objects.{Each}
 use Rattle.sound_programs.specs.Written.{IsAnyName}

@@ -13,7 +13,8 @@ use Rattle.sound_programs.proofs.Facts.{each_all, each_append}
 
 -- some bytes, up to four, none of them 0
 abbrev is_plain : List ℕ → Bool
-is_plain bytes = (nat_lt 0 (length bytes) && nat_le (length bytes) 4) && list_all (λ b. nat_lt 0 b) bytes
+is_plain bytes =
+    (nat_lt 0 (length bytes) && nat_le (length bytes) 4) && list_all (λ b. nat_lt 0 b) bytes
 
 sign_plain : (c : Sign) → is_plain (sign_spelling c) ≡ true
 unfolding sign_spelling
@@ -75,7 +76,8 @@ no_zeros (b ∷ more) e =
 pub operator_name : (c : Sign) → IsName (codes "operator" ++ sign_spelling c)
 operator_name c =
     let parts = and_parts _ (list_all (λ b. nat_lt 0 b) (sign_spelling c)) (sign_plain c) in
-    let range = and_parts (nat_lt 0 (length (sign_spelling c))) (nat_le (length (sign_spelling c)) 4)
+    let range =
+    and_parts (nat_lt 0 (length (sign_spelling c))) (nat_le (length (sign_spelling c)) 4)
     parts.0 in
     let low = ltb-true 0 (length (sign_spelling c)) range.0 in
     let high = leb-true (length (sign_spelling c)) 4 range.1 in

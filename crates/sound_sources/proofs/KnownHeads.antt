@@ -1,6 +1,7 @@
 -- What is known of each head of a source: its defaults, and its slots where all of its parameters
 -- take plain values.
-use Rattle.std.proofs.Common.{◌≡◌, ◌+◌, ℕ, zero, suc, List, [], ◌∷◌, Bool, true, false, Option, None, Some, refl, ap, ◌∙◌, cond}
+use Rattle.std.proofs.Common.{◌≡◌, ◌+◌, ℕ, zero, suc, List, [], ◌∷◌, Bool, true, false, Option}
+use Rattle.std.proofs.Common.{None, Some, refl, ap, ◌∙◌, cond}
 use Rattle.std.specs.Prelude.{if◌then◌else◌, length, map, filter, replicate, slice_get}
 use Rattle.std.specs.Option.{option_and_then}
 use Rattle.pawn_tree.specs.declared.name.At.{At}
@@ -16,7 +17,9 @@ use Rattle.pawn_automata.specs.Keys.{Key}
 use Rattle.pawn_automata.specs.Groups.{Group}
 use Rattle.pawn_typed.specs.Headings.{headings, belongs}
 use Rattle.pawn_typed.specs.Paths.{behind_decl, heads}
-use Rattle.pawn_typed.specs.Sources.{Source, Stated, stated, is_native, is_called, first_head, group_head, group_tag, stated_tag, functions_from, natives_from, natives_in}
+use Rattle.pawn_typed.specs.Sources.{Source, Stated, stated, is_native, is_called, first_head}
+use Rattle.pawn_typed.specs.Sources.{group_head, group_tag, stated_tag, functions_from}
+use Rattle.pawn_typed.specs.Sources.{natives_from, natives_in}
 use Rattle.pawn_sound.specs.Known.{slot_of, HasDefaults}
 use Rattle.sound_programs.specs.Objects.{Each}
 use Rattle.sound_programs.specs.Written.{IsAnyName}
@@ -25,7 +28,8 @@ use Rattle.sound_programs.specs.WrittenDeclarations.{IsWrittenHead, IsWrittenTre
 use Rattle.sound_programs.specs.SameHeads.{AreThere}
 use Rattle.sound_programs.proofs.FirstHeads.{find_each}
 use Rattle.sound_sources.proofs.PlainPaths.{plain_inside, decl_plain}
-use Rattle.sound_sources.proofs.HeadDefaults.{FineHead, params_fit, head_defaults, head_plain, own_written}
+use Rattle.sound_sources.proofs.HeadDefaults.{FineHead, params_fit, head_defaults, head_plain}
+use Rattle.sound_sources.proofs.HeadDefaults.{own_written}
 
 -- a head as it is written, beside what calls see of it
 pub record IsFineHead (written : tree.Head) (o : Option Head) : Type 0 where

@@ -1,11 +1,15 @@
 -- The bytes of literals are bytes, and are no more than those that they are read from.
-use Rattle.std.proofs.Common.{◌≡◌, ◌<◌, ◌≤◌, ℕ, List, [], ◌∷◌, ◌++◌, Bool, true, false, Option, Some, None, Result, Ok, Err, cond, length, refl, ap, subst, nat_lt, ◌==◌, ◌||◌, arith}
+use Rattle.std.proofs.Common.{◌≡◌, ◌<◌, ◌≤◌, ℕ, List, [], ◌∷◌, ◌++◌, Bool, true, false, Option}
+use Rattle.std.proofs.Common.{Some, None, Result, Ok, Err, cond, length, refl, ap, subst, nat_lt}
+use Rattle.std.proofs.Common.{◌==◌, ◌||◌, arith}
 use Rattle.std.specs.Str.Parse.{digits_value}
 use Rattle.std.proofs.lemmas.Bool.{ltb-true}
 use Rattle.pawn_token.specs.declared.class.Class.{Class}
 use Rattle.pawn_token.specs.declared.class.Class.TheVariants as class
 use Rattle.pawn_token.specs.Class.{is_digit, run, after}
-use Rattle.pawn_token.specs.Literal.{Next, Closes, Is, Fails, named, past_semicolon, byte_of, coded, unnamed, named_or, escape, next, Spells, character_at, begun_by, ended_by}
+use Rattle.pawn_token.specs.Literal.{Next, Closes, Is, Fails, named, past_semicolon, byte_of, coded}
+use Rattle.pawn_token.specs.Literal.{unnamed, named_or, escape, next, Spells, character_at}
+use Rattle.pawn_token.specs.Literal.{begun_by, ended_by}
 use Rattle.pawn_token.proofs.LiteralLaws.{IsEnd, next_ends, next_shorter}
 use Rattle.sound_programs.specs.Written.{AreBytes}
 

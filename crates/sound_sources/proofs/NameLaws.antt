@@ -12,7 +12,8 @@ use Rattle.pawn_scopes.specs.TreeMarks.{tree_marks}
 use Rattle.pawn_automata.specs.Groups.{written}
 use Rattle.pawn_typed.specs.Headings.{headings, public_name}
 use Rattle.pawn_typed.specs.Paths.{heads}
-use Rattle.pawn_typed.specs.Sources.{Source, Stated, name_of, source_of, all_stated, around_of, without_heads, beginning}
+use Rattle.pawn_typed.specs.Sources.{Source, Stated, name_of, source_of, all_stated, around_of}
+use Rattle.pawn_typed.specs.Sources.{without_heads, beginning}
 use Rattle.pawn_typed.specs.Programs.{natives, program_of}
 use Rattle.pawn_typed.specs.Publics.{publics}
 use Rattle.pawn_typed.specs.Whole.{Checked}
@@ -23,8 +24,10 @@ use Rattle.sound_sources.specs.NamedPrograms.{ProgramsHaveNames, TagsAreFew}
 use Rattle.sound_sources.proofs.Sizes.{upto_all, sizes_append, sizes_sum}
 use Rattle.sound_sources.proofs.TreeCounts.{own_sizes, tree_counts, tree_named}
 use Rattle.sound_sources.proofs.TagNames.{tag_names, tags_size, tags_named, tags_count}
-use Rattle.sound_sources.proofs.FunctionNames.{written_sizes, public_names, publics_named, publics_size}
-use Rattle.sound_sources.proofs.NativeNames.{heading_sizes, all_plain, headings_named, natives_size, natives_named}
+use Rattle.sound_sources.proofs.FunctionNames.{written_sizes, public_names, publics_named}
+use Rattle.sound_sources.proofs.FunctionNames.{publics_size}
+use Rattle.sound_sources.proofs.NativeNames.{heading_sizes, all_plain, headings_named, natives_size}
+use Rattle.sound_sources.proofs.NativeNames.{natives_named}
 
 name_size : (name : HeadName) → length (name_of name) ≤ length (public_name name)
 name_size (called.Name name) = omega arith
@@ -49,20 +52,25 @@ programs_named sorted_law ts tree dynamic program warnings tokens parse typed_is
     let all : List Stated = all_stated source tree in
     let it : Program = program_of source all (tree_marks tree) dynamic d.it in
     let same : program ≡ it = ap (λ (x : Checked). x.program) d.is in
-    let sorted = subst (λ (p : Program). IsSorted (slice_cmp nat_cmp) (map (λ (item : Public). item.name) p.publics))
+    let sorted =
+    subst (λ (p : Program). IsSorted (slice_cmp nat_cmp)
+    (map (λ (item : Public). item.name) p.publics))
     same (sorted_law tree dynamic program warnings typed_is) in
     let counts = tree_counts ts tokens.named tree parse.spells in
     let named = tree_named ts tokens.named tree parse.spells in
-    let plain = (all_plain source (around_of source tree) (beginning source) tree).of d.it d.stands in
+    let plain =
+    (all_plain source (around_of source tree) (beginning source) tree).of d.it d.stands in
     let own = heads (without_heads source) (beginning source) tree in
     let native_names = natives_named source (headings tree) own (headings_named tree plain named) in
     let public_are = publics_named source source.tags source.fallback tree refl named in
     let tag_are = tags_named (tree_marks tree) 0 source.tags counts.named in
     subst HasNames (sym same) (record {
       names = each_all IsName (names_of it)
-          (each_append IsName (natives source all) (public_names (publics source) ++ tag_names it.tags)
+          (each_append IsName (natives source all)
+          (public_names (publics source) ++ tag_names it.tags)
           native_names
-          (each_append IsName (public_names (publics source)) (tag_names it.tags) public_are tag_are));
+          (each_append IsName (public_names (publics source))
+          (tag_names it.tags) public_are tag_are));
       bytes = omega (
         arith,
         sizes_sum (names_of it),

@@ -1,19 +1,25 @@
 -- The names of natives are those of their heads.
-use Rattle.std.proofs.Common.{◌+◌, ◌≤◌, ℕ, List, [], ◌∷◌, Bool, true, false, Option, None, cond, arith}
+use Rattle.std.proofs.Common.{◌+◌, ◌≤◌, ℕ, List, [], ◌∷◌, Bool, true, false, Option, None, cond}
+use Rattle.std.proofs.Common.{arith}
 use Rattle.std.specs.Prelude.{length, map, filter}
 use Rattle.pawn_tree.specs.declared.name.At.{At}
 use Rattle.pawn_tree.specs.declared.declaration.HeadName.{HeadName}
 use Rattle.pawn_tree.specs.declared.declaration.HeadName.TheVariants as called
-use Rattle.pawn_tree.specs.Declarations.{Decl, Variables, Constant, Enum, Native, Forward, Function, Tree}
+use Rattle.pawn_tree.specs.Declarations.{Decl, Variables, Constant, Enum, Native, Forward, Function}
+use Rattle.pawn_tree.specs.Declarations.{Tree}
 use Rattle.pawn_program.specs.Names.{IsName}
 use Rattle.pawn_typing.specs.Around as typed
 use Rattle.pawn_typing.specs.Around.{Around}
-use Rattle.pawn_typing.proofs.VerdictLaws.{Holds, stands_itself, breaks_holds, holds_after, holds_both, holds_all}
+use Rattle.pawn_typing.proofs.VerdictLaws.{Holds, stands_itself, breaks_holds, holds_after}
+use Rattle.pawn_typing.proofs.VerdictLaws.{holds_both, holds_all}
 use Rattle.pawn_bodies.specs.Points.{Point}
-use Rattle.pawn_typed.specs.Headings.{Heading, Role, IsNative, IsForward, IsBody, headings, public_name}
+use Rattle.pawn_typed.specs.Headings.{Heading, Role, IsNative, IsForward, IsBody, headings}
+use Rattle.pawn_typed.specs.Headings.{public_name}
 use Rattle.pawn_typed.specs.Paths.{behind_decl}
-use Rattle.pawn_typed.specs.Sources.{Source, Stated, is_native, name_of, is_called, stated, natives_in}
-use Rattle.pawn_typed.specs.Declarations.{nothing_done, native_name, bare_head, decl_rule, declarations}
+use Rattle.pawn_typed.specs.Sources.{Source, Stated, is_native, name_of, is_called, stated}
+use Rattle.pawn_typed.specs.Sources.{natives_in}
+use Rattle.pawn_typed.specs.Declarations.{nothing_done, native_name, bare_head, decl_rule}
+use Rattle.pawn_typed.specs.Declarations.{declarations}
 use Rattle.pawn_typed.specs.Programs.{natives}
 use Rattle.sound_programs.specs.Objects.{Each}
 use Rattle.sound_sources.proofs.Sizes.{sizes}
@@ -95,7 +101,8 @@ name_at it = name_of it.heading.head.name
 
 module _ (source : Source) where
   abbrev names_of : List Stated → List (List ℕ)
-  names_of all = map name_at (filter (λ (it : Stated). is_called source it.heading) (natives_in source all))
+  names_of all =
+      map name_at (filter (λ (it : Stated). is_called source it.heading) (natives_in source all))
 
   called_size : (it : Stated) (rest : List Stated) (b : Bool) (total : ℕ)
       → sizes (map name_at (filter (λ (st : Stated). is_called source st.heading) rest)) ≤ total
@@ -106,7 +113,8 @@ module _ (source : Source) where
   called_size it rest false total h = omega (arith, h)
 
   one_size : (it : Stated) (rest : List Stated) (total : ℕ)
-      → sizes (names_of rest) ≤ total → sizes (names_of (it ∷ rest)) ≤ size_by it.heading.role it.heading + total
+      → sizes (names_of rest) ≤ total
+      → sizes (names_of (it ∷ rest)) ≤ size_by it.heading.role it.heading + total
   one_size it rest total h = by it.heading.role
     where
       by : (r : Role)
@@ -124,12 +132,14 @@ module _ (source : Source) where
       one_size (record { heading = it; head = None }) (stated source more []) (heading_sizes more)
       (natives_by more [])
   natives_by (it ∷ more) (head ∷ heads) =
-      one_size (record { heading = it; head = head }) (stated source more heads) (heading_sizes more)
+      one_size (record { heading = it; head = head }) (stated source more heads)
+      (heading_sizes more)
       (natives_by more heads)
 
   called_named : (it : Stated) (rest : List Stated) (b : Bool) → IsName (name_at it)
       → Each IsName (map name_at (filter (λ (st : Stated). is_called source st.heading) rest))
-      → Each IsName (map name_at (cond b (it ∷ filter (λ (st : Stated). is_called source st.heading) rest)
+      → Each IsName (map name_at (cond b
+      (it ∷ filter (λ (st : Stated). is_called source st.heading) rest)
       (filter (λ (st : Stated). is_called source st.heading) rest)))
   called_named it rest true h k = (h, k)
   called_named it rest false h k = k

@@ -1,5 +1,6 @@
 -- The numbers of tags and functions in a program are small enough.
-use Rattle.std.proofs.Common.{◌≡◌, ◌+◌, ◌<◌, ◌≤◌, ◌≤ℤ◌, ℕ, suc, ℤ, pos, List, [], ◌∷◌, Bool, true, false, Option, None, Some, refl, ap, arith}
+use Rattle.std.proofs.Common.{◌≡◌, ◌+◌, ◌<◌, ◌≤◌, ◌≤ℤ◌, ℕ, suc, ℤ, pos, List, [], ◌∷◌, Bool, true}
+use Rattle.std.proofs.Common.{false, Option, None, Some, refl, ap, arith}
 use Rattle.std.specs.Prelude.{if◌then◌else◌, length, nat_eq, not, ◌&&◌, int_le, IfSome}
 use Rattle.std.proofs.lemmas.Bool.{and_parts}
 use Rattle.std.proofs.lemmas.Float.{T_from_true}
@@ -12,7 +13,8 @@ use Rattle.pawn_scopes.specs.Mark.{Mark}
 use Rattle.pawn_automata.specs.Keys.{Key, same_key}
 use Rattle.pawn_automata.specs.Groups.{Group, number_of}
 use Rattle.pawn_typed.specs.Sources.{Source, Stated}
-use Rattle.pawn_typed.specs.Publics.{not_above, inserted, sorted, group_name, is_public, publics_from, publics}
+use Rattle.pawn_typed.specs.Publics.{not_above, inserted, sorted, group_name, is_public}
+use Rattle.pawn_typed.specs.Publics.{publics_from, publics}
 use Rattle.pawn_typed.specs.Declarations.{Bodied}
 use Rattle.pawn_typed.specs.Programs.{mentions, tags_from, functions_from}
 use Rattle.pawn_typed.specs.Whole.{whole_fault, dynamic_faults}
@@ -27,7 +29,8 @@ tag_by P tag rest true b h k = k
 tag_by P tag rest false true h k = (h, k)
 tag_by P tag rest false false h k = k
 
-pub tags_small : (marks : List Mark) (n limit : ℕ) (names : List (List ℕ)) → n + length names ≤ limit
+pub tags_small : (marks : List Mark) (n limit : ℕ) (names : List (List ℕ))
+    → n + length names ≤ limit
     → Each (λ (tag : Tag). tag.number < limit) (tags_from marks n names)
 unfolding tags_from
 tags_small marks n limit [] h = tt

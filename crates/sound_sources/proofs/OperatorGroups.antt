@@ -1,5 +1,7 @@
 -- A user operator is a function with a body whose key it is, so that its calls see a head.
-use Rattle.std.proofs.Common.{◌≡◌, ◌⊎◌, inl, inr, ◌+◌, ℕ, zero, suc, List, [], ◌∷◌, ◌++◌, Bool, true, false, Option, None, Some, refl, sym, ap, ◌∙◌, subst, cond, arith}
+use Rattle.std.proofs.Common.{◌≡◌, ◌⊎◌, inl, inr, ◌+◌, ℕ, zero, suc, List, [], ◌∷◌, ◌++◌, Bool}
+use Rattle.std.proofs.Common.{true, false, Option, None, Some, refl, sym, ap, ◌∙◌, subst, cond}
+use Rattle.std.proofs.Common.{arith}
 use Rattle.std.specs.Prelude.{if◌then◌else◌, find, slice_get}
 use Rattle.std.specs.Map.{lookup}
 use Rattle.pawn_tree.specs.Declarations.{Variables, Constant, Enum, Native, Forward, Function, Tree}
@@ -9,9 +11,12 @@ use Rattle.pawn_tags.specs.Overloads.{Overloads, is_for}
 use Rattle.pawn_tags.proofs.OverloadLaws.{only_for}
 use Rattle.pawn_typing.specs.Around.{Callable, Head}
 use Rattle.pawn_automata.specs.Keys.{Key, Named, Operates, Enters, Misshapen, same_key}
-use Rattle.pawn_automata.specs.Groups.{Written, Group, written, with_body, body_key, grouped, is_entry}
-use Rattle.pawn_typed.specs.Headings.{Heading, Role, IsNative, IsForward, IsBody, headings, heading_key, is_enters, is_of, belongs}
-use Rattle.pawn_typed.specs.Sources.{Source, Stated, stated, group_head, group_tag, functions_from, operators_from, operator_of}
+use Rattle.pawn_automata.specs.Groups.{Written, Group, written, with_body, body_key, grouped}
+use Rattle.pawn_automata.specs.Groups.{is_entry}
+use Rattle.pawn_typed.specs.Headings.{Heading, Role, IsNative, IsForward, IsBody, headings}
+use Rattle.pawn_typed.specs.Headings.{heading_key, is_enters, is_of, belongs}
+use Rattle.pawn_typed.specs.Sources.{Source, Stated, stated, group_head, group_tag, functions_from}
+use Rattle.pawn_typed.specs.Sources.{operators_from, operator_of}
 use Rattle.sound_programs.specs.Objects.{Each}
 use Rattle.sound_sources.proofs.OperatorHeads.{some_is}
 

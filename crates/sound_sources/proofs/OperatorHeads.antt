@@ -1,5 +1,6 @@
 -- An operator that a head may have takes as many plain parameters as its sign has operands.
-use Rattle.std.proofs.Common.{◌≡◌, ℕ, List, [], ◌∷◌, Bool, true, false, Option, None, Some, refl, sym, ap, ◌∙◌}
+use Rattle.std.proofs.Common.{◌≡◌, ℕ, List, [], ◌∷◌, Bool, true, false, Option, None, Some, refl}
+use Rattle.std.proofs.Common.{sym, ap, ◌∙◌}
 use Rattle.std.specs.Prelude.{if◌then◌else◌, ◌&&◌, length, nat_eq}
 use Rattle.std.specs.Str.{bytes_eq}
 use Rattle.std.proofs.lemmas.Bool.{eqb-true}
@@ -15,7 +16,9 @@ use Rattle.pawn_tags.specs.declared.op.Op.TheVariants as op
 use Rattle.pawn_tags.specs.declared.op.Signature.{Signature}
 use Rattle.pawn_tags.proofs.OverloadLaws.{only_for}
 use Rattle.pawn_scopes.specs.Overloads.{op_of, tag_number, plain_tags}
-use Rattle.pawn_automata.specs.Keys.{Key, Named, Operates, Enters, Misshapen, signature_between, signature_of, operator_key, entered, entry_name, key_by, same_key}
+use Rattle.pawn_automata.specs.Keys.{Key, Named, Operates, Enters, Misshapen, signature_between}
+use Rattle.pawn_automata.specs.Keys.{signature_of, operator_key, entered, entry_name, key_by}
+use Rattle.pawn_automata.specs.Keys.{same_key}
 use Rattle.pawn_sound.specs.Known.{operands}
 
 -- ---- the operator of a signature

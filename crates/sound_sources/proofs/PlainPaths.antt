@@ -1,5 +1,6 @@
 -- What names mean along declarations is plain: values and sizes are cells, and tags are numbers.
-use Rattle.std.proofs.Common.{ℕ, ℤ, pos, List, [], ◌∷◌, Bool, true, false, Option, None, Some, refl, arith}
+use Rattle.std.proofs.Common.{ℕ, ℤ, pos, List, [], ◌∷◌, Bool, true, false, Option, None, Some, refl}
+use Rattle.std.proofs.Common.{arith}
 use Rattle.std.specs.Prelude.{option_map}
 use Rattle.pawn_cells.specs.Cells.{add}
 use Rattle.pawn_tree.specs.declared.name.At.{At}
@@ -8,7 +9,8 @@ use Rattle.pawn_tree.specs.declared.variable.Storage.TheVariants as storage
 use Rattle.pawn_tree.specs.Expressions.{Expr}
 use Rattle.pawn_tree.specs.Variables.{Dim, Var}
 use Rattle.pawn_tree.specs.Declarations as tree
-use Rattle.pawn_tree.specs.Declarations.{Decl, Variables, Constant, Enum, Native, Forward, Function, Item}
+use Rattle.pawn_tree.specs.Declarations.{Decl, Variables, Constant, Enum, Native, Forward, Function}
+use Rattle.pawn_tree.specs.Declarations.{Item}
 use Rattle.pawn_program.specs.Program.{Array}
 use Rattle.pawn_scopes.specs.Verdict.{Verdict, Stands, Breaks}
 use Rattle.pawn_typing.specs.Around.{Around, first_tag}
@@ -16,9 +18,12 @@ use Rattle.pawn_typing.specs.Scope.{Scope, Entry, with_entries}
 use Rattle.pawn_typing.proofs.VerdictLaws.{Holds}
 use Rattle.pawn_values.specs.Constants as constants
 use Rattle.pawn_values.specs.Arrays.{Shaped, shaped}
-use Rattle.pawn_bodies.specs.Points.{Point, tag_of, array_means, array_place, constant_means, var_by, behind_var, behind_vars}
-use Rattle.pawn_heads.specs.Params.{Reach, tag_numbers, reach, array_param_means, cell_param_means, param_by, param_entries}
-use Rattle.pawn_typed.specs.Enums.{Counted, value_of, means_value, item_value, behind_item, behind_items, nothing_counted, named, behind_enum}
+use Rattle.pawn_bodies.specs.Points.{Point, tag_of, array_means, array_place, constant_means}
+use Rattle.pawn_bodies.specs.Points.{var_by, behind_var, behind_vars}
+use Rattle.pawn_heads.specs.Params.{Reach, tag_numbers, reach, array_param_means, cell_param_means}
+use Rattle.pawn_heads.specs.Params.{param_by, param_entries}
+use Rattle.pawn_typed.specs.Enums.{Counted, value_of, means_value, item_value, behind_item}
+use Rattle.pawn_typed.specs.Enums.{behind_items, nothing_counted, named, behind_enum}
 use Rattle.pawn_typed.specs.Paths.{behind_decl}
 use Rattle.sound_faults.proofs.PathLaws.{meant_with, meant_same, meant_inside}
 use Rattle.sound_programs.specs.Objects.{Each}
@@ -26,7 +31,8 @@ use Rattle.sound_programs.specs.Written.{IsAnyName, IsWrittenDim, IsWrittenInit,
 use Rattle.sound_programs.specs.Plain.{IsTag, IsValue, IsPlainMeaning, IsPlainPath, HasTags}
 use Rattle.sound_programs.proofs.Facts.{small_cell, wrap_cell}
 use Rattle.sound_programs.proofs.RuleValues.{tag_number_small}
-use Rattle.sound_programs.proofs.ArrayValues.{PlainConstant, constant_plain, GoodShaped, shaped_good}
+use Rattle.sound_programs.proofs.ArrayValues.{PlainConstant, constant_plain, GoodShaped}
+use Rattle.sound_programs.proofs.ArrayValues.{shaped_good}
 use Rattle.sound_programs.specs.WrittenStatements.{MayBeConstant}
 use Rattle.sound_programs.specs.WrittenDeclarations.{IsWrittenItem, IsWrittenParam, IsWrittenDecl}
 use Rattle.sound_programs.proofs.HeadLaws.{GoodReach, reach_good}

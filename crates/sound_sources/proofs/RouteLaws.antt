@@ -1,6 +1,9 @@
 -- Each function is routed, and each automaton is valid.
-use Rattle.std.proofs.Common.{◌≡◌, ◌⊎◌, inl, inr, ◌+◌, ◌<◌, ◌≤◌, ℕ, zero, suc, ℤ, List, [], ◌∷◌, ◌++◌, Bool, true, false, Option, None, Some, refl, sym, ap, ◌∙◌, subst, arith}
-use Rattle.std.specs.Prelude.{if◌then◌else◌, length, map, filter, flat_map, slice_get, position, unwrap_or, IfSome, IfNone, ◌&&◌}
+use Rattle.std.proofs.Common.{◌≡◌, ◌⊎◌, inl, inr, ◌+◌, ◌<◌, ◌≤◌, ℕ, zero, suc, ℤ, List, [], ◌∷◌}
+use Rattle.std.proofs.Common.{◌++◌, Bool, true, false, Option, None, Some, refl, sym, ap, ◌∙◌}
+use Rattle.std.proofs.Common.{subst, arith}
+use Rattle.std.specs.Prelude.{if◌then◌else◌, length, map, filter, flat_map, slice_get, position}
+use Rattle.std.specs.Prelude.{unwrap_or, IfSome, IfNone, ◌&&◌}
 use Rattle.std.specs.Str.{bytes_eq}
 use Rattle.std.proofs.lemmas.List.{length-append}
 use Rattle.std.proofs.lemmas.List.Quantifiers.{position-Some}
@@ -16,13 +19,18 @@ use Rattle.pawn_program.specs.ValidExprs.{Takes}
 use Rattle.pawn_scopes.specs.Verdict.{Stands}
 use Rattle.pawn_scopes.specs.Mark.{Mark}
 use Rattle.pawn_automata.specs.Keys.{Key, Named, Operates, Enters, Misshapen, same_key}
-use Rattle.pawn_automata.specs.Groups.{Written, Group, written, with_body, body_key, grouped, number_of}
+use Rattle.pawn_automata.specs.Groups.{Written, Group, written, with_body, body_key, grouped}
+use Rattle.pawn_automata.specs.Groups.{number_of}
 use Rattle.pawn_automata.specs.Automata.{has_other, entered, classified}
 use Rattle.pawn_automata.specs.Routes.{state_number, number, numbered, route}
-use Rattle.pawn_typed.specs.Sources.{Source, Stated, source_of, group_tag, all_stated, around_of, beginning}
-use Rattle.pawn_typed.specs.Functions.{has_params, has_no_params, breaks_params, param_faults, classifier_faults, bodies_faults, clauses_faults, clauses, fault_if, head_faults, heads_of_group, group_faults}
+use Rattle.pawn_typed.specs.Sources.{Source, Stated, source_of, group_tag, all_stated, around_of}
+use Rattle.pawn_typed.specs.Sources.{beginning}
+use Rattle.pawn_typed.specs.Functions.{has_params, has_no_params, breaks_params, param_faults}
+use Rattle.pawn_typed.specs.Functions.{classifier_faults, bodies_faults, clauses_faults, clauses}
+use Rattle.pawn_typed.specs.Functions.{fault_if, head_faults, heads_of_group, group_faults}
 use Rattle.pawn_typed.specs.Declarations.{Bodied, Done, declarations}
-use Rattle.pawn_typed.specs.Programs.{bodies_of, params_of, dispatch_by, function_of, functions_from, program_of}
+use Rattle.pawn_typed.specs.Programs.{bodies_of, params_of, dispatch_by, function_of}
+use Rattle.pawn_typed.specs.Programs.{functions_from, program_of}
 use Rattle.pawn_typing.specs.declared.fault.TheConstants.{HEAD_DIFFERS}
 use Rattle.sound_programs.specs.Objects.{Each}
 use Rattle.sound_programs.proofs.Facts.{each_all, position_within}
@@ -31,9 +39,12 @@ use Rattle.sound_programs.specs.HeadedFunctions.{KeepTogether}
 use Rattle.sound_programs.proofs.FirstHeads.{append_none}
 use Rattle.sound_sources.specs.ValidRoutes.{IsRouted, RoutesAreValid}
 use Rattle.sound_sources.proofs.GroupBodies.{placed_at, bodies_at, Gathers, gathers}
-use Rattle.sound_sources.proofs.BodyNumbers.{Fits, bodies_fit, fits_shaped, fits_length, fits_placed}
+use Rattle.sound_sources.proofs.BodyNumbers.{Fits, bodies_fit, fits_shaped, fits_length}
+use Rattle.sound_sources.proofs.BodyNumbers.{fits_placed}
 use Rattle.sound_sources.proofs.AutomatonLaws.{Has, ServesBody, automata_serve}
-use Rattle.sound_sources.proofs.ClauseLaws.{some_same, find_position, each_kept, clauses_count, NamesOne, NamesNone, names_of, fallback_has, others_none, LeadsIn, cases_within, alone}
+use Rattle.sound_sources.proofs.ClauseLaws.{some_same, find_position, each_kept, clauses_count}
+use Rattle.sound_sources.proofs.ClauseLaws.{NamesOne, NamesNone, names_of, fallback_has}
+use Rattle.sound_sources.proofs.ClauseLaws.{others_none, LeadsIn, cases_within, alone}
 
 -- ---- lists
 
@@ -131,12 +142,14 @@ module _ (all : List Automaton) where
             ∙ number_there name least h;
         states = each_all _ (numbered all name (cases_from 0 cs)) (states either);
         bodies_in = each_all _ (numbered all name (cases_from 0 cs))
-            (bodies_in name (0 + length cs) m (cases_from 0 cs) (omega (arith, le)) (cases_within 0 cs));
+            (bodies_in name (0 + length cs) m (cases_from 0 cs) (omega (arith, le))
+            (cases_within 0 cs));
         fallback = fallback_in cs m (position is_fallback cs) refl le;
       })
     where
       states : ((cases_from 0 cs ≡ []) ⊎ (least ≡ 1))
-          → Each (λ (case : ℕ × ℕ). case.0 < length h.it.states) (numbered all name (cases_from 0 cs))
+          → Each (λ (case : ℕ × ℕ). case.0 < length h.it.states)
+          (numbered all name (cases_from 0 cs))
       states (inl none) =
           subst (λ (l : List (List ℕ × ℕ)). Each (λ (case : ℕ × ℕ). case.0 < length h.it.states)
           (numbered all name l)) (sym none) tt
@@ -228,19 +241,23 @@ module _ (source : Source) (all : List Written) (bodies : List Bodied)
           )
 
       by : NamesOne source.automata group.bodies ⊎ NamesNone group.bodies
-          → IsValidRoute program (length (bodies_of bodies f)) (route source.automata (clauses group))
+          → IsValidRoute program (length (bodies_of bodies f))
+          (route source.automata (clauses group))
       by (inl one) =
-          valid_route source.automata program same (clauses group) (length (bodies_of bodies f)) many
+          valid_route source.automata program same (clauses group)
+          (length (bodies_of bodies f)) many
           one.name (ap (λ (o : Option (List ℕ)). unwrap_or o []) one.named) 1 one.has (inr refl)
       by (inr none) =
           let others = others_none source.tags source.fallback source.groups source.automata f group
           there none.none all in
-          valid_route source.automata program same (clauses group) (length (bodies_of bodies f)) many
+          valid_route source.automata program same (clauses group)
+          (length (bodies_of bodies f)) many
           [] (ap (λ (o : Option (List ℕ)). unwrap_or o []) none.named) 0
           (fallback_has source.tags source.fallback source.groups source.automata group.bodies c cs
           (own_serves f group there)
           (subst (λ (l : List Written). Each (λ it.
-          has_other source.tags source.fallback source.groups (body_key source.tags source.fallback it)
+          has_other source.tags source.fallback source.groups
+          (body_key source.tags source.fallback it)
           ≡ false) l) (sym (owned f group there)) others) e none.none)
           (inl (none.cases 0))
 
@@ -272,7 +289,8 @@ module _ (source : Source) (all : List Written) (bodies : List Bodied)
       }
     where
       to : (cs : List Clause) → clauses group ≡ cs
-          → IfSome (dispatch_by source.automata cs) (IsValidRoute program (length (bodies_of bodies f)))
+          → IfSome (dispatch_by source.automata cs)
+          (IsValidRoute program (length (bodies_of bodies f)))
       to [] e = tt
       to (c ∷ cs) e =
           subst (λ (l : List Clause).
@@ -287,10 +305,12 @@ module _ (source : Source) (all : List Written) (bodies : List Bodied)
   -- ---- functions by number
 
   -- which function has a number
-  pub record IsFunctionAt (sts : List Stated) (groups : List Group) (n f : ℕ) (x : Function) : Type 0 where
+  pub record IsFunctionAt (sts : List Stated) (groups : List Group) (n f : ℕ)
+      (x : Function) : Type 0 where
     pub group : Group
     pub there : slice_get groups f ≡ Some group
-    pub is : function_of source.automata (group_tag source sts group) group (bodies_of bodies (n + f)) ≡ x
+    pub is : function_of source.automata (group_tag source sts group) group
+        (bodies_of bodies (n + f)) ≡ x
 
   pub function_at : (sts : List Stated) (n : ℕ) (groups : List Group) (f : ℕ) (x : Function)
       → slice_get (functions_from source sts n groups bodies) f ≡ Some x
@@ -303,7 +323,8 @@ module _ (source : Source) (all : List Written) (bodies : List Bodied)
         group = group;
         there = refl;
         is = ap (λ (m : ℕ).
-            function_of source.automata (group_tag source sts group) group (bodies_of bodies m)) plus
+            function_of source.automata (group_tag source sts group) group (bodies_of bodies m))
+            plus
             ∙ some_same e;
       }
   function_at sts n (group ∷ more) (suc f) x e =
@@ -319,7 +340,8 @@ module _ (source : Source) (all : List Written) (bodies : List Bodied)
   function_there : (sts : List Stated) (n : ℕ) (groups : List Group) (f : ℕ) (group : Group)
       → slice_get groups f ≡ Some group
       → slice_get (functions_from source sts n groups bodies) f
-      ≡ Some (function_of source.automata (group_tag source sts group) group (bodies_of bodies (n + f)))
+      ≡ Some (function_of source.automata (group_tag source sts group) group
+      (bodies_of bodies (n + f)))
   unfolding functions_from
   function_there sts n [] f group e = absurd (let never : ⊥ = cc in never)
   function_there sts n (x ∷ more) zero group e =
@@ -345,7 +367,8 @@ module _ (source : Source) (all : List Written) (bodies : List Bodied)
       each_from _ (functions_from source sts 0 source.groups bodies) (λ f x e.
       let r = function_at sts 0 source.groups f x e in
       let none = append_none (classifier_faults r.group) _
-      (each_at (λ (group : Group). group_faults source sts group ≡ []) source.groups f r.group together
+      (each_at (λ (group : Group). group_faults source sts group ≡ []) source.groups f r.group
+      together
       r.there) in
       subst (IsRouted program)
       (ap (λ (m : ℕ). function_of source.automata (group_tag source sts r.group) r.group
@@ -367,7 +390,8 @@ module _ (source : Source) (all : List Written) (bodies : List Bodied)
   is_false false b e h = absurd (let never : ⊥ = cc in never)
 
   none_taken : (group : Group) → has_no_params group.key ≡ true → (its : List Written)
-      (bs : List Bodied) → flat_map (λ it. fault_if (breaks_params group it) HEAD_DIFFERS it.at) its ≡ []
+      (bs : List Bodied) → flat_map (λ it. fault_if (breaks_params group it) HEAD_DIFFERS it.at) its
+      ≡ []
       → Fits source its bs → params_of bs ≡ []
   none_taken group key [] [] e h = refl
   none_taken group key [] (b ∷ bs) e h = refl_of h
@@ -393,19 +417,26 @@ module _ (source : Source) (all : List Written) (bodies : List Bodied)
       → number_of source.groups (Enters name) ≡ Some f
       → Takes (program_of source sts marks dynamic done) f []
   takes_none sts marks dynamic done same together name f e =
-      let r = position_found (λ (group : Group). same_key group.key (Enters name)) source.groups f e in
+      let r =
+      position_found (λ (group : Group). same_key group.key (Enters name))
+      source.groups f e in
       let none = append_none (classifier_faults r.it) _
       (each_at (λ (group : Group). group_faults source sts group ≡ []) source.groups f r.it together
       r.there) in
-      let params = append_none (param_faults r.it) (head_faults source (heads_of_group source sts r.it))
+      let params =
+      append_none (param_faults r.it) (head_faults source (heads_of_group source sts r.it))
       none.1 in
       record {
-        function = function_of source.automata (group_tag source sts r.it) r.it (bodies_of bodies f);
-        there = ap (λ (bs : List Bodied). slice_get (functions_from source sts 0 source.groups bs) f) same
+        function =
+            function_of source.automata (group_tag source sts r.it) r.it (bodies_of bodies f);
+        there =
+            ap (λ (bs : List Bodied). slice_get (functions_from source sts 0 source.groups bs) f)
+            same
             ∙ function_there sts 0 source.groups f r.it r.there
             ∙ ap (λ (m : ℕ). Some (function_of source.automata (group_tag source sts r.it) r.it
             (bodies_of bodies m))) (nothing_plus f);
-        params_are = none_taken r.it (entry_key r.it.key name r.passes) r.it.bodies (bodies_of bodies f)
+        params_are =
+            none_taken r.it (entry_key r.it.key name r.passes) r.it.bodies (bodies_of bodies f)
             params.0 (own_fits f r.it r.there);
       }
 
@@ -424,7 +455,8 @@ module _ (source : Source) (all : List Written) (bodies : List Bodied)
 
 -- so it is with each source whose declarations stand
 pub ready_of : (tree : Tree) (done : Done)
-    → declarations (source_of tree) (around_of (source_of tree) tree) (beginning (source_of tree)) tree
+    → declarations (source_of tree) (around_of (source_of tree) tree)
+    (beginning (source_of tree)) tree
     ≡ Stands done → IsReady (source_of tree) (written tree) done.bodies
 ready_of tree done stands =
     let source : Source = source_of tree in
@@ -447,6 +479,7 @@ all_routed tree done marks dynamic stands together =
       functions = functions_routed source (written tree) done.bodies ready it refl sts together;
       automata = entered_valid source (written tree) done.bodies ready it source.groups
           (classified source.tags source.fallback source.groups [] (written tree))
-          (λ name f e. takes_none source (written tree) done.bodies ready sts marks dynamic done refl
+          (λ name f e. takes_none source (written tree) done.bodies ready sts marks dynamic
+          done refl
           together name f e);
     }

@@ -1,5 +1,7 @@
 -- Names, key words and signs take the bytes that they are spelled by.
-use Rattle.std.proofs.Common.{◌≡◌, ◌≤◌, ◌+◌, ℕ, ℤ, List, [], ◌∷◌, Bool, true, false, Option, Some, None, Result, Ok, Err, cond, length, refl, ap, subst, nat_le, if◌then◌else◌, arith, length-append}
+use Rattle.std.proofs.Common.{◌≡◌, ◌≤◌, ◌+◌, ℕ, ℤ, List, [], ◌∷◌, Bool, true, false, Option, Some}
+use Rattle.std.proofs.Common.{None, Result, Ok, Err, cond, length, refl, ap, subst, nat_le}
+use Rattle.std.proofs.Common.{if◌then◌else◌, arith, length-append}
 use Rattle.std.specs.Prelude.{find, sum_by}
 use Rattle.std.specs.Str.{bytes_eq}
 use Rattle.std.proofs.lemmas.List.Sums.{sum_by-append, sum_by-cons}
@@ -9,7 +11,8 @@ use Rattle.pawn_token.specs.declared.key.Key.{Key}
 use Rattle.pawn_token.specs.declared.kind.TokenKind.{TokenKind}
 use Rattle.pawn_token.specs.declared.kind.TokenKind.TheVariants as kind
 use Rattle.pawn_token.specs.Fault.{name_too_long}
-use Rattle.pawn_token.specs.Forms.{Form, Word, Numeral, Character, Literal, Mark, Fits, IsToken, word_kind, number_kind, kind_of}
+use Rattle.pawn_token.specs.Forms.{Form, Word, Numeral, Character, Literal, Mark, Fits, IsToken}
+use Rattle.pawn_token.specs.Forms.{word_kind, number_kind, kind_of}
 use Rattle.pawn_token.specs.Keys.{keys, key_of, key_spelling}
 use Rattle.pawn_token.specs.Kinds.{past_blanks}
 use Rattle.pawn_token.specs.Number.{cell_of}

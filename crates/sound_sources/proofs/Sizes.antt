@@ -1,5 +1,6 @@
 -- How many bytes the tokens before one have, and the names that they are.
-use Rattle.std.proofs.Common.{◌≡◌, ◌+◌, ◌≤◌, ◌<◌, ◌≢◌, ℕ, zero, suc, List, [], ◌∷◌, ◌++◌, true, Option, None, Some, refl, ap, ◌∙◌, arith}
+use Rattle.std.proofs.Common.{◌≡◌, ◌+◌, ◌≤◌, ◌<◌, ◌≢◌, ℕ, zero, suc, List, [], ◌∷◌, ◌++◌, true}
+use Rattle.std.proofs.Common.{Option, None, Some, refl, ap, ◌∙◌, arith}
 use Rattle.std.specs.Prelude.{length, slice_get, sum_by, All}
 use Rattle.std.proofs.lemmas.List.Elements.{All-weaker}
 use Rattle.std.proofs.lemmas.List.Sums.{sum_by-cons}
@@ -8,7 +9,8 @@ use Rattle.pawn_token.specs.declared.kind.TokenKind.TheVariants as kind
 use Rattle.pawn_token.specs.Sizes as spelled
 use Rattle.pawn_token.specs.Sizes.{IsNameOrOther}
 use Rattle.pawn_lex.specs.declared.token.Token.{Token}
-use Rattle.pawn_grammar.specs.Tokens.{word_of, word_at, word, spelling_of, spelling_at, spelling, is_label}
+use Rattle.pawn_grammar.specs.Tokens.{word_of, word_at, word, spelling_of, spelling_at, spelling}
+use Rattle.pawn_grammar.specs.Tokens.{is_label}
 use Rattle.pawn_program.specs.Names.{IsName}
 use Rattle.sound_sources.specs.TokenSizes.{token_size}
 use Rattle.sound_programs.specs.Objects.{Each}
@@ -48,7 +50,8 @@ upto_all (token ∷ more) (suc m) =
 
 pub name_of_token : (name : List ℕ) → spelled.IsName name → IsName name
 name_of_token name h = record {
-  no_zero = All-weaker (λ byte. 0 < byte) (λ byte. byte ≢ 0) (λ byte lt e. omega (arith, lt, e)) name
+  no_zero =
+      All-weaker (λ byte. 0 < byte) (λ byte. byte ≢ 0) (λ byte lt e. omega (arith, lt, e)) name
       h.nonzero;
   least = h.some;
   most = omega (arith, h.short);
@@ -80,7 +83,8 @@ pub labelled : (ts : List Token) → All (λ (token : Token). IsNameOrOther toke
     → is_label (word ts i) ≡ true → IsLabelled (slice_get ts i)
 unfolding word
 labelled ts named i l =
-    labelled_at ts (all_each (λ (t : Token). IsNameOrOther t.kind) ts named) i (slice_get ts i) refl l
+    labelled_at ts (all_each (λ (t : Token). IsNameOrOther t.kind) ts named) i
+    (slice_get ts i) refl l
 
 pub label_size : (ts : List Token) → All (λ (token : Token). IsNameOrOther token.kind) ts → (i : ℕ)
     → is_label (word ts i) ≡ true → length (spelling ts i) ≡ size_at (slice_get ts i)

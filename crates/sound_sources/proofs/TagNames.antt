@@ -1,5 +1,6 @@
 -- The tags of a program are mentioned, each once: they have no more bytes than all mentions.
-use Rattle.std.proofs.Common.{◌≡◌, ◌+◌, ◌≤◌, ℕ, List, [], ◌∷◌, ◌++◌, Bool, true, false, ◌||◌, refl, sym, ap, subst, arith}
+use Rattle.std.proofs.Common.{◌≡◌, ◌+◌, ◌≤◌, ℕ, List, [], ◌∷◌, ◌++◌, Bool, true, false, ◌||◌, refl}
+use Rattle.std.proofs.Common.{sym, ap, subst, arith}
 use Rattle.std.specs.Prelude.{if◌then◌else◌, length, map, nat_eq}
 use Rattle.std.specs.Str.{bytes_eq}
 use Rattle.std.proofs.lemmas.List.{length-append}
@@ -162,7 +163,8 @@ tag_names tags = map (λ (tag : Tag). tag.name) tags
 
 from_by : (k : ℕ) (name : List ℕ) (rest : List Tag) (total : ℕ) (a b : Bool)
     → sizes (tag_names rest) ≤ total
-    → sizes (tag_names (if a then rest else if b then record { number = k; name = name } ∷ rest else rest))
+    → sizes (tag_names (if a then rest else if b then record { number = k; name = name } ∷ rest
+    else rest))
     ≤ size_if b name + total
 from_by k name rest total true b h = omega (arith, h)
 from_by k name rest total false true h = omega (arith, h)
@@ -199,7 +201,8 @@ mention_named (Declares it ∷ before) name e h = mention_named before name e h
 
 named_by : (k : ℕ) (name : List ℕ) (rest : List Tag) (a b : Bool) → (b ≡ true → IsName name)
     → Each IsName (tag_names rest)
-    → Each IsName (tag_names (if a then rest else if b then record { number = k; name = name } ∷ rest
+    → Each IsName (tag_names (if a then rest else if b
+    then record { number = k; name = name } ∷ rest
     else rest))
 named_by k name rest true b h r = r
 named_by k name rest false true h r = (h refl, r)

@@ -1,5 +1,7 @@
 -- What the tokens of lines hold is small.
-use Rattle.std.proofs.Common.{◌≡◌, ◌<◌, ◌≤◌, ◌^◌, ℕ, ℤ, List, [], ◌∷◌, Bool, true, false, Option, Some, None, Result, Ok, Err, cond, length, refl, sym, ap, subst, nat_lt, nat_le, if◌then◌else◌, arith, length-append}
+use Rattle.std.proofs.Common.{◌≡◌, ◌<◌, ◌≤◌, ◌^◌, ℕ, ℤ, List, [], ◌∷◌, Bool, true, false, Option}
+use Rattle.std.proofs.Common.{Some, None, Result, Ok, Err, cond, length, refl, sym, ap, subst}
+use Rattle.std.proofs.Common.{nat_lt, nat_le, if◌then◌else◌, arith, length-append}
 use Rattle.std.specs.Int.{cast_signed, w32}
 use Rattle.std.specs.List.{prefix_len}
 use Rattle.std.proofs.lemmas.Bool.{leb-true}
@@ -15,7 +17,8 @@ use Rattle.pawn_token.specs.declared.kind.TokenKind.{TokenKind}
 use Rattle.pawn_token.specs.declared.kind.TokenKind.TheVariants as kind
 use Rattle.pawn_token.specs.Class.{is_in}
 use Rattle.pawn_token.specs.Fault.{bad_number, name_too_long, number_too_wide}
-use Rattle.pawn_token.specs.Forms.{Form, Word, Numeral, Character, Literal, Mark, Fits, IsToken, opening, word_kind, number_kind, kind_of}
+use Rattle.pawn_token.specs.Forms.{Form, Word, Numeral, Character, Literal, Mark, Fits, IsToken}
+use Rattle.pawn_token.specs.Forms.{opening, word_kind, number_kind, kind_of}
 use Rattle.pawn_token.specs.Keys.{key_of}
 use Rattle.pawn_token.specs.Kinds.{past_blanks}
 use Rattle.pawn_token.specs.Number.{is_glued, cell_of}
@@ -29,7 +32,8 @@ use Rattle.sound_programs.proofs.Facts.{all_each, each_append, small_cell, cell_
 use Rattle.sound_programs.proofs.ArrayValues.{each_at}
 use Rattle.sound_sources.specs.WrittenTrees.{IsSmallKind}
 use Rattle.sound_sources.specs.SmallTokens.{TokensAreSmall, AreByteLines}
-use Rattle.sound_sources.proofs.LiteralBytes.{bytes_left, bytes_right, bytes_end, spelled_bytes, spelled_few, character_fits}
+use Rattle.sound_sources.proofs.LiteralBytes.{bytes_left, bytes_right, bytes_end, spelled_bytes}
+use Rattle.sound_sources.proofs.LiteralBytes.{spelled_few, character_fits}
 
 -- ---- kinds
 
@@ -70,7 +74,8 @@ number_small : (it : Result ℤ ℕ) → IsCellAnswer it → IsSmallAnswer (numb
 number_small (Ok v) h = h
 number_small (Err fault) h = tt
 
-module _ (control : ℕ) (setting : Bool) (at : List ℕ) (bytes_are : AreBytes at) (short : length at < 2 ^ 30) where
+module _ (control : ℕ) (setting : Bool) (at : List ℕ) (bytes_are : AreBytes at)
+    (short : length at < 2 ^ 30) where
   form_small : (form : Form) (spelling rest : List ℕ) → Fits control setting at form spelling rest
       → IsSmallAnswer (kind_of form rest)
   form_small (Word word) spelling rest fits =

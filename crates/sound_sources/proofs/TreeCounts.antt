@@ -1,5 +1,6 @@
 -- The tags that a tree mentions, and the names of its heads, have no more bytes than its tokens.
-use Rattle.std.proofs.Common.{◌≡◌, ◌+◌, ◌≤◌, ℕ, suc, List, [], ◌∷◌, Bool, true, false, Option, None, Some, refl, ap, arith}
+use Rattle.std.proofs.Common.{◌≡◌, ◌+◌, ◌≤◌, ℕ, suc, List, [], ◌∷◌, Bool, true, false, Option, None}
+use Rattle.std.proofs.Common.{Some, refl, ap, arith}
 use Rattle.std.specs.Prelude.{if◌then◌else◌, length, slice_get, codes, All}
 use Rattle.std.proofs.lemmas.List.{length-append}
 use Rattle.pawn_cells.specs.declared.place.Place.{Place}
@@ -14,12 +15,16 @@ use Rattle.pawn_token.specs.Sizes.{IsNameOrOther}
 use Rattle.pawn_lex.specs.declared.token.Token.{Token}
 use Rattle.pawn_tree.specs.declared.name.At.{At}
 use Rattle.pawn_tree.specs.declared.declaration.HeadName.{HeadName}
-use Rattle.pawn_tree.specs.Declarations.{Head, Decl, Variables, Constant, Enum, Native, Forward, Function, Tree}
+use Rattle.pawn_tree.specs.Declarations.{Head, Decl, Variables, Constant, Enum, Native, Forward}
+use Rattle.pawn_tree.specs.Declarations.{Function, Tree}
 use Rattle.pawn_grammar.specs.declared.word.Word.{Word}
 use Rattle.pawn_grammar.specs.declared.word.Word.TheVariants as w
-use Rattle.pawn_grammar.specs.Tokens.{at, is_blank, word_of, word_at, word, spelling, is_label, behind_key}
+use Rattle.pawn_grammar.specs.Tokens.{at, is_blank, word_of, word_at, word, spelling, is_label}
+use Rattle.pawn_grammar.specs.Tokens.{behind_key}
 use Rattle.pawn_grammar.specs.Lists.{Many, no_more, one_more}
-use Rattle.pawn_grammar.specs.Declarations.{IsHeadName, name_of, operator_of, IsHead, head_of, IsDecl, variables_decl, constant_decl, enum_decl, native_decl, forward_decl, function_decl}
+use Rattle.pawn_grammar.specs.Declarations.{IsHeadName, name_of, operator_of, IsHead, head_of}
+use Rattle.pawn_grammar.specs.Declarations.{IsDecl, variables_decl, constant_decl, enum_decl}
+use Rattle.pawn_grammar.specs.Declarations.{native_decl, forward_decl, function_decl}
 use Rattle.pawn_grammar.specs.Spells.{Spells}
 use Rattle.pawn_scopes.specs.Mark.{Mark, Opens, Closes, Mentions, Uses, Declares}
 use Rattle.pawn_scopes.specs.Lists.{all_marks}
@@ -28,7 +33,8 @@ use Rattle.pawn_scopes.specs.TreeMarks.{head_marks, decl_marks, tree_marks}
 use Rattle.pawn_program.specs.Names.{IsName}
 use Rattle.pawn_typed.specs.Headings.{public_name}
 use Rattle.pawn_uses.proofs.Grows.{Grows, Spans, up_to_orders, key_on, maybe_tag_rises, end_on}
-use Rattle.pawn_uses.proofs.Nodes.{param_rises, variables_rise, stmt_rises, modifiers_go, classifier_goes}
+use Rattle.pawn_uses.proofs.Nodes.{param_rises, variables_rise, stmt_rises, modifiers_go}
+use Rattle.pawn_uses.proofs.Nodes.{classifier_goes}
 use Rattle.pawn_uses.proofs.Whole.{Keeps, keeps_spans}
 use Rattle.sound_programs.specs.Objects.{Each}
 use Rattle.sound_sources.specs.TokenSizes.{token_size}
@@ -137,7 +143,8 @@ module _ (ts : List Token) (named : All (λ (token : Token). IsNameOrOther token
   no_sign true c e = cc
   no_sign false c e = cc
 
-  key_kind : (it : TokenKind) (k : Key) → word_of it ≡ w.Key k → token_size it ≡ length (key_spelling k)
+  key_kind : (it : TokenKind) (k : Key) → word_of it ≡ w.Key k
+      → token_size it ≡ length (key_spelling k)
   key_kind (kind.Name bytes) k e = absurd (no_key (is_blank bytes) k e)
   key_kind (kind.Key x) k e = let same : x ≡ k = cc in ap (λ z. length (key_spelling z)) same
   key_kind (kind.Number v) k e = absurd (let never : ⊥ = cc in never)
@@ -162,7 +169,8 @@ module _ (ts : List Token) (named : All (λ (token : Token). IsNameOrOther token
   sign_at None c e = absurd (let never : ⊥ = cc in never)
   sign_at (Some token) c e = sign_kind token.kind c e
 
-  key_size : (i : ℕ) (k : Key) → word ts i ≡ w.Key k → size_at (slice_get ts i) ≡ length (key_spelling k)
+  key_size : (i : ℕ) (k : Key) → word ts i ≡ w.Key k
+      → size_at (slice_get ts i) ≡ length (key_spelling k)
   unfolding word
   key_size i k e = key_at (slice_get ts i) k e
 

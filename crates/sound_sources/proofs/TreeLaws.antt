@@ -6,27 +6,36 @@ use Rattle.pawn_tree.specs.declared.name.Name as n
 use Rattle.pawn_tree.specs.Expressions.{Expr}
 use Rattle.pawn_tree.specs.Variables as v
 use Rattle.pawn_tree.specs.Variables.{Dim, Init, Var, Variables, inits}
-use Rattle.pawn_tree.specs.Statements.{ConstantOf, First, Range, Stmt, Case, stmts, maybe_stmt, cases}
+use Rattle.pawn_tree.specs.Statements.{ConstantOf, First, Range, Stmt, Case, stmts, maybe_stmt}
+use Rattle.pawn_tree.specs.Statements.{cases}
 use Rattle.pawn_tree.specs.Declarations.{Item, Param, Head, Decl}
-use Rattle.pawn_grammar.specs.Lists.{Many, no_more, one_more, Several, several, Listed, UpTo, none_up_to, some_up_to, Led, left_out, led}
+use Rattle.pawn_grammar.specs.Lists.{Many, no_more, one_more, Several, several, Listed, UpTo}
+use Rattle.pawn_grammar.specs.Lists.{none_up_to, some_up_to, Led, left_out, led}
 use Rattle.pawn_grammar.specs.Expressions.{Whole, Condition, condition}
 use Rattle.pawn_grammar.specs.Variables as gv
-use Rattle.pawn_grammar.specs.Variables.{IsDim, IsInit, AreInits, MoreInits, IsVar, AreVariables, IsConstant}
+use Rattle.pawn_grammar.specs.Variables.{IsDim, IsInit, AreInits, MoreInits, IsVar, AreVariables}
+use Rattle.pawn_grammar.specs.Variables.{IsConstant}
 use Rattle.pawn_grammar.specs.Statements as gs
-use Rattle.pawn_grammar.specs.Statements.{IsResult, IsBefore, IsFirst, IsRange, IsStateCondition, IsStmt, AreStmts, IsOther, AreCases, IsCase, IsDefault}
+use Rattle.pawn_grammar.specs.Statements.{IsResult, IsBefore, IsFirst, IsRange, IsStateCondition}
+use Rattle.pawn_grammar.specs.Statements.{IsStmt, AreStmts, IsOther, AreCases, IsCase, IsDefault}
 use Rattle.pawn_grammar.specs.Declarations as gd
 use Rattle.pawn_grammar.specs.Declarations.{IsItem, IsEnum, IsParam, IsHead, IsDecl}
 use Rattle.sound_programs.specs.Objects.{Each}
-use Rattle.sound_programs.specs.Written.{IsAnyName, IsWritten, IsWrittenDim, IsConstantInit, AreConstantInits, IsWrittenInit, IsWrittenVar}
+use Rattle.sound_programs.specs.Written.{IsAnyName, IsWritten, IsWrittenDim, IsConstantInit}
+use Rattle.sound_programs.specs.Written.{AreConstantInits, IsWrittenInit, IsWrittenVar}
 use Rattle.sound_programs.specs.WrittenStatements as ws
-use Rattle.sound_programs.specs.WrittenStatements.{MayBeConstant, IsWrittenRange, MayBeWritten, IsWrittenFirst, IsWrittenStmt, AreWrittenStmts, IsWrittenOther, AreWrittenCases, IsWrittenCase}
-use Rattle.sound_programs.specs.WrittenDeclarations.{IsWrittenItem, IsWrittenParam, IsOwnParam, IsWrittenHead, IsOwnHead, IsWrittenDecl}
+use Rattle.sound_programs.specs.WrittenStatements.{MayBeConstant, IsWrittenRange, MayBeWritten}
+use Rattle.sound_programs.specs.WrittenStatements.{IsWrittenFirst, IsWrittenStmt, AreWrittenStmts}
+use Rattle.sound_programs.specs.WrittenStatements.{IsWrittenOther, AreWrittenCases, IsWrittenCase}
+use Rattle.sound_programs.specs.WrittenDeclarations.{IsWrittenItem, IsWrittenParam, IsOwnParam}
+use Rattle.sound_programs.specs.WrittenDeclarations.{IsWrittenHead, IsOwnHead, IsWrittenDecl}
 use Rattle.sound_sources.specs.WrittenTrees.{AreSmallTokens, TreesAreWritten}
 use Rattle.sound_sources.proofs.ExpressionTrees.{value_written, more_written, whole_written}
 
 -- ---- lists
 
-many_each : {A : Type 0} {more : ℕ → Bool} {part : ℕ → A → ℕ → ℕ → Type 0} {h i j : ℕ} {xs : List A} (P : A → Type 0)
+many_each : {A : Type 0} {more : ℕ → Bool} {part : ℕ → A → ℕ → ℕ → Type 0} {h i j : ℕ} {xs : List A}
+    (P : A → Type 0)
     → ((h i j : ℕ) (x : A) → part h x i j → P x)
     → Many more part h xs i j → Each P xs
 many_each P k (no_more a) = tt
@@ -81,11 +90,13 @@ module _ (ts : List Token) (small : AreSmallTokens ts) where
   led_init (led a p) = init_written p
 
   var_written : {h i j : ℕ} {x : Var} → IsVar ts h x i j → IsWrittenVar IsAnyName x
-  var_written (gv.var a p q) = record { dims = many_each IsWrittenDim (λ h i j x q. dim_written q) p; init = led_init q }
+  var_written (gv.var a p q) =
+      record { dims = many_each IsWrittenDim (λ h i j x q. dim_written q) p; init = led_init q }
 
   vars_written : {st : Storage} {h i j : ℕ} {x : Variables} → AreVariables ts st h x i j
       → Each (IsWrittenVar IsAnyName) x.vars
-  vars_written (gv.variables p a) = listed_each (IsWrittenVar IsAnyName) (λ h i j x q. var_written q) p
+  vars_written (gv.variables p a) =
+      listed_each (IsWrittenVar IsAnyName) (λ h i j x q. var_written q) p
 
   constant_written : {h i j : ℕ} {x : ConstantOf} → IsConstant ts h x i j
       → ws.IsConstant x.value
@@ -104,7 +115,8 @@ module _ (ts : List Token) (small : AreSmallTokens ts) where
 
   first_written : {h i j : ℕ} {x : First} → IsFirst ts h x i j → IsWrittenFirst IsAnyName x
   first_written (gs.first_nothing a) = tt
-  first_written (gs.first_new a p) = listed_each (IsWrittenVar IsAnyName) (λ h i j x q. var_written q) p
+  first_written (gs.first_new a p) =
+      listed_each (IsWrittenVar IsAnyName) (λ h i j x q. var_written q) p
   first_written (gs.first_value p) = whole_written ts small p
 
   last_written : {c : _} {tags : Bool} {level h i j : ℕ} {x : Option Expr}
@@ -125,7 +137,8 @@ module _ (ts : List Token) (small : AreSmallTokens ts) where
         → IsWrittenStmt IsAnyName x
     stmt_written (gs.empty_stmt a) = tt
     stmt_written (gs.does_stmt p a) = whole_written ts small p
-    stmt_written (gs.bare_stmt a c p q e) = (tt, (value_written ts small p, more_written ts small q))
+    stmt_written (gs.bare_stmt a c p q e) =
+        (tt, (value_written ts small p, more_written ts small q))
     stmt_written (gs.block_stmt a p c) = stmts_written p
     stmt_written (gs.if_stmt a p q r) = (condition_written p, stmt_written q, other_written r)
     stmt_written (gs.while_stmt a p q) = (condition_written p, stmt_written q)
@@ -160,7 +173,8 @@ module _ (ts : List Token) (small : AreSmallTokens ts) where
     cases_written (gs.one_case a p q) = (case_written p, cases_written q)
 
     case_written : {h i j : ℕ} {x : Case} → IsCase ts h x i j → IsWrittenCase IsAnyName x
-    case_written (gs.case_of a p c q) = (listed_each IsWrittenRange (λ h i j x q. range_written q) p, stmt_written q)
+    case_written (gs.case_of a p c q) =
+        (listed_each IsWrittenRange (λ h i j x q. range_written q) p, stmt_written q)
 
     default_written : {h i j : ℕ} {x : Option Stmt} → IsDefault ts h x i j
         → IsWrittenOther IsAnyName (maybe_stmt x)
@@ -174,11 +188,13 @@ module _ (ts : List Token) (small : AreSmallTokens ts) where
   led_constant p = last_written p
 
   native_param : {h i j : ℕ} {x : Param} → IsParam ts true h x i j → IsWrittenParam x
-  native_param (gd.plain_param a c p q) = (many_each IsWrittenDim (λ h i j x q. dim_written q) p, led_constant q)
+  native_param (gd.plain_param a c p q) =
+      (many_each IsWrittenDim (λ h i j x q. dim_written q) p, led_constant q)
   native_param (gd.rest_param a c e f) = tt
 
   own_param : {h i j : ℕ} {x : Param} → IsParam ts false h x i j → IsOwnParam x
-  own_param (gd.plain_param a c p q) = (many_each IsWrittenDim (λ h i j x q. dim_written q) p, led_constant q)
+  own_param (gd.plain_param a c p q) =
+      (many_each IsWrittenDim (λ h i j x q. dim_written q) p, led_constant q)
 
   up_to_each : {A : Type 0} {c : _} {part : ℕ → A → ℕ → ℕ → Type 0} {h i j : ℕ} {xs : List A}
       (P : A → Type 0) → ((h i j : ℕ) (x : A) → part h x i j → P x)

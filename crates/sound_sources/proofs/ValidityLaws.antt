@@ -1,17 +1,20 @@
 -- A program that stands is valid.
-use Rattle.std.proofs.Common.{◌≡◌, ◌<◌, ◌≤◌, ◌^◌, ℕ, ℤ, List, [], ◌∷◌, true, Option, Some, sym, ap, ◌∙◌, subst, arith}
+use Rattle.std.proofs.Common.{◌≡◌, ◌<◌, ◌≤◌, ◌^◌, ℕ, ℤ, List, [], ◌∷◌, true, Option, Some, sym, ap}
+use Rattle.std.proofs.Common.{◌∙◌, subst, arith}
 use Rattle.std.specs.Prelude.{length, map, flat_map, slice_get, IfSome, nat_eq}
 use Rattle.std.proofs.lemmas.List.{append-nil}
 use Rattle.pawn_tree.specs.Declarations.{Tree}
 use Rattle.pawn_program.specs.Program.{Slot, StaticObject, Function, Tag, Public, Program}
-use Rattle.pawn_program.specs.Valid.{IsSlot, IsValidObject, IsValidBody, IsValidFunction, IsValidAutomaton, IsValid}
+use Rattle.pawn_program.specs.Valid.{IsSlot, IsValidObject, IsValidBody, IsValidFunction}
+use Rattle.pawn_program.specs.Valid.{IsValidAutomaton, IsValid}
 use Rattle.pawn_scopes.specs.Verdict.{Fault}
 use Rattle.pawn_scopes.specs.TreeMarks.{tree_marks}
 use Rattle.pawn_scopes.specs.FileNames.{file_names, twice_faults}
 use Rattle.pawn_typing.specs.Around.{Around, Callable, Head}
 use Rattle.pawn_automata.specs.Keys.{Named}
 use Rattle.pawn_automata.specs.Groups.{Group, written}
-use Rattle.pawn_typed.specs.Sources.{Source, Stated, source_of, stated, group_tag, all_stated, around_of, without_heads, beginning}
+use Rattle.pawn_typed.specs.Sources.{Source, Stated, source_of, stated, group_tag, all_stated}
+use Rattle.pawn_typed.specs.Sources.{around_of, without_heads, beginning}
 use Rattle.pawn_typed.specs.Functions.{group_faults, main_name}
 use Rattle.pawn_typed.specs.Declarations.{Bodied, Done}
 use Rattle.pawn_typed.specs.Programs.{bodies_of, params_of, function_of, program_of}
@@ -37,7 +40,8 @@ use Rattle.sound_sources.specs.ValidRoutes.{IsRouted, RoutesAreValid}
 use Rattle.sound_sources.proofs.RouteLaws.{IsReady, ready_of, each_from, nothing_plus, function_at}
 use Rattle.sound_sources.specs.ValidPrograms.{ProgramsAreValid}
 use Rattle.sound_sources.proofs.FunctionHeads.{has_head, callable_at, bodies_have}
-use Rattle.sound_sources.proofs.Numbers.{tags_small, publics_within, functions_count, entry_within, room_cell}
+use Rattle.sound_sources.proofs.Numbers.{tags_small, publics_within, functions_count, entry_within}
+use Rattle.sound_sources.proofs.Numbers.{room_cell}
 
 -- ---- one function
 
@@ -104,7 +108,8 @@ module _ (tree : Tree) (dynamic : ℤ) (done : Done) where
   functions_valid : FunctionsAreHeaded → length of_tree.tags ≤ 2 ^ 32
       → IsReady of_tree (written tree) done.bodies
       → Each (λ (st : Stated). IsThere st.head) all_of
-      → ((f : ℕ) (c : Callable) (head : Head) → slice_get (around_of of_tree tree).functions f ≡ Some c
+      → ((f : ℕ) (c : Callable) (head : Head)
+      → slice_get (around_of of_tree tree).functions f ≡ Some c
       → c.head ≡ Some head → HaveParams done.bodies f head)
       → Each (IsSoundBody made) done.bodies → Each (IsRouted made) made.functions
       → Each (IsValidFunction made) made.functions
@@ -119,8 +124,10 @@ module _ (tree : Tree) (dynamic : ℤ) (done : Done) where
       (bodies_for made (map slot_of head.head.params) f done.bodies sound have) in
       let tag = (tags_are of_tree few all_of).functions f _ call in
       let route = each_at (IsRouted made) made.functions f x routed e in
-      let is = ap (λ (m : ℕ). function_of of_tree.automata (group_tag of_tree all_of r.group) r.group
-      (bodies_of done.bodies m)) (sym (nothing_plus of_tree (written tree) done.bodies ready f)) ∙ r.is in
+      let is =
+      ap (λ (m : ℕ). function_of of_tree.automata (group_tag of_tree all_of r.group) r.group
+      (bodies_of done.bodies m)) (sym (nothing_plus of_tree (written tree) done.bodies ready f))
+      ∙ r.is in
       let base = subst (λ (y : Function).
       Each IsSlot y.params × (y.tag < 2 ^ 32) × Each (IsValidBody made y.params) y.bodies) is (
         params_good made (map slot_of head.head.params) (bodies_of done.bodies f) own,
@@ -147,9 +154,12 @@ programs_valid known_law within_law bodies_law files_law headed_law same_law rou
     let same : program ≡ it = ap (λ (x : Checked). x.program) d.is in
     let known = subst (λ (p : Program). KnowsAround p (around_of source tree)) same
     (known_law tree dynamic program warnings typed_is written_is few) in
-    let within = subst IsWithin same (within_law tree dynamic program warnings typed_is written_is few) in
+    let within =
+    subst IsWithin same (within_law tree dynamic program warnings typed_is written_is few)
+    in
     let file = files_law tree d.it (tree_marks tree) dynamic few known written_is in
-    let sound = bodies_law it (around_of source tree) source.called source (beginning source) tree d.it
+    let sound =
+    bodies_law it (around_of source tree) source.called source (beginning source) tree d.it
     file.site file.written d.stands (sits_whole d.it.objects) in
     let none = append_none (twice_faults (file_names tree)) _ d.together in
     let faults = append_none
@@ -166,7 +176,8 @@ programs_valid known_law within_law bodies_law files_law headed_law same_law rou
     (subst (λ (hs : List (Option Head)). AreThere hs) (sym heads_are.same) heads_are.there) in
     let ready = ready_of tree d.it d.stands in
     let functions = functions_valid tree dynamic d.it headed_law few ready there
-    (λ f c head e h. (headed_law tree d.it (tree_marks tree) dynamic written_is d.stands together f c
+    (λ f c head e h. (headed_law tree d.it
+    (tree_marks tree) dynamic written_is d.stands together f c
     head e h).params) sound.bodies routed.functions in
     let whole = append_none (dynamic_faults dynamic) (entry_faults source) d.none in
     let count = functions_count source all 0 source.groups d.it.bodies in

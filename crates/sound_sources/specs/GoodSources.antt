@@ -2,6 +2,7 @@
 use Rattle.std.specs.Prelude.{◌≤◌, ℤ, List}
 use Rattle.pawn_cells.specs.declared.place.Place.{Place}
 use Rattle.pawn_pre.specs.declared.line.Line.{Line}
+use Rattle.pawn_pre.specs.declared.line.TheConstants.{MOST_BYTES}
 use Rattle.pawn_pre.specs.Bounds.{bytes_of}
 use Rattle.pawn_lex.specs.declared.token.Token.{Token}
 use Rattle.pawn_lex.specs.Lines.{AreTokens}
@@ -20,10 +21,10 @@ pub record IsGoodProgram (program : Program) : Type 0 where
   pub limits : IsWithinLimits program
   pub names : HasNames program
 
--- lines of bytes that are tokens, which spell a tree, for which the program stands. There are at
--- most 1,048,576 bytes
+-- lines of bytes that are tokens, which spell a tree, for which the program stands. They have no
+-- more bytes than the lines of a source
 abbrev pub SourcesAreGood : Type 0
 SourcesAreGood =
     (lines : List Line) (ts : List Token) (tree : Tree) (dynamic : ℤ) (program : Program)
-    (warnings : List Place) → AreByteLines lines → bytes_of lines ≤ 1048576 → AreTokens lines ts
+    (warnings : List Place) → AreByteLines lines → bytes_of lines ≤ MOST_BYTES → AreTokens lines ts
     → IsParse ts tree → IsTyped tree dynamic program warnings → IsGoodProgram program

@@ -1,7 +1,7 @@
 use super::judged::{Faulty, Standing, breaks, warns};
 
 /// States and automata that aren't known, or that are named twice.
-const STATES: [Faulty; 12] = [
+const STATES: [Faulty; 13] = [
     ("main() { state s; }", &[(41, 1)]),
     ("main() { state q:a; }", &[(40, 1)]),
     ("f() <a:s> { }\nmain() { state a:t; }", &[(41, 2)]),
@@ -14,10 +14,14 @@ const STATES: [Faulty; 12] = [
     ("f() { }\nf() <s> { }\nmain() { }", &[(44, 1)]),
     ("entry() { }\nmain() { }", &[(44, 1)]),
     ("entry(x) <s> { }\nmain() { }", &[(65, 1)]),
+    (
+        "entry() <a:s> { }\nF:entry() <b:t> return F:1;\nconst c = 1 / tagof entry;\nmain() { }",
+        &[(67, 3)],
+    ),
 ];
 
 /// Automata that stand.
-const SWITCHED: [Standing; 4] = [
+const SWITCHED: [Standing; 6] = [
     ("entry() <s> { }\nmain() { state s; }", &[]),
     ("main() <a> { }", &[]),
     (
@@ -26,6 +30,14 @@ const SWITCHED: [Standing; 4] = [
     ),
     (
         "entry() <a:s> { }\nentry() <b:s> { }\nmain() { state a:s; state b:s; }",
+        &[],
+    ),
+    (
+        "F:entry() <b:t> return F:1;\nentry() <a:s> { }\nconst c = 1 / tagof entry;\nmain() { }",
+        &[],
+    ),
+    (
+        "F:entry() <b:t> return F:1;\nentry() <a:s> { }\nnew x[tagof entry];\nmain() x[1] = 1;",
         &[],
     ),
 ];

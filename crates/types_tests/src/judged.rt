@@ -1,11 +1,7 @@
-use pawn_base::List;
+use pawn_base::{Bytes, List};
 use pawn_cells::Place;
-use pawn_check::{CheckFault, Checked, check};
-use pawn_lex::{Tokens, tokens};
-use pawn_outside::MemoryFiles;
-use pawn_parse::parse;
-use pawn_pre::preprocess;
-use pawn_tree::Tree;
+use pawn_check::{CheckFault, Checked, check, function_names};
+use source_trees::tree_of;
 use std::alloc::Global;
 
 /// A source, and the numbers and lines of the faults that it may be refused with.
@@ -16,23 +12,6 @@ pub type Standing = (&'static str, &'static [u32]);
 
 /// The room for heap and stack, in cells.
 const ROOM: i32 = 4_096;
-
-/// The tokens of a source, where it has some.
-fn tokens_of(alloc: Global, source: &str) -> Option<Tokens> {
-    let mut files = MemoryFiles::new(alloc, &[]).ok()?;
-    files.hold("s.p", source.as_bytes()).ok()?;
-    let lines = preprocess(alloc, "s.p", &mut files).ok()?;
-    tokens(alloc, &lines).ok()
-}
-
-/// The tree of a source, where it has one.
-fn tree_of(alloc: Global, source: &str) -> Option<Tree> {
-    let tokens = tokens_of(alloc, source)?;
-    if tokens.list.len() > 4_000_000 {
-        return None;
-    }
-    parse(alloc, &tokens).ok()
-}
 
 /// Whether a source is refused with one of these faults.
 pub fn breaks(alloc: Global, source: &str, faults: &[(u8, u32)]) -> bool {
@@ -65,6 +44,24 @@ pub fn warns(alloc: Global, source: &str, lines: &[u32]) -> bool {
     };
     match check(alloc, &tree, ROOM) {
         Ok(checked) => are_lines(checked.warnings.as_slice(), lines),
+        Err(_) => false,
+    }
+}
+
+/// Whether these are names, byte by byte.
+fn are_names(list: &[Bytes], names: &[&str]) -> bool {
+    list.iter()
+        .map(|name| name.as_slice())
+        .eq(names.iter().map(|name| name.as_bytes()))
+}
+
+/// Whether the functions of a source have these names, by number.
+pub fn names_functions(alloc: Global, source: &str, names: &[&str]) -> bool {
+    let Some(tree) = tree_of(alloc, source) else {
+        return false;
+    };
+    match function_names(alloc, &tree) {
+        Ok(list) => are_names(list.as_slice(), names),
         Err(_) => false,
     }
 }

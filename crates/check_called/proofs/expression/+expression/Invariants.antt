@@ -4,7 +4,9 @@ use Rattle.check_called.specs.Adds.{AddsSoFar}
 use Rattle.check_called.proofs.expression.+expression.Given as goal
 
 abbrev pub invariant-in_args-loop-i : goal.invariant-in_args-loop-i
-invariant-in_args-loop-i l = AddsSoFar (λ x. called_by_arg (arg_view x)) l.items l.initial.out l.i l.out
+invariant-in_args-loop-i l =
+    AddsSoFar (λ x. called_by_arg (arg_view x)) l.items l.initial.out l.i l.out
 
 abbrev pub invariant-in_links-loop-i : goal.invariant-in_links-loop-i
-invariant-in_links-loop-i l = AddsSoFar (λ x. called_by_link (link_view x)) l.items l.initial.out l.i l.out
+invariant-in_links-loop-i l =
+    AddsSoFar (λ x. called_by_link (link_view x)) l.items l.initial.out l.i l.out

@@ -4,7 +4,9 @@ use Rattle.check_called.specs.Adds.{AddsSoFar}
 use Rattle.check_called.proofs.statement.+statement.Given as goal
 
 abbrev pub invariant-in_stmts-loop-i : goal.invariant-in_stmts-loop-i
-invariant-in_stmts-loop-i l = AddsSoFar (λ x. called_in (stmt_view x)) l.items l.initial.out l.i l.out
+invariant-in_stmts-loop-i l =
+    AddsSoFar (λ x. called_in (stmt_view x)) l.items l.initial.out l.i l.out
 
 abbrev pub invariant-in_cases-loop-i : goal.invariant-in_cases-loop-i
-invariant-in_cases-loop-i l = AddsSoFar (λ x. called_in_case (case_view x)) l.items l.initial.out l.i l.out
+invariant-in_cases-loop-i l =
+    AddsSoFar (λ x. called_in_case (case_view x)) l.items l.initial.out l.i l.out

@@ -4,4 +4,5 @@ use Rattle.check_called.specs.Adds.{AddsSoFar}
 use Rattle.check_called.proofs.variable.in_vars.Given as goal
 
 abbrev pub invariant-loop-i : goal.invariant-loop-i
-invariant-loop-i l = AddsSoFar (λ x. called_by_init (var_view x).init) l.items l.initial.out l.i l.out
+invariant-loop-i l =
+    AddsSoFar (λ x. called_by_init (var_view x).init) l.items l.initial.out l.i l.out

@@ -4,7 +4,8 @@ use Rattle.pawn_program.specs.Program.{Args}
 use Rattle.pawn_scopes.specs.Verdict.{Stands}
 use Rattle.check_calls.specs.declared.filling.Filled.{Filled}
 use Rattle.check_calls.specs.Shown.{shown_in}
-use Rattle.check_calls.proofs.ArgsLaws.{args_begin, args_more, args_fail, args_short, args_end, view_behind}
+use Rattle.check_calls.proofs.ArgsLaws.{args_begin, args_more, args_fail, args_short, args_end}
+use Rattle.check_calls.proofs.ArgsLaws.{view_behind}
 use Rattle.check_calls.proofs.defaults.args.Goals as goal
 
 pub loop-i-init : goal.loop-i-init
@@ -15,25 +16,35 @@ loop-i-preserved c =
     let it : c.replace-it.result ≡ get_or c.loop-i.slots.items c.loop-i.i c.replace-it.result =
     rw c.replace-it.ensures.value c.index_mut.ensures.value in
     let shown : c.as_slice-shown.result.now ≡ map shown_in c.args.slots.items =
-    c.as_slice-shown.ensures.value ∙ (c.in_ok-all.ensures ∙ ap (λ (slots : List (Option Filled)). map shown_in slots) c.as_slice.ensures.value) in
-    rw c.in_ok-push.ensures.ok (args_more _ _ _ _ _ _ _ _ _ c.loop-i.invariant (omega arith) c.index-params-i.is (omega arith) it
+    c.as_slice-shown.ensures.value
+    ∙ (c.in_ok-all.ensures ∙ ap (λ (slots : List (Option Filled)). map shown_in slots)
+    c.as_slice.ensures.value) in
+    rw c.in_ok-push.ensures.ok (args_more _ _ _ _ _ _ _ _ _ c.loop-i.invariant
+    (omega arith) c.index-params-i.is (omega arith) it
     (c.in_ok-arg.ensures c.args.slots.items shown))
 
 pub returns-in_err-arg : goal.returns-in_err-arg
 returns-in_err-arg c =
-    let p = err_from_is_err_and c.from_residual-in_err-arg.result c.from_residual-in_err-arg.ensures.1 in
+    let p =
+    err_from_is_err_and c.from_residual-in_err-arg.result
+    c.from_residual-in_err-arg.ensures.1 in
     let it : c.replace-it.result ≡ get_or c.loop-i.slots.items c.loop-i.i c.replace-it.result =
     rw c.replace-it.ensures.value c.index_mut.ensures.value in
     let shown : c.as_slice-shown.result.now ≡ map shown_in c.args.slots.items =
-    c.as_slice-shown.ensures.value ∙ (c.in_ok-all.ensures ∙ ap (λ (slots : List (Option Filled)). map shown_in slots) c.as_slice.ensures.value) in
-    rw (p.1, p.2) (args_fail _ _ _ _ _ _ _ _ c.loop-i.invariant (omega arith) c.index-params-i.is (omega arith) it
+    c.as_slice-shown.ensures.value
+    ∙ (c.in_ok-all.ensures ∙ ap (λ (slots : List (Option Filled)). map shown_in slots)
+    c.as_slice.ensures.value) in
+    rw (p.1, p.2) (args_fail _ _ _ _ _ _ _ _ c.loop-i.invariant (omega arith) c.index-params-i.is
+    (omega arith) it
     (c.in_err-arg.ensures c.args.slots.items shown))
 
 pub returns-then-i-len : goal.returns-then-i-len
 returns-then-i-len c =
-    rw c.broken.ensures (args_short _ _ _ _ _ _ c.loop-i.invariant (omega arith) c.index-params-i.is (omega arith))
+    rw c.broken.ensures (args_short _ _ _ _ _ _ c.loop-i.invariant (omega arith) c.index-params-i.is
+    (omega arith))
 
 pub returns : goal.returns
 returns c =
     let whole = args_end _ _ _ _ _ c.loop-i.invariant (omega arith) in
-    rw c.in_ok-append.ensures.ok (whole ∙ ap (λ (args : Args). Stands args) (sym (view_behind c.loop-i.args c.args.others)))
+    rw c.in_ok-append.ensures.ok (whole
+    ∙ ap (λ (args : Args). Stands args) (sym (view_behind c.loop-i.args c.args.others)))

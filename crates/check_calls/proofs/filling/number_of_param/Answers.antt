@@ -7,5 +7,7 @@ use Rattle.check_calls.proofs.filling.number_of_param.Goals as goal
 pub returns : goal.returns
 returns c =
     c.place_of.ensures
-    ∙ (ap₂ (λ (name : List ℕ) (params : List held.Param). position (λ (p : held.Param). bytes_eq p.name name) params) c.as_slice-name.ensures c.as_slice-params.ensures
+    ∙ (ap₂ (λ (name : List ℕ) (params : List held.Param). position
+    (λ (p : held.Param). bytes_eq p.name name) params) c.as_slice-name.ensures
+    c.as_slice-params.ensures
     ∙ place_is c.args.name.now c.args.head.now.params)

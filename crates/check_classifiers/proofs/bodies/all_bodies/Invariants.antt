@@ -5,4 +5,5 @@ use Rattle.check_classifiers.proofs.bodies.all_bodies.Given as goal
 
 abbrev pub invariant-loop-it : goal.invariant-loop-it
 invariant-loop-it l =
-    bodies_by l.classified false (map written_view l.bodies) ≡ bodies_by l.classified l.again (map written_view (drop l.it-index l.bodies))
+    bodies_by l.classified false (map written_view l.bodies)
+    ≡ bodies_by l.classified l.again (map written_view (drop l.it-index l.bodies))

@@ -6,5 +6,6 @@ use Rattle.check_classifiers.proofs.bodies.names_other.Given as goal
 
 abbrev pub invariant-loop-it : goal.invariant-loop-it
 invariant-loop-it l =
-    list_any (λ (it : Item). not (bytes_eq it.automaton l.first)) (items_behind l.last (drop l.it-index l.states))
+    list_any (λ (it : Item). not (bytes_eq it.automaton l.first))
+    (items_behind l.last (drop l.it-index l.states))
     ≡ list_any (λ (it : Item). not (bytes_eq it.automaton l.first)) (items_behind [] l.states)

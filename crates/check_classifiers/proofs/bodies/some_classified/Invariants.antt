@@ -6,4 +6,5 @@ use Rattle.check_classifiers.proofs.bodies.some_classified.Given as goal
 
 abbrev pub invariant-loop-it : goal.invariant-loop-it
 invariant-loop-it l =
-    list_any spec.has_classifier (map written_view (drop l.it-index l.bodies)) ≡ list_any spec.has_classifier (map written_view l.bodies)
+    list_any spec.has_classifier (map written_view (drop l.it-index l.bodies))
+    ≡ list_any spec.has_classifier (map written_view l.bodies)

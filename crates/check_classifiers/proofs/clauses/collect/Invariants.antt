@@ -7,6 +7,8 @@ use Rattle.check_classifiers.proofs.clauses.collect.Given as goal
 
 abbrev pub invariant-loop-it : goal.invariant-loop-it
 invariant-loop-it l =
-    (l.all.clauses ++ filter_map spec.clause_of (map written_view (drop l.it-index l.bodies)) ≡ filter_map spec.clause_of (map written_view l.bodies))
-    × (l.all.places ++ map (λ (it : Written). it.at) (filter spec.has_classifier (map written_view (drop l.it-index l.bodies)))
+    (l.all.clauses ++ filter_map spec.clause_of (map written_view (drop l.it-index l.bodies))
+    ≡ filter_map spec.clause_of (map written_view l.bodies))
+    × (l.all.places ++ map (λ (it : Written). it.at)
+    (filter spec.has_classifier (map written_view (drop l.it-index l.bodies)))
     ≡ map (λ (it : Written). it.at) (filter spec.has_classifier (map written_view l.bodies)))

@@ -4,4 +4,5 @@ use Rattle.check_classifiers.proofs.clauses.states_in.Given as goal
 
 abbrev pub invariant-loop-it : goal.invariant-loop-it
 invariant-loop-it l =
-    l.list ++ map (λ (it : StateName). it.state.bytes) (drop l.it-index l.states) ≡ map (λ (it : StateName). it.state.bytes) l.states
+    l.list ++ map (λ (it : StateName). it.state.bytes) (drop l.it-index l.states)
+    ≡ map (λ (it : StateName). it.state.bytes) l.states

@@ -8,13 +8,19 @@ use Rattle.check_classifiers.proofs.group.all_params.Goals as goal
 pub returns-in_err-params : goal.returns-in_err-params
 returns-in_err-params c =
     let p = err_from_is_err_and c.from_residual.result c.from_residual.ensures.1 in
-    let at = map_at written_view c.args.bodies.now c.loop-it.it-index c.it-item.result (omega arith) c.it-item.is in
+    let at =
+    map_at written_view c.args.bodies.now c.loop-it.it-index c.it-item.result
+    (omega arith) c.it-item.is in
     rw (p.1, p.2)
-    (so_far_fails (params_by c.args.none) (map written_view c.args.bodies.now) c.loop-it.it-index (written_view c.it-item.result) _ c.loop-it.invariant at.0 at.1
+    (so_far_fails (params_by c.args.none) (map written_view c.args.bodies.now) c.loop-it.it-index
+    (written_view c.it-item.result) _ c.loop-it.invariant at.0 at.1
     c.in_err-params.ensures)
 
 pub loop-it-preserved : goal.loop-it-preserved
 loop-it-preserved c =
-    let at = map_at written_view c.args.bodies.now c.loop-it.it-index c.it-item.result (omega arith) c.it-item.is in
-    so_far_more (params_by c.args.none) (map written_view c.args.bodies.now) c.loop-it.it-index (written_view c.it-item.result) _ c.loop-it.invariant at.0 at.1
+    let at =
+    map_at written_view c.args.bodies.now c.loop-it.it-index c.it-item.result
+    (omega arith) c.it-item.is in
+    so_far_more (params_by c.args.none) (map written_view c.args.bodies.now) c.loop-it.it-index
+    (written_view c.it-item.result) _ c.loop-it.invariant at.0 at.1
     c.in_ok-params.ensures

@@ -11,6 +11,7 @@ use Rattle.check_classifiers.proofs.group.judge_bodies.Goals as goal
 pub returns : goal.returns
 returns c =
     subst (λ (fs : List Fault). Finds fs c.all_bodies.result)
-    (ap₂ (λ (b : Bool) (bs : List Written). bodies_by b false (map written_view bs)) c.is_classified.ensures c.as_slice.ensures
+    (ap₂ (λ (b : Bool) (bs : List Written). bodies_by b false (map written_view bs))
+    c.is_classified.ensures c.as_slice.ensures
     ∙ bodies_are (group_view c.args.group.now) [] (map written_view c.args.group.now.bodies))
     c.all_bodies.ensures

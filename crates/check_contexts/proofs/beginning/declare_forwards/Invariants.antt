@@ -7,5 +7,6 @@ use Rattle.check_contexts.proofs.beginning.declare_forwards.Given as goal
 
 abbrev pub invariant-loop-i : goal.invariant-loop-i
 invariant-loop-i l =
-    DeclaresSoFar l.initial.scopes l.scopes (forwards_in (source_view l.source) (drop l.i (map heading_view l.source.headings)))
+    DeclaresSoFar l.initial.scopes l.scopes
+    (forwards_in (source_view l.source) (drop l.i (map heading_view l.source.headings)))
     (forwards_in (source_view l.source) (map heading_view l.source.headings))

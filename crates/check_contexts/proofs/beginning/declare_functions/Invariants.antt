@@ -10,6 +10,8 @@ abbrev pub invariant-loop-i : goal.invariant-loop-i
 invariant-loop-i l =
     DeclaresSoFar l.initial.scopes l.scopes
     (spec.function_entries (source_view l.source) l.i
-    (spec.stated (source_view l.source) (map heading_view l.source.headings) []) (drop l.i (groups_view l.source.groups)))
+    (spec.stated (source_view l.source) (map heading_view l.source.headings) [])
+    (drop l.i (groups_view l.source.groups)))
     (spec.function_entries (source_view l.source) 0
-    (spec.stated (source_view l.source) (map heading_view l.source.headings) []) (groups_view l.source.groups))
+    (spec.stated (source_view l.source) (map heading_view l.source.headings) [])
+    (groups_view l.source.groups))

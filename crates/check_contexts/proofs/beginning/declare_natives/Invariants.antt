@@ -9,6 +9,7 @@ abbrev pub invariant-loop-i : goal.invariant-loop-i
 invariant-loop-i l =
     DeclaresSoFar l.initial.scopes l.scopes
     (spec.native_entries (source_view l.source) l.number (spec.natives_in (source_view l.source)
-    (spec.stated (source_view l.source) (drop l.i (map heading_view l.source.headings)) (drop l.i []))))
+    (spec.stated (source_view l.source) (drop l.i (map heading_view l.source.headings))
+    (drop l.i []))))
     (spec.native_entries (source_view l.source) 0 (spec.natives_in (source_view l.source)
     (spec.stated (source_view l.source) (map heading_view l.source.headings) [])))

@@ -13,11 +13,19 @@ use Rattle.check_contexts.proofs.callables.function_at.Goals as goal
 
 pub returns : goal.returns
 returns c = λ group here.
-    let long : length c.as_slice.result.now ≡ length c.args.source.now.groups = ap length c.as_slice.ensures in
+    let long : length c.as_slice.result.now ≡ length c.args.source.now.groups =
+    ap length c.as_slice.ensures in
     let within : c.args.place < length c.args.source.now.groups = c.requires.within in
-    let at = viewed_in group_view c.args.source.now.groups c.as_slice.result.now c.args.place c.index-as_slice-place.result c.as_slice.ensures (omega arith) c.index-as_slice-place.is in
-    let same : group_view c.index-as_slice-place.result ≡ group = one_at (group_view c.index-as_slice-place.result) group (sym at ∙ here) in
-    function_is (source_view c.args.source.now) (map heading_view c.args.source.now.headings) (heads_view c.args.heads.now) group c.in_ok-number.number c.args.place
+    let at =
+    viewed_in group_view c.args.source.now.groups c.as_slice.result.now c.args.place
+    c.index-as_slice-place.result c.as_slice.ensures
+    (omega arith) c.index-as_slice-place.is in
+    let same : group_view c.index-as_slice-place.result ≡ group =
+    one_at (group_view c.index-as_slice-place.result) group (sym at ∙ here) in
+    function_is (source_view c.args.source.now) (map heading_view c.args.source.now.headings)
+    (heads_view c.args.heads.now) group c.in_ok-number.number c.args.place
     c.first-first.result (callable_view c.in_ok-it.it) c.in_ok-it.ensures c.in_ok-number.ensures
-    (c.first-first.ensures (has_number (groups_view c.args.source.now.groups) c.args.place (group_view c.index-as_slice-place.result) at)
-    ∙ ap (λ (g : Group). position (belongs c.args.source.now.tags c.args.source.now.fallback.now g.key) (map heading_view c.args.source.now.headings)) same)
+    (c.first-first.ensures (has_number (groups_view c.args.source.now.groups) c.args.place
+    (group_view c.index-as_slice-place.result) at)
+    ∙ ap (λ (g : Group). position (belongs c.args.source.now.tags c.args.source.now.fallback.now
+    g.key) (map heading_view c.args.source.now.headings)) same)

@@ -14,4 +14,5 @@ invariant-loop-i l =
     (spec.stated (source_view l.source) (map heading_view l.source.headings) (heads_view l.heads))
     (drop l.i (groups_view l.source.groups))
     ≡ spec.functions_from (source_view l.source) 0
-    (spec.stated (source_view l.source) (map heading_view l.source.headings) (heads_view l.heads)) (groups_view l.source.groups)
+    (spec.stated (source_view l.source) (map heading_view l.source.headings) (heads_view l.heads))
+    (groups_view l.source.groups)

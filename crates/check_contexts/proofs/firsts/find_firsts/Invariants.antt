@@ -6,5 +6,6 @@ use Rattle.check_contexts.proofs.firsts.find_firsts.Given as goal
 
 abbrev pub invariant-loop-i : goal.invariant-loop-i
 invariant-loop-i l =
-    AreFirsts l.source.tags l.source.fallback.now (groups_view l.source.groups) (map heading_view (take l.i l.headings))
+    AreFirsts l.source.tags l.source.fallback.now (groups_view l.source.groups)
+    (map heading_view (take l.i l.headings))
     l.firsts.own.items l.firsts.entry

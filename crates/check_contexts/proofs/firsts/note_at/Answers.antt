@@ -6,7 +6,8 @@ use Rattle.check_contexts.proofs.firsts.note_at.Goals as goal
 
 pub returns-then-number-len : goal.returns-then-number-len
 returns-then-number-len c =
-    set_updates c.args.own.now.items c.args.number c.index.result.now c.first_of.result (λ (first : Option ℕ). option_or first (Some c.args.place))
+    set_updates c.args.own.now.items c.args.number c.index.result.now c.first_of.result
+    (λ (first : Option ℕ). option_or first (Some c.args.place))
     c.index.ensures c.first_of.ensures
 
 pub returns-else-number-len : goal.returns-else-number-len

@@ -10,12 +10,21 @@ use Rattle.check_contexts.proofs.operators.user_operators.Goals as goal
 
 pub loop-i-preserved : goal.loop-i-preserved
 loop-i-preserved c =
-    let at = viewed_in group_view c.args.source.now.groups c.as_slice-groups.result.now c.loop-i.i c.index-groups-i.result c.as_slice-groups.ensures
+    let at =
+    viewed_in group_view c.args.source.now.groups c.as_slice-groups.result.now c.loop-i.i
+    c.index-groups-i.result c.as_slice-groups.ensures
     (omega arith) c.index-groups-i.is in
-    let step = define_step (source_view c.args.source.now) (groups_view c.args.source.now.groups) c.loop-i.i (group_view c.index-groups-i.result) c.loop-i.operators
-    c.define.new.operators (key_view c.index-groups-i.result.key) at c.requires refl c.loop-i.invariant.1
-    (c.in_ok-define.ensures ∙ ap (λ (n : ℕ). defined_by c.loop-i.operators n (key_view c.index-groups-i.result.key)) c.in_ok-number.ensures) in (
-      operators_more (source_view c.args.source.now) (groups_view c.args.source.now.groups) c.loop-i.i (group_view c.index-groups-i.result) c.loop-i.operators
+    let step =
+    define_step (source_view c.args.source.now)
+    (groups_view c.args.source.now.groups) c.loop-i.i
+    (group_view c.index-groups-i.result) c.loop-i.operators
+    c.define.new.operators (key_view c.index-groups-i.result.key) at c.requires refl
+    c.loop-i.invariant.1
+    (c.in_ok-define.ensures ∙ ap (λ (n : ℕ). defined_by c.loop-i.operators n
+    (key_view c.index-groups-i.result.key)) c.in_ok-number.ensures) in (
+      operators_more (source_view c.args.source.now)
+          (groups_view c.args.source.now.groups) c.loop-i.i
+          (group_view c.index-groups-i.result) c.loop-i.operators
           c.define.new.operators _ c.loop-i.invariant.0 at step.0,
       step.1,
     )
@@ -23,5 +32,7 @@ loop-i-preserved c =
 pub returns : goal.returns
 returns c =
     let le : length c.as_slice-groups.result.now ≤ c.loop-i.i = omega arith in
-    operators_past (source_view c.args.source.now) (groups_view c.args.source.now.groups) c.loop-i.i c.loop-i.operators _
-    (past group_view c.args.source.now.groups c.as_slice-groups.result.now c.loop-i.i c.as_slice-groups.ensures le) c.loop-i.invariant.0
+    operators_past (source_view c.args.source.now)
+    (groups_view c.args.source.now.groups) c.loop-i.i c.loop-i.operators _
+    (past group_view c.args.source.now.groups c.as_slice-groups.result.now c.loop-i.i
+    c.as_slice-groups.ensures le) c.loop-i.invariant.0

@@ -7,6 +7,7 @@ use Rattle.check_contexts.proofs.operators.user_operators.Given as goal
 
 abbrev pub invariant-loop-i : goal.invariant-loop-i
 invariant-loop-i l =
-    (l.operators ++ spec.operators_from (source_view l.source) l.i (drop l.i (groups_view l.source.groups))
+    (l.operators ++ spec.operators_from (source_view l.source) l.i
+    (drop l.i (groups_view l.source.groups))
     ≡ spec.operators_from (source_view l.source) 0 (groups_view l.source.groups))
     × AreOperators (groups_view l.source.groups) l.i l.operators

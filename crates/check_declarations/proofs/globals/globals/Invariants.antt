@@ -5,7 +5,8 @@ use Rattle.check_locals.specs.PointView.{point_view}
 use Rattle.check_locals.specs.Tells.{told}
 use Rattle.check_done.specs.DoneView.{done_view}
 use Rattle.check_declarations.specs.KnownView.{source_view}
-use Rattle.check_declarations.proofs.DeclLaws.{Told, one_global, past_global, all_globals, end_globals}
+use Rattle.check_declarations.proofs.DeclLaws.{Told, one_global, past_global, all_globals}
+use Rattle.check_declarations.proofs.DeclLaws.{end_globals}
 use Rattle.check_declarations.proofs.globals.globals.Given as goal
 
 abbrev pub invariant-loop-i : goal.invariant-loop-i

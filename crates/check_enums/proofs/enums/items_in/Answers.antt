@@ -9,7 +9,8 @@ loop-i-init c = fold_begins _ _ _ _ (warned_are _ _ _) _ c.nothing-done.ensures
 
 pub loop-i-preserved : goal.loop-i-preserved
 loop-i-preserved c =
-    fold_more _ _ _ _ _ _ _ (warned_are _ _ _) _ _ _ c.loop-i.invariant (omega arith) c.index-items-i.is
+    fold_more _ _ _ _ _ _ _ (warned_are _ _ _) _ _ _ c.loop-i.invariant
+    (omega arith) c.index-items-i.is
     (c.in_ok-done.ensures _ c.item_rule-warned.ensures) c.in_ok-next.ensures.scope
 
 pub returns-in_err-done : goal.returns-in_err-done
@@ -17,7 +18,9 @@ returns-in_err-done c =
     let p = err_from_is_err_and c.from_residual.result c.from_residual.ensures.1 in
     let broken = c.in_err-done.ensures _ c.item_rule-warned.ensures in
     rw (p.1, p.2) (record {
-      verdict = fold_breaks _ _ _ _ _ _ _ (warned_are _ _ _) _ _ c.loop-i.invariant (omega arith) c.index-items-i.is broken;
+      verdict =
+          fold_breaks _ _ _ _ _ _ _ (warned_are _ _ _) _ _ c.loop-i.invariant
+          (omega arith) c.index-items-i.is broken;
       scope = tt;
     })
 

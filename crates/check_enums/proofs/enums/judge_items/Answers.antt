@@ -16,16 +16,20 @@ loop-i-init c =
 
 pub loop-i-preserved : goal.loop-i-preserved
 loop-i-preserved c = (
-  fold_more _ _ _ _ _ _ _ (parts_are _ _ _) _ _ _ c.loop-i.invariant.0 (omega arith) c.index-items-i.is
+  fold_more _ _ _ _ _ _ _ (parts_are _ _ _) _ _ _ c.loop-i.invariant.0
+      (omega arith) c.index-items-i.is
       (c.in_ok-fell.ensures _ c.judge_maybe-part.ensures) c.in_ok-next.ensures.scope,
-  sym (without_again _ c.loop-i.i) ∙ ap (λ (it : Blocks). without c.loop-i.i it) c.in_ok-next.ensures.one
+  sym (without_again _ c.loop-i.i)
+      ∙ ap (λ (it : Blocks). without c.loop-i.i it) c.in_ok-next.ensures.one
       ∙ c.loop-i.invariant.1,
 )
 
 pub returns-in_err-fell : goal.returns-in_err-fell
 returns-in_err-fell c =
     let broken = c.in_err-fell.ensures _ c.judge_maybe-part.ensures in
-    let fails = fold_fails _ _ _ _ _ _ _ (parts_are _ _ _) _ _ c.loop-i.invariant.0 (omega arith) c.index-items-i.is broken in
+    let fails =
+    fold_fails _ _ _ _ _ _ _ (parts_are _ _ _) _ _ c.loop-i.invariant.0
+    (omega arith) c.index-items-i.is broken in
     record {
       verdict = exit_answers judged_view _ c.from_residual.result _ c.from_residual.ensures.1 fails;
       scope = exit_judged _ _ c.from_residual.result _ c.from_residual.ensures.1 broken;
@@ -38,5 +42,7 @@ returns c =
     let all : c.loop-i.i ≡ length c.args.items.now = omega arith in
     record {
       verdict = subst P (sym whole) c.all_parts.ensures;
-      scope = judged_holds _ (ap (λ (n : ℕ). without n c.loop-i.scopes) (sym all) ∙ c.loop-i.invariant.1);
+      scope =
+          judged_holds _ (ap (λ (n : ℕ). without n c.loop-i.scopes) (sym all)
+          ∙ c.loop-i.invariant.1);
     }

@@ -11,8 +11,11 @@ use Rattle.check_types.specs.ContextView.{around_view}
 use Rattle.check_types.specs.TypedView.{typed_view}
 use Rattle.check_scopes.specs.Scopes.{scope_view}
 use Rattle.check_chains.specs.Compared.{compared_view}
-use Rattle.check_expressions.proofs.CollectLaws.{collects_none, collects_more, collects_all, counts_all}
-use Rattle.check_expressions.proofs.CountLaws.{counts_two, counts_three, second_at, third_at, links_at, chain_is, call_is, linked_is, link_literals_are}
+use Rattle.check_expressions.proofs.CollectLaws.{collects_none, collects_more, collects_all}
+use Rattle.check_expressions.proofs.CollectLaws.{counts_all}
+use Rattle.check_expressions.proofs.CountLaws.{counts_two, counts_three, second_at, third_at}
+use Rattle.check_expressions.proofs.CountLaws.{links_at, chain_is, call_is, linked_is}
+use Rattle.check_expressions.proofs.CountLaws.{link_literals_are}
 use Rattle.check_expressions.proofs.expression.+expression.Goals as goal
 
 -- ---- lists
@@ -23,15 +26,18 @@ links_of-loop-i-init t c = collects_none _ _ _ _ _ _ _ _ _ _ _ (rw c.new.ensures
 pub links_of-loop-i-preserved : goal.links_of-loop-i-preserved
 links_of-loop-i-preserved t c =
     collects_more _ _ _ _ _ _ _ _ _ _ _ _ _ c.loop-i.invariant (omega arith) c.index-items-i.is
-    c.linked-it.ensures.answer c.linked-it.ensures.behind c.with_link-all.ensures.so_far c.with_link-all.ensures.judged
+    c.linked-it.ensures.answer c.linked-it.ensures.behind c.with_link-all.ensures.so_far
+    c.with_link-all.ensures.judged
 
 pub links_of-returns-clause-answer : goal.links_of-returns-clause-answer
 links_of-returns-clause-answer t c =
-    rw (← c.as_slice-items.ensures) (collects_all _ _ _ _ _ _ _ _ _ _ c.loop-i.invariant (omega arith))
+    rw (← c.as_slice-items.ensures)
+    (collects_all _ _ _ _ _ _ _ _ _ _ c.loop-i.invariant (omega arith))
 
 pub links_of-returns-clause-behind : goal.links_of-returns-clause-behind
 links_of-returns-clause-behind t c =
-    rw (← c.as_slice-items.ensures) (counts_all _ _ _ _ _ _ _ _ _ _ c.loop-i.invariant (omega arith))
+    rw (← c.as_slice-items.ensures)
+    (counts_all _ _ _ _ _ _ _ _ _ _ c.loop-i.invariant (omega arith))
 
 pub offers_of-loop-i-init : goal.offers_of-loop-i-init
 offers_of-loop-i-init t c = collects_none _ _ _ _ _ _ _ _ _ _ _ (rw c.new.ensures.items refl)
@@ -39,15 +45,18 @@ offers_of-loop-i-init t c = collects_none _ _ _ _ _ _ _ _ _ _ _ (rw c.new.ensure
 pub offers_of-loop-i-preserved : goal.offers_of-loop-i-preserved
 offers_of-loop-i-preserved t c =
     collects_more _ _ _ _ _ _ _ _ _ _ _ _ _ c.loop-i.invariant (omega arith) c.index-items-i.is
-    c.offered-it.ensures.answer c.offered-it.ensures.behind c.with_offer-all.ensures.so_far c.with_offer-all.ensures.judged
+    c.offered-it.ensures.answer c.offered-it.ensures.behind c.with_offer-all.ensures.so_far
+    c.with_offer-all.ensures.judged
 
 pub offers_of-returns-clause-answer : goal.offers_of-returns-clause-answer
 offers_of-returns-clause-answer t c =
-    rw (← c.as_slice-items.ensures) (collects_all _ _ _ _ _ _ _ _ _ _ c.loop-i.invariant (omega arith))
+    rw (← c.as_slice-items.ensures)
+    (collects_all _ _ _ _ _ _ _ _ _ _ c.loop-i.invariant (omega arith))
 
 pub offers_of-returns-clause-behind : goal.offers_of-returns-clause-behind
 offers_of-returns-clause-behind t c =
-    rw (← c.as_slice-items.ensures) (counts_all _ _ _ _ _ _ _ _ _ _ c.loop-i.invariant (omega arith))
+    rw (← c.as_slice-items.ensures)
+    (counts_all _ _ _ _ _ _ _ _ _ _ c.loop-i.invariant (omega arith))
 
 -- ---- elements
 
@@ -75,104 +84,167 @@ expr-returns-in-Paren-clause-answer t c =
 
 pub expr-returns-in-Paren-clause-behind : goal.expr-returns-in-Paren-clause-behind
 expr-returns-in-Paren-clause-behind t c =
-    rw (c.in-Paren.is, ← c.deref.ensures) (c.with_operand.ensures.judged _ _ c.expr-x.ensures.behind)
+    rw (c.in-Paren.is, ← c.deref.ensures)
+    (c.with_operand.ensures.judged _ _ c.expr-x.ensures.behind)
 
 pub expr-returns-in-Prefix-clause-answer : goal.expr-returns-in-Prefix-clause-answer
 expr-returns-in-Prefix-clause-answer t c =
-    rw (c.in-Prefix.is, ← c.deref-in-Prefix.ensures) (c.with_operand-in-Prefix.ensures.answer _ c.expr-x-in-Prefix.ensures.answer)
+    rw (c.in-Prefix.is, ← c.deref-in-Prefix.ensures)
+    (c.with_operand-in-Prefix.ensures.answer _ c.expr-x-in-Prefix.ensures.answer)
 
 pub expr-returns-in-Prefix-clause-behind : goal.expr-returns-in-Prefix-clause-behind
 expr-returns-in-Prefix-clause-behind t c =
-    rw (c.in-Prefix.is, ← c.deref-in-Prefix.ensures) (c.with_operand-in-Prefix.ensures.judged _ _ c.expr-x-in-Prefix.ensures.behind)
+    rw (c.in-Prefix.is, ← c.deref-in-Prefix.ensures)
+    (c.with_operand-in-Prefix.ensures.judged _ _ c.expr-x-in-Prefix.ensures.behind)
 
 pub expr-returns-in-Tagged-clause-answer : goal.expr-returns-in-Tagged-clause-answer
 expr-returns-in-Tagged-clause-answer t c =
-    rw (c.in-Tagged.is, ← c.deref-in-Tagged.ensures) (c.with_operand-in-Tagged.ensures.answer _ c.expr-x-in-Tagged.ensures.answer)
+    rw (c.in-Tagged.is, ← c.deref-in-Tagged.ensures)
+    (c.with_operand-in-Tagged.ensures.answer _ c.expr-x-in-Tagged.ensures.answer)
 
 pub expr-returns-in-Tagged-clause-behind : goal.expr-returns-in-Tagged-clause-behind
 expr-returns-in-Tagged-clause-behind t c =
-    rw (c.in-Tagged.is, ← c.deref-in-Tagged.ensures) (c.with_operand-in-Tagged.ensures.judged _ _ c.expr-x-in-Tagged.ensures.behind)
+    rw (c.in-Tagged.is, ← c.deref-in-Tagged.ensures)
+    (c.with_operand-in-Tagged.ensures.judged _ _ c.expr-x-in-Tagged.ensures.behind)
 
 pub expr-returns-in-Postfix-clause-answer : goal.expr-returns-in-Postfix-clause-answer
 expr-returns-in-Postfix-clause-answer t c =
-    rw (c.in-Postfix.is, ← c.deref-in-Postfix.ensures) (c.with_operand-in-Postfix.ensures.answer _ c.expr-x-in-Postfix.ensures.answer)
+    rw (c.in-Postfix.is, ← c.deref-in-Postfix.ensures)
+    (c.with_operand-in-Postfix.ensures.answer _ c.expr-x-in-Postfix.ensures.answer)
 
 pub expr-returns-in-Postfix-clause-behind : goal.expr-returns-in-Postfix-clause-behind
 expr-returns-in-Postfix-clause-behind t c =
-    rw (c.in-Postfix.is, ← c.deref-in-Postfix.ensures) (c.with_operand-in-Postfix.ensures.judged _ _ c.expr-x-in-Postfix.ensures.behind)
+    rw (c.in-Postfix.is, ← c.deref-in-Postfix.ensures)
+    (c.with_operand-in-Postfix.ensures.judged _ _ c.expr-x-in-Postfix.ensures.behind)
 
 -- ---- of two
 
 pub expr-returns-in-Index-clause-answer : goal.expr-returns-in-Index-clause-answer
 expr-returns-in-Index-clause-answer t c =
-    rw (c.in-Index.is, ← c.deref-in-Index.ensures, ← c.deref-in-Index-2.ensures) (c.with_operands.ensures.answer _ _ c.expr-x-in-Index.ensures.answer (second_at (around_view c.args.cx.now) (scope_view c.args.scopes.now) _ _ (expr_view c.deref-in-Index-2.result.now) _ _ c.expr-x-in-Index.ensures.behind c.expr-y.ensures.answer))
+    rw (c.in-Index.is, ← c.deref-in-Index.ensures, ← c.deref-in-Index-2.ensures)
+    (c.with_operands.ensures.answer _ _ c.expr-x-in-Index.ensures.answer
+    (second_at (around_view c.args.cx.now) (scope_view c.args.scopes.now) _ _
+    (expr_view c.deref-in-Index-2.result.now) _ _ c.expr-x-in-Index.ensures.behind
+    c.expr-y.ensures.answer))
 
 pub expr-returns-in-Index-clause-behind : goal.expr-returns-in-Index-clause-behind
 expr-returns-in-Index-clause-behind t c =
-    rw (c.in-Index.is, ← c.deref-in-Index.ensures, ← c.deref-in-Index-2.ensures) (c.with_operands.ensures.judged _ _ (counts_two _ _ _ _ _ _ _ c.expr-x-in-Index.ensures.behind c.expr-y.ensures.behind))
+    rw (c.in-Index.is, ← c.deref-in-Index.ensures, ← c.deref-in-Index-2.ensures)
+    (c.with_operands.ensures.judged _ _
+    (counts_two _ _ _ _ _ _ _ c.expr-x-in-Index.ensures.behind c.expr-y.ensures.behind))
 
 pub expr-returns-in-Character-clause-answer : goal.expr-returns-in-Character-clause-answer
 expr-returns-in-Character-clause-answer t c =
-    rw (c.in-Character.is, ← c.deref-in-Character.ensures, ← c.deref-in-Character-2.ensures) (c.with_operands-in-Character.ensures.answer _ _ c.expr-x-in-Character.ensures.answer (second_at (around_view c.args.cx.now) (scope_view c.args.scopes.now) _ _ (expr_view c.deref-in-Character-2.result.now) _ _ c.expr-x-in-Character.ensures.behind c.expr-y-in-Character.ensures.answer))
+    rw (c.in-Character.is, ← c.deref-in-Character.ensures, ← c.deref-in-Character-2.ensures)
+    (c.with_operands-in-Character.ensures.answer _ _ c.expr-x-in-Character.ensures.answer
+    (second_at (around_view c.args.cx.now) (scope_view c.args.scopes.now) _ _
+    (expr_view c.deref-in-Character-2.result.now) _ _
+    c.expr-x-in-Character.ensures.behind c.expr-y-in-Character.ensures.answer))
 
 pub expr-returns-in-Character-clause-behind : goal.expr-returns-in-Character-clause-behind
 expr-returns-in-Character-clause-behind t c =
-    rw (c.in-Character.is, ← c.deref-in-Character.ensures, ← c.deref-in-Character-2.ensures) (c.with_operands-in-Character.ensures.judged _ _ (counts_two _ _ _ _ _ _ _ c.expr-x-in-Character.ensures.behind c.expr-y-in-Character.ensures.behind))
+    rw (c.in-Character.is, ← c.deref-in-Character.ensures, ← c.deref-in-Character-2.ensures)
+    (c.with_operands-in-Character.ensures.judged _ _
+    (counts_two _ _ _ _ _ _ _ c.expr-x-in-Character.ensures.behind
+    c.expr-y-in-Character.ensures.behind))
 
 pub expr-returns-in-Binary-clause-answer : goal.expr-returns-in-Binary-clause-answer
 expr-returns-in-Binary-clause-answer t c =
-    rw (c.in-Binary.is, ← c.deref-in-Binary.ensures, ← c.deref-in-Binary-2.ensures) (c.with_operands-in-Binary.ensures.answer _ _ c.expr-x-in-Binary.ensures.answer (second_at (around_view c.args.cx.now) (scope_view c.args.scopes.now) _ _ (expr_view c.deref-in-Binary-2.result.now) _ _ c.expr-x-in-Binary.ensures.behind c.expr-y-in-Binary.ensures.answer))
+    rw (c.in-Binary.is, ← c.deref-in-Binary.ensures, ← c.deref-in-Binary-2.ensures)
+    (c.with_operands-in-Binary.ensures.answer _ _ c.expr-x-in-Binary.ensures.answer
+    (second_at (around_view c.args.cx.now) (scope_view c.args.scopes.now) _ _
+    (expr_view c.deref-in-Binary-2.result.now) _ _ c.expr-x-in-Binary.ensures.behind
+    c.expr-y-in-Binary.ensures.answer))
 
 pub expr-returns-in-Binary-clause-behind : goal.expr-returns-in-Binary-clause-behind
 expr-returns-in-Binary-clause-behind t c =
-    rw (c.in-Binary.is, ← c.deref-in-Binary.ensures, ← c.deref-in-Binary-2.ensures) (c.with_operands-in-Binary.ensures.judged _ _ (counts_two _ _ _ _ _ _ _ c.expr-x-in-Binary.ensures.behind c.expr-y-in-Binary.ensures.behind))
+    rw (c.in-Binary.is, ← c.deref-in-Binary.ensures, ← c.deref-in-Binary-2.ensures)
+    (c.with_operands-in-Binary.ensures.judged _ _
+    (counts_two _ _ _ _ _ _ _ c.expr-x-in-Binary.ensures.behind
+    c.expr-y-in-Binary.ensures.behind))
 
 pub expr-returns-in-Assign-clause-answer : goal.expr-returns-in-Assign-clause-answer
 expr-returns-in-Assign-clause-answer t c =
-    rw (c.in-Assign.is, ← c.deref-in-Assign.ensures, ← c.deref-in-Assign-2.ensures) (c.with_operands-in-Assign.ensures.answer _ _ c.expr-x-in-Assign.ensures.answer (second_at (around_view c.args.cx.now) (scope_view c.args.scopes.now) _ _ (expr_view c.deref-in-Assign-2.result.now) _ _ c.expr-x-in-Assign.ensures.behind c.expr-y-in-Assign.ensures.answer))
+    rw (c.in-Assign.is, ← c.deref-in-Assign.ensures, ← c.deref-in-Assign-2.ensures)
+    (c.with_operands-in-Assign.ensures.answer _ _ c.expr-x-in-Assign.ensures.answer
+    (second_at (around_view c.args.cx.now) (scope_view c.args.scopes.now) _ _
+    (expr_view c.deref-in-Assign-2.result.now) _ _ c.expr-x-in-Assign.ensures.behind
+    c.expr-y-in-Assign.ensures.answer))
 
 pub expr-returns-in-Assign-clause-behind : goal.expr-returns-in-Assign-clause-behind
 expr-returns-in-Assign-clause-behind t c =
-    rw (c.in-Assign.is, ← c.deref-in-Assign.ensures, ← c.deref-in-Assign-2.ensures) (c.with_operands-in-Assign.ensures.judged _ _ (counts_two _ _ _ _ _ _ _ c.expr-x-in-Assign.ensures.behind c.expr-y-in-Assign.ensures.behind))
+    rw (c.in-Assign.is, ← c.deref-in-Assign.ensures, ← c.deref-in-Assign-2.ensures)
+    (c.with_operands-in-Assign.ensures.judged _ _
+    (counts_two _ _ _ _ _ _ _ c.expr-x-in-Assign.ensures.behind
+    c.expr-y-in-Assign.ensures.behind))
 
 -- ---- choices
 
 pub expr-returns-in-Choice-clause-answer : goal.expr-returns-in-Choice-clause-answer
 expr-returns-in-Choice-clause-answer t c =
-    rw (c.in-Choice.is, ← c.deref-in-Choice.ensures, ← c.deref-in-Choice-2.ensures, ← c.deref-in-Choice-3.ensures) (c.choose.ensures.answer _ _ _ c.expr-x-in-Choice.ensures.answer (second_at (around_view c.args.cx.now) (scope_view c.args.scopes.now) _ _ (expr_view c.deref-in-Choice-2.result.now) _ _ c.expr-x-in-Choice.ensures.behind c.expr-y-in-Choice.ensures.answer) (third_at (around_view c.args.cx.now) (scope_view c.args.scopes.now) _ _ _ (expr_view c.deref-in-Choice-3.result.now) _ _ _ _ _ c.expr-x-in-Choice.ensures.behind c.expr-y-in-Choice.ensures.behind c.expr-z.ensures.answer))
+    rw (
+      c.in-Choice.is,
+      ← c.deref-in-Choice.ensures,
+      ← c.deref-in-Choice-2.ensures,
+      ← c.deref-in-Choice-3.ensures,
+    )
+    (c.choose.ensures.answer _ _ _ c.expr-x-in-Choice.ensures.answer
+    (second_at (around_view c.args.cx.now) (scope_view c.args.scopes.now) _ _
+    (expr_view c.deref-in-Choice-2.result.now) _ _ c.expr-x-in-Choice.ensures.behind
+    c.expr-y-in-Choice.ensures.answer)
+    (third_at (around_view c.args.cx.now)
+    (scope_view c.args.scopes.now) _ _ _
+    (expr_view c.deref-in-Choice-3.result.now) _ _ _ _ _
+    c.expr-x-in-Choice.ensures.behind
+    c.expr-y-in-Choice.ensures.behind
+    c.expr-z.ensures.answer))
 
 pub expr-returns-in-Choice-clause-behind : goal.expr-returns-in-Choice-clause-behind
 expr-returns-in-Choice-clause-behind t c =
-    rw (c.in-Choice.is, ← c.deref-in-Choice.ensures, ← c.deref-in-Choice-2.ensures, ← c.deref-in-Choice-3.ensures) (c.choose.ensures.judged _ _ (counts_three _ _ _ _ _ _ _ _ _ _ c.expr-x-in-Choice.ensures.behind c.expr-y-in-Choice.ensures.behind c.expr-z.ensures.behind))
+    rw (
+      c.in-Choice.is,
+      ← c.deref-in-Choice.ensures,
+      ← c.deref-in-Choice-2.ensures,
+      ← c.deref-in-Choice-3.ensures,
+    )
+    (c.choose.ensures.judged _ _ (counts_three _ _ _ _ _ _ _ _ _ _
+    c.expr-x-in-Choice.ensures.behind c.expr-y-in-Choice.ensures.behind
+    c.expr-z.ensures.behind))
 
 -- ---- nodes that hold lists
 
 pub expr-returns-in-Chain-clause-answer : goal.expr-returns-in-Chain-clause-answer
 expr-returns-in-Chain-clause-answer t c =
     let P : tree.Expr → Type 0 =
-    λ e. PartAnswers typed_view (expr (around_view c.args.cx.now) (scope_view c.args.scopes.now) c.args.objects.now e) c.chained.result in
+    λ e. PartAnswers typed_view (expr (around_view c.args.cx.now)
+    (scope_view c.args.scopes.now) c.args.objects.now e) c.chained.result in
     subst P (sym (chain_is _ _ _ _ _ c.in-Chain.is c.deref-in-Chain.ensures))
     (c.chained.ensures.answer _ _ c.expr-x-in-Chain.ensures.answer
-    (links_at (around_view c.args.cx.now) (scope_view c.args.scopes.now) _ _ (links (map link_view c.in-Chain.list)) _ _ c.expr-x-in-Chain.ensures.behind c.links_of-links.ensures.answer))
+    (links_at (around_view c.args.cx.now) (scope_view c.args.scopes.now) _ _
+    (links (map link_view c.in-Chain.list)) _ _ c.expr-x-in-Chain.ensures.behind
+    c.links_of-links.ensures.answer))
 
 pub expr-returns-in-Chain-clause-behind : goal.expr-returns-in-Chain-clause-behind
 expr-returns-in-Chain-clause-behind t c =
     let P : tree.Expr → Type 0 =
     λ e. Judged c.chained.result (c.links_of-links.new.objects ≡ c.args.objects.now + literals e) in
     subst P (sym (chain_is _ _ _ _ _ c.in-Chain.is c.deref-in-Chain.ensures))
-    (c.chained.ensures.judged _ _ (counts_two _ _ _ _ _ _ _ c.expr-x-in-Chain.ensures.behind c.links_of-links.ensures.behind))
+    (c.chained.ensures.judged _ _ (counts_two _ _ _ _ _ _ _ c.expr-x-in-Chain.ensures.behind
+    c.links_of-links.ensures.behind))
 
 pub expr-returns-in-Call-clause-answer : goal.expr-returns-in-Call-clause-answer
 expr-returns-in-Call-clause-answer t c =
     let P : tree.Expr → Type 0 =
-    λ e. PartAnswers typed_view (expr (around_view c.args.cx.now) (scope_view c.args.scopes.now) c.args.objects.now e) c.call_of.result in
+    λ e. PartAnswers typed_view (expr (around_view c.args.cx.now)
+    (scope_view c.args.scopes.now) c.args.objects.now e) c.call_of.result in
     subst P (sym (call_is _ _ _ _ _ c.in-Call.is))
     (c.call_of.ensures.answer _ c.offers_of-offers.ensures.answer)
 
 pub expr-returns-in-Call-clause-behind : goal.expr-returns-in-Call-clause-behind
 expr-returns-in-Call-clause-behind t c =
     let P : tree.Expr → Type 0 =
-    λ e. Judged c.call_of.result (c.offers_of-offers.new.objects ≡ c.args.objects.now + literals e) in
+    λ e. Judged c.call_of.result (c.offers_of-offers.new.objects ≡ c.args.objects.now + literals e)
+    in
     subst P (sym (call_is _ _ _ _ _ c.in-Call.is))
     (c.call_of.ensures.judged _ _ c.offers_of-offers.ensures.behind)
 
@@ -181,7 +253,9 @@ expr-returns-in-Call-clause-behind t c =
 pub linked-returns-clause-answer : goal.linked-returns-clause-answer
 linked-returns-clause-answer t c =
     let P : Verdict Compared → Type 0 = λ w. PartAnswers compared_view w c.compare.result in
-    subst P (sym (linked_is (around_view c.args.cx.now) (scope_view c.args.scopes.now) c.args.objects.now (link_view c.args.it.now) _ c.sign_of.ensures))
+    subst P (sym (linked_is (around_view c.args.cx.now)
+    (scope_view c.args.scopes.now) c.args.objects.now
+    (link_view c.args.it.now) _ c.sign_of.ensures))
     (c.compare.ensures.answer _ c.operand_of-x.ensures.answer)
 
 pub linked-returns-clause-behind : goal.linked-returns-clause-behind

@@ -9,5 +9,6 @@ use Rattle.check_expressions.proofs.leaves.callee_of.Goals as goal
 pub returns : goal.returns
 returns c =
     let P : Option Meaning → Type 0 =
-    λ means. PartAnswers callee_view (callee_rule (around_view c.args.cx.now) c.args.at means) c.callee_in_sight.result in
+    λ means. PartAnswers callee_view (callee_rule (around_view c.args.cx.now) c.args.at means)
+    c.callee_in_sight.result in
     subst P c.sight_of-sight.ensures c.callee_in_sight.ensures

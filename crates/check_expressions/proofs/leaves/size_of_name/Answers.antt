@@ -10,5 +10,8 @@ use Rattle.check_expressions.proofs.leaves.size_of_name.Goals as goal
 pub returns : goal.returns
 returns c =
     let P : Option Meaning → Type 0 =
-    λ means. PartAnswers typed_view (after (size_of c.args.at c.args.dimension means) (λ size. Stands (constant_value c.args.at (pos size) untagged))) c.size_in_sight.result in
+    λ means. PartAnswers typed_view
+    (after (size_of c.args.at c.args.dimension means)
+    (λ size. Stands (constant_value c.args.at (pos size) untagged)))
+    c.size_in_sight.result in
     subst P c.sight_of-sight.ensures c.size_in_sight.ensures

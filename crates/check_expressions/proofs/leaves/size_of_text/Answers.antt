@@ -10,5 +10,7 @@ use Rattle.check_expressions.proofs.leaves.size_of_text.Goals as goal
 pub returns : goal.returns
 returns c =
     let P : List ℕ → Type 0 =
-    λ bytes. Answers typed_view (after (plain_size c.args.at c.args.dimension (length (text_cells c.args.packed bytes))) (λ size. Stands (constant_value c.args.at (pos size) untagged))) c.sizeof_text.result in
+    λ bytes. Answers typed_view (after
+    (plain_size c.args.at c.args.dimension (length (text_cells c.args.packed bytes)))
+    (λ size. Stands (constant_value c.args.at (pos size) untagged))) c.sizeof_text.result in
     subst P c.as_slice-bytes.ensures c.sizeof_text.ensures

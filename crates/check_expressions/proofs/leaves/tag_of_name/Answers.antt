@@ -11,5 +11,8 @@ use Rattle.check_expressions.proofs.leaves.tag_of_name.Goals as goal
 pub returns : goal.returns
 returns c =
     let P : Option Meaning → Type 0 =
-    λ means. PartAnswers typed_view (after (tag_of c.args.at means) (λ tag. Stands (constant_value c.args.at (cell_of tag) untagged))) c.tag_in_sight.result in
+    λ means. PartAnswers typed_view
+    (after (tag_of c.args.at means)
+    (λ tag. Stands (constant_value c.args.at (cell_of tag) untagged)))
+    c.tag_in_sight.result in
     subst P c.sight_of-sight.ensures c.tag_in_sight.ensures

@@ -7,5 +7,6 @@ use Rattle.check_expressions.proofs.leaves.text_at.Goals as goal
 pub returns : goal.returns
 returns c =
     let P : List ℕ → Type 0 =
-    λ bytes. Answers typed_view (text_rule c.args.object c.args.at bytes c.args.packed) c.text.result in
+    λ bytes. Answers typed_view (text_rule c.args.object c.args.at bytes c.args.packed)
+    c.text.result in
     subst P c.as_slice-bytes.ensures c.text.ensures

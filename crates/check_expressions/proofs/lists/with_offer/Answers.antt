@@ -7,5 +7,6 @@ pub returns-clause-so_far : goal.returns-clause-so_far
 returns-clause-so_far c =
     λ whole rest w h k.
     seen_behind offer_view whole rest c.in_ok-all.all.items c.push.new.self.items c.in_ok-all.it
-    (list_stands (λ all. map offer_view all.items) offer_view whole rest w c.args.all c.args.it c.in_ok-all.all c.in_ok-all.it c.in_ok-all.ensures h k)
+    (list_stands (λ all. map offer_view all.items) offer_view whole rest w c.args.all c.args.it
+    c.in_ok-all.all c.in_ok-all.it c.in_ok-all.ensures h k)
     c.in_ok-push.ensures.items

@@ -10,7 +10,11 @@ use Rattle.check_functions.proofs.against.against.Goals as goal
 
 pub returns-else-first-place : goal.returns-else-first-place
 returns-else-first-place c =
-    subst (λ (o : Option ℕ). Finds (place_faults (source_view c.args.source.now) (stated (source_view c.args.source.now)
-    (map heading_view c.args.source.now.headings) (heads_view c.args.heads.now)) o c.args.place) c.compare.result)
+    subst (λ (o : Option ℕ). Finds
+    (place_faults (source_view c.args.source.now) (stated (source_view c.args.source.now)
+    (map heading_view c.args.source.now.headings) (heads_view c.args.heads.now)) o c.args.place)
+    c.compare.result)
     (sym c.in-Some.is)
-    (compared (source_view c.args.source.now) (heads_view c.args.heads.now) c.in-Some.first c.args.place c.compare.result c.if-first-place.false c.compare.ensures)
+    (compared (source_view c.args.source.now)
+    (heads_view c.args.heads.now) c.in-Some.first c.args.place c.compare.result
+    c.if-first-place.false c.compare.ensures)

@@ -11,11 +11,14 @@ use Rattle.check_functions.proofs.against.compare.Goals as goal
 
 pub returns-in-None : goal.returns-in-None
 returns-in-None c =
-    first_gone (source_view c.args.source.now) (map heading_view c.args.source.now.headings) (heads_view c.args.heads.now) c.args.first c.args.place _ c.in-None.ensures
+    first_gone (source_view c.args.source.now) (map heading_view c.args.source.now.headings)
+    (heads_view c.args.heads.now) c.args.first c.args.place _ c.in-None.ensures
 
 pub returns-in-Some : goal.returns-in-Some
 returns-in-Some c =
     subst (λ (o : Option Heading). Finds (differing_by (source_view c.args.source.now)
-    (option_map (λ (it : Heading). record { heading = it; head = head_at (heads_view c.args.heads.now) c.args.first }) o)
-    (stated_at (map heading_view c.args.source.now.headings) (heads_view c.args.heads.now) c.args.place)) c.compare_with.result)
+    (option_map (λ (it : Heading). record
+    { heading = it; head = head_at (heads_view c.args.heads.now) c.args.first }) o)
+    (stated_at (map heading_view c.args.source.now.headings)
+    (heads_view c.args.heads.now) c.args.place)) c.compare_with.result)
     c.in-Some.ensures c.compare_with.ensures

@@ -19,18 +19,28 @@ returns-in_err-all_groups c =
     let p = err_from_is_err_and c.from_residual.result c.from_residual.ensures.1 in
     rw (p.1, p.2)
     (joined_first functions.classifier_faults functions.param_faults
-    (λ (g : Group). functions.head_faults (source_view c.args.source.now) (functions.heads_of_group (source_view c.args.source.now)
-    (stated (source_view c.args.source.now) (map heading_view c.args.source.now.headings) (heads_view c.args.heads.now)) g))
-    (functions.group_faults (source_view c.args.source.now) (stated (source_view c.args.source.now) (map heading_view c.args.source.now.headings) (heads_view c.args.heads.now)))
+    (λ (g : Group). functions.head_faults (source_view c.args.source.now)
+    (functions.heads_of_group (source_view c.args.source.now)
+    (stated (source_view c.args.source.now) (map heading_view c.args.source.now.headings)
+    (heads_view c.args.heads.now)) g))
+    (functions.group_faults (source_view c.args.source.now)
+    (stated (source_view c.args.source.now) (map heading_view c.args.source.now.headings)
+    (heads_view c.args.heads.now)))
     (λ g. refl) (groups_view c.args.source.now.groups) c.in_err-all_groups.field-0.0
-    (subst (λ (gs : List held.Group). Finds (flat_map bodies_and_params (groups_view gs)) (Err c.in_err-all_groups.field-0.0)) c.as_slice.ensures c.in_err-all_groups.ensures))
+    (subst (λ (gs : List held.Group). Finds (flat_map bodies_and_params (groups_view gs))
+    (Err c.in_err-all_groups.field-0.0)) c.as_slice.ensures c.in_err-all_groups.ensures))
 
 pub returns : goal.returns
 returns c =
     joined_second functions.classifier_faults functions.param_faults
-    (λ (g : Group). functions.head_faults (source_view c.args.source.now) (functions.heads_of_group (source_view c.args.source.now)
-    (stated (source_view c.args.source.now) (map heading_view c.args.source.now.headings) (heads_view c.args.heads.now)) g))
-    (functions.group_faults (source_view c.args.source.now) (stated (source_view c.args.source.now) (map heading_view c.args.source.now.headings) (heads_view c.args.heads.now)))
+    (λ (g : Group). functions.head_faults (source_view c.args.source.now)
+    (functions.heads_of_group (source_view c.args.source.now)
+    (stated (source_view c.args.source.now) (map heading_view c.args.source.now.headings)
+    (heads_view c.args.heads.now)) g))
+    (functions.group_faults (source_view c.args.source.now)
+    (stated (source_view c.args.source.now) (map heading_view c.args.source.now.headings)
+    (heads_view c.args.heads.now)))
     (λ g. refl) (groups_view c.args.source.now.groups) _ c.head_faults.result
-    (subst (λ (gs : List held.Group). Finds (flat_map bodies_and_params (groups_view gs)) _) c.as_slice.ensures c.in_ok-all_groups.ensures)
+    (subst (λ (gs : List held.Group). Finds (flat_map bodies_and_params (groups_view gs)) _)
+    c.as_slice.ensures c.in_ok-all_groups.ensures)
     c.head_faults.ensures

@@ -8,4 +8,6 @@ use Rattle.check_functions.proofs.heads.check_groups.Given as goal
 
 abbrev pub invariant-loop-n : goal.invariant-loop-n
 invariant-loop-n l =
-    (j : ℕ) → j < l.n → spec.forward_faults (source_view l.source) (stated (source_view l.source) (map heading_view l.source.headings) (heads_view l.heads)) l.place true j ≡ []
+    (j : ℕ) → j < l.n → spec.forward_faults (source_view l.source)
+    (stated (source_view l.source) (map heading_view l.source.headings) (heads_view l.heads))
+    l.place true j ≡ []

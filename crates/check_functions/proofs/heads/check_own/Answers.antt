@@ -10,6 +10,8 @@ use Rattle.check_functions.proofs.heads.check_own.Goals as goal
 
 pub returns : goal.returns
 returns c =
-    subst (λ (k : Option Key). Finds (spec.key_faults (source_view c.args.source.now) (stated (source_view c.args.source.now)
-    (map heading_view c.args.source.now.headings) (heads_view c.args.heads.now)) c.args.place k) c.check_own_key.result)
+    subst (λ (k : Option Key). Finds
+    (spec.key_faults (source_view c.args.source.now) (stated (source_view c.args.source.now)
+    (map heading_view c.args.source.now.headings) (heads_view c.args.heads.now)) c.args.place k)
+    c.check_own_key.result)
     c.own_key-key.ensures c.check_own_key.ensures

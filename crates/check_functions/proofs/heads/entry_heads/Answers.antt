@@ -1,33 +1,22 @@
-use Rattle.std.proofs.Common.{◌≡◌, ◌<◌, ◌≤◌, map, length, ap, arith, below_more}
+use Rattle.std.proofs.Common.{length, map, refl}
 use Rattle.std.proofs.lemmas.Result.{err_from_is_err_and}
 use Rattle.check_sources.specs.HeadingView.{heading_view}
 use Rattle.check_sources.specs.SourceView.{source_view}
 use Rattle.check_contexts.specs.HeadsView.{heads_view}
-use Rattle.check_contexts.proofs.AtLaws.{viewed_in, within, past}
-use Rattle.check_functions.proofs.TellLaws.{entry_none, entry_told}
+use Rattle.check_functions.proofs.EntryLaws.{entry_first, entry_both}
 use Rattle.check_functions.proofs.heads.entry_heads.Goals as goal
 
-pub loop-i-preserved : goal.loop-i-preserved
-loop-i-preserved c =
-    let here = viewed_in heading_view c.args.source.now.headings c.as_slice-headings.result.now c.loop-i.i c.index-headings-i.result c.as_slice-headings.ensures
-    (omega arith) c.index-headings-i.is in
-    below_more _ _ c.loop-i.invariant
-    (entry_none (source_view c.args.source.now) (heads_view c.args.heads.now) c.loop-i.i (heading_view c.index-headings-i.result) _ here c.in_ok-check_forward.ensures)
-
-pub returns-in_err-check_forward : goal.returns-in_err-check_forward
-returns-in_err-check_forward c =
+pub returns-in_err-check_at : goal.returns-in_err-check_at
+returns-in_err-check_at c =
     let p = err_from_is_err_and c.from_residual.result c.from_residual.ensures.1 in
-    let long : length c.as_slice-headings.result.now ≡ length c.args.source.now.headings = ap length c.as_slice-headings.ensures in
-    let less : c.loop-i.i < length c.args.source.now.headings = omega arith in
-    let here = viewed_in heading_view c.args.source.now.headings c.as_slice-headings.result.now c.loop-i.i c.index-headings-i.result c.as_slice-headings.ensures
-    (omega arith) c.index-headings-i.is in
     rw (p.1, p.2)
-    (entry_told (source_view c.args.source.now) (heads_view c.args.heads.now) c.loop-i.i (heading_view c.index-headings-i.result) _
-    (within heading_view c.args.source.now.headings c.loop-i.i less) here c.in_err-check_forward.ensures)
+    (entry_first (source_view c.args.source.now) (heads_view c.args.heads.now)
+    (length (map heading_view c.args.source.now.headings)) _ _
+    c.find_forwards-forwards.ensures c.in_err-check_at.field-0.0 c.in_err-check_at.ensures)
 
 pub returns : goal.returns
 returns c =
-    let long : length c.as_slice-headings.result.now ≤ c.loop-i.i = omega arith in
-    let end : length (map heading_view c.args.source.now.headings) ≤ c.loop-i.i =
-    past heading_view c.args.source.now.headings c.as_slice-headings.result.now c.loop-i.i c.as_slice-headings.ensures long in
-    record { told = λ i j lt behind. let less : i < c.loop-i.i = omega (arith, lt, end) in c.loop-i.invariant i less j behind }
+    entry_both (source_view c.args.source.now) (heads_view c.args.heads.now)
+    (length (map heading_view c.args.source.now.headings)) _ _
+    c.find_forwards-forwards.ensures c.in_ok-check_at.field-0 c.check_other.result refl
+    c.in_ok-check_at.ensures c.check_other.ensures

@@ -9,25 +9,37 @@ use Rattle.check_functions.proofs.heads.own_heads.Goals as goal
 
 pub loop-i-preserved : goal.loop-i-preserved
 loop-i-preserved c =
-    let here = viewed_in heading_view c.args.source.now.headings c.as_slice-headings.result.now c.loop-i.i c.index-headings-i.result c.as_slice-headings.ensures
+    let here =
+    viewed_in heading_view c.args.source.now.headings c.as_slice-headings.result.now
+    c.loop-i.i c.index-headings-i.result c.as_slice-headings.ensures
     (omega arith) c.index-headings-i.is in
     below_more _ _ c.loop-i.invariant
-    (own_none (source_view c.args.source.now) (heads_view c.args.heads.now) c.loop-i.i (heading_view c.index-headings-i.result) _ here c.in_ok-check_own.ensures)
+    (own_none (source_view c.args.source.now) (heads_view c.args.heads.now) c.loop-i.i
+    (heading_view c.index-headings-i.result) _ here c.in_ok-check_own.ensures)
 
 pub returns-in_err-check_own : goal.returns-in_err-check_own
 returns-in_err-check_own c =
     let p = err_from_is_err_and c.from_residual.result c.from_residual.ensures.1 in
-    let long : length c.as_slice-headings.result.now ≡ length c.args.source.now.headings = ap length c.as_slice-headings.ensures in
+    let long : length c.as_slice-headings.result.now ≡ length c.args.source.now.headings =
+    ap length c.as_slice-headings.ensures in
     let less : c.loop-i.i < length c.args.source.now.headings = omega arith in
-    let here = viewed_in heading_view c.args.source.now.headings c.as_slice-headings.result.now c.loop-i.i c.index-headings-i.result c.as_slice-headings.ensures
+    let here =
+    viewed_in heading_view c.args.source.now.headings c.as_slice-headings.result.now
+    c.loop-i.i c.index-headings-i.result c.as_slice-headings.ensures
     (omega arith) c.index-headings-i.is in
     rw (p.1, p.2)
-    (own_told (source_view c.args.source.now) (heads_view c.args.heads.now) c.loop-i.i (heading_view c.index-headings-i.result) _
-    (within heading_view c.args.source.now.headings c.loop-i.i less) here c.in_err-check_own.ensures)
+    (own_told (source_view c.args.source.now) (heads_view c.args.heads.now) c.loop-i.i
+    (heading_view c.index-headings-i.result) _
+    (within heading_view c.args.source.now.headings c.loop-i.i less) here
+    c.in_err-check_own.ensures)
 
 pub returns : goal.returns
 returns c =
     let long : length c.as_slice-headings.result.now ≤ c.loop-i.i = omega arith in
     let end : length (map heading_view c.args.source.now.headings) ≤ c.loop-i.i =
-    past heading_view c.args.source.now.headings c.as_slice-headings.result.now c.loop-i.i c.as_slice-headings.ensures long in
-    record { told = λ i lt. let less : i < c.loop-i.i = omega (arith, lt, end) in c.loop-i.invariant i less }
+    past heading_view c.args.source.now.headings c.as_slice-headings.result.now c.loop-i.i
+    c.as_slice-headings.ensures long in
+    record {
+      told = λ i lt. let less : i < c.loop-i.i = omega (arith, lt, end) in c.loop-i.invariant
+          i less;
+    }

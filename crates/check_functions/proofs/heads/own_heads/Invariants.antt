@@ -8,4 +8,6 @@ use Rattle.check_functions.proofs.heads.own_heads.Given as goal
 
 abbrev pub invariant-loop-i : goal.invariant-loop-i
 invariant-loop-i l =
-    (j : ℕ) → j < l.i → spec.own_faults (source_view l.source) (stated (source_view l.source) (map heading_view l.source.headings) (heads_view l.heads)) j ≡ []
+    (j : ℕ) → j < l.i → spec.own_faults (source_view l.source)
+    (stated (source_view l.source) (map heading_view l.source.headings) (heads_view l.heads)) j
+    ≡ []

@@ -10,5 +10,6 @@ pub returns : goal.returns
 returns c =
     c.only.ensures
     ∙ fallback_is (map written_view c.args.bodies.now) (distinct_view c.loop-it.found)
-    (sym (at_drop_all (λ (its : List Written). bodies_distinct (distinct_view c.loop-it.found) (map written_view its)) c.args.bodies.now c.loop-it.it-index (omega arith))
+    (sym (at_drop_all (λ (its : List Written). bodies_distinct (distinct_view c.loop-it.found)
+    (map written_view its)) c.args.bodies.now c.loop-it.it-index (omega arith))
     ∙ c.loop-it.invariant)

@@ -6,5 +6,6 @@ use Rattle.check_groups.proofs.groups.group_bodies.Given as goal
 
 abbrev pub invariant-loop-it : goal.invariant-loop-it
 invariant-loop-it l =
-    spec.grouped l.tags l.fallback (groups_view l.groups) (map written_view (drop l.it-index l.bodies))
+    spec.grouped l.tags l.fallback (groups_view l.groups)
+    (map written_view (drop l.it-index l.bodies))
     ≡ spec.grouped l.tags l.fallback [] (map written_view l.bodies)

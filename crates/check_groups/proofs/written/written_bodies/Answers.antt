@@ -8,5 +8,6 @@ use Rattle.check_groups.proofs.written.written_bodies.Goals as goal
 
 pub loop-i-preserved : goal.loop-i-preserved
 loop-i-preserved c =
-    gathered decl_view spec.written written_more c.as_slice-items.result.now c.loop-i.i c.index-items-i.result (map written_view c.loop-i.list) _
+    gathered decl_view spec.written written_more c.as_slice-items.result.now c.loop-i.i
+    c.index-items-i.result (map written_view c.loop-i.list) _
     c.loop-i.invariant (omega arith) c.index-items-i.is c.in_ok-add_written.ensures

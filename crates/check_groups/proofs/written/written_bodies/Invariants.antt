@@ -6,4 +6,5 @@ use Rattle.check_groups.proofs.written.written_bodies.Given as goal
 
 abbrev pub invariant-loop-i : goal.invariant-loop-i
 invariant-loop-i l =
-    map written_view l.list ++ spec.written (map decl_view (drop l.i l.items)) ≡ spec.written (map decl_view l.items)
+    map written_view l.list ++ spec.written (map decl_view (drop l.i l.items))
+    ≡ spec.written (map decl_view l.items)

@@ -19,9 +19,15 @@ loop-i-init c = (fold_begins _ _ _ _ (parts_are _ _) _ refl, refl)
 pub loop-i-preserved : goal.loop-i-preserved
 loop-i-preserved c =
     let old : Scope = scope_view c.loop-i.scopes in
-    let means = ap (λ (n : ℕ). with_entries old (param_entries (around_view c.args.cx.now) c.args.at old n (param_view c.index-params-i.result))) c.in_ok-number.ensures in
-    let spot = ap (λ (s : Scope). (s, c.loop-i.i + 1)) (c.in_ok-declare_param.ensures.scope ∙ means) in (
-      fold_more _ _ _ _ _ _ _ (parts_are _ _) _ _ _ c.loop-i.invariant.0 (omega arith) c.index-params-i.is
+    let means =
+    ap (λ (n : ℕ). with_entries old
+    (param_entries (around_view c.args.cx.now) c.args.at old n
+    (param_view c.index-params-i.result))) c.in_ok-number.ensures in
+    let spot =
+    ap (λ (s : Scope). (s, c.loop-i.i + 1))
+    (c.in_ok-declare_param.ensures.scope ∙ means) in (
+      fold_more _ _ _ _ _ _ _ (parts_are _ _) _ _ _ c.loop-i.invariant.0
+          (omega arith) c.index-params-i.is
           (c.in_ok-fell.ensures _ c.judge_param-part.ensures) spot,
       c.in_ok-declare_param.ensures.outer ∙ c.loop-i.invariant.1,
     )
@@ -29,7 +35,9 @@ loop-i-preserved c =
 pub returns-in_err-fell : goal.returns-in_err-fell
 returns-in_err-fell c =
     let broken = c.in_err-fell.ensures _ c.judge_param-part.ensures in
-    let fails = fold_fails _ _ _ _ _ _ _ (parts_are _ _) _ _ c.loop-i.invariant.0 (omega arith) c.index-params-i.is broken in
+    let fails =
+    fold_fails _ _ _ _ _ _ _ (parts_are _ _) _ _ c.loop-i.invariant.0
+    (omega arith) c.index-params-i.is broken in
     record {
       verdict = exit_answers judged_view _ c.from_residual.result _ c.from_residual.ensures.1 fails;
       scope = exit_judged _ _ c.from_residual.result _ c.from_residual.ensures.1 broken;
@@ -42,6 +50,8 @@ returns c =
     let P : Verdict Judged → Type 0 = λ w. PartAnswers judged_view w c.all_parts.result in
     record {
       verdict = subst P (sym whole) c.all_parts.ensures;
-      scope = judged_holds _ (sym (fold_ends _ _ _ _ _ _ _ (parts_are _ _) c.loop-i.invariant.0 (omega arith)));
+      scope =
+          judged_holds _ (sym (fold_ends _ _ _ _ _ _ _ (parts_are _ _) c.loop-i.invariant.0
+          (omega arith)));
       outer = unless_memory _ c.loop-i.invariant.1;
     }

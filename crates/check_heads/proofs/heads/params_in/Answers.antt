@@ -18,9 +18,15 @@ loop-i-init c = (fold_begins _ _ _ _ (params_are _ _) _ c.nothing-so_far.ensures
 pub loop-i-preserved : goal.loop-i-preserved
 loop-i-preserved c =
     let old : Scope = scope_view c.loop-i.scopes in
-    let means = ap (λ (n : ℕ). with_entries old (param_entries (around_view c.args.cx.now) c.args.at old n (param_view c.index-params-i.result))) c.in_ok-number.ensures in
-    let spot = ap (λ (s : Scope). (s, c.loop-i.i + 1)) (c.in_ok-declare_param.ensures.scope ∙ means) in (
-      fold_more _ _ _ _ _ _ _ (params_are _ _) _ _ _ c.loop-i.invariant.0 (omega arith) c.index-params-i.is
+    let means =
+    ap (λ (n : ℕ). with_entries old
+    (param_entries (around_view c.args.cx.now) c.args.at old n
+    (param_view c.index-params-i.result))) c.in_ok-number.ensures in
+    let spot =
+    ap (λ (s : Scope). (s, c.loop-i.i + 1))
+    (c.in_ok-declare_param.ensures.scope ∙ means) in (
+      fold_more _ _ _ _ _ _ _ (params_are _ _) _ _ _ c.loop-i.invariant.0
+          (omega arith) c.index-params-i.is
           (c.in_ok-so_far.ensures _ c.param_rule-it.ensures) spot,
       c.in_ok-declare_param.ensures.outer ∙ c.loop-i.invariant.1,
     )
@@ -28,7 +34,9 @@ loop-i-preserved c =
 pub returns-in_err-so_far : goal.returns-in_err-so_far
 returns-in_err-so_far c =
     let broken = c.in_err-so_far.ensures _ c.param_rule-it.ensures in
-    let fails = fold_fails _ _ _ _ _ _ _ (params_are _ _) _ _ c.loop-i.invariant.0 (omega arith) c.index-params-i.is broken in
+    let fails =
+    fold_fails _ _ _ _ _ _ _ (params_are _ _) _ _ c.loop-i.invariant.0
+    (omega arith) c.index-params-i.is broken in
     record {
       verdict = exit_answers headed_view _ c.from_residual.result _ c.from_residual.ensures.1 fails;
       outer = unless_memory c.from_residual.result c.loop-i.invariant.1;

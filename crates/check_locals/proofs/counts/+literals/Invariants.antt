@@ -8,4 +8,5 @@ abbrev pub invariant-arg_literals-loop-i : goal.invariant-arg_literals-loop-i
 invariant-arg_literals-loop-i l = l.count ≡ sum_by literals_of_arg (map arg_view (take l.i l.items))
 
 abbrev pub invariant-link_literals-loop-i : goal.invariant-link_literals-loop-i
-invariant-link_literals-loop-i l = l.count ≡ sum_by literals_of_link (map link_view (take l.i l.items))
+invariant-link_literals-loop-i l =
+    l.count ≡ sum_by literals_of_link (map link_view (take l.i l.items))

@@ -8,13 +8,15 @@ loop-i-init c = rw c.nothing.ensures (locals_begin _ _ _ _ _ _)
 
 pub loop-i-preserved : goal.loop-i-preserved
 loop-i-preserved c =
-    locals_more _ _ _ _ _ _ _ c.args.vars.now c.loop-i.i c.index-vars-i.result _ _ _ c.loop-i.invariant (omega arith)
+    locals_more _ _ _ _ _ _ _ c.args.vars.now c.loop-i.i c.index-vars-i.result _ _ _
+    c.loop-i.invariant (omega arith)
     c.index-vars-i.is c.in_ok-it.ensures c.in_ok-declare_var.ensures c.in_ok-done.ensures
 
 pub returns-in_err-it-clause-tells : goal.returns-in_err-it-clause-tells
 returns-in_err-it-clause-tells c =
     let p = err_from_is_err_and c.from_residual.result c.from_residual.ensures.1 in
-    rw (p.1, p.2) (locals_fail _ _ _ _ _ _ _ _ c.index-vars-i.result _ _ c.loop-i.invariant (omega arith) c.index-vars-i.is c.in_err-it.ensures)
+    rw (p.1, p.2) (locals_fail _ _ _ _ _ _ _ _ c.index-vars-i.result _ _ c.loop-i.invariant
+    (omega arith) c.index-vars-i.is c.in_err-it.ensures)
 
 pub returns-clause-tells : goal.returns-clause-tells
 returns-clause-tells c = (locals_all _ _ _ _ _ _ _ _ _ c.loop-i.invariant (omega arith)).0

@@ -7,5 +7,6 @@ use Rattle.check_locals.proofs.parts.judge_behind.Given as goal
 
 abbrev pub invariant-loop-i : goal.invariant-loop-i
 invariant-loop-i l =
-    PartsSo (around_view l.cx) l.at l.kind l.constant (point_view l.initial.point) (point_view l.point)
+    PartsSo (around_view l.cx) l.at l.kind l.constant (point_view l.initial.point)
+    (point_view l.point)
     l.vars l.i (told judged_view l.done)

@@ -1,4 +1,5 @@
-use Rattle.std.proofs.Common.{◌≡◌, ◌*◌, ◌-◌, ℕ, List, drop, take, length, length-drop, w32, FitsSigned, arith, rules}
+use Rattle.std.proofs.Common.{◌≡◌, ◌*◌, ◌-◌, ℕ, List, drop, take, length, length-drop, w32}
+use Rattle.std.proofs.Common.{FitsSigned, arith, rules}
 use Rattle.std.proofs.lemmas.Int.{to_z-of_z}
 use Rattle.std.proofs.lemmas.List.{take_all}
 use Rattle.check_places.proofs.TextLaws.{packed_next}

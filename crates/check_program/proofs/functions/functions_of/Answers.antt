@@ -11,6 +11,8 @@ use Rattle.check_program.proofs.functions.functions_of.Goals as goal
 pub returns : goal.returns
 returns c =
     ap (map function_view) c.from_vec.ensures
-    ∙ all_filled (source_view c.args.source.now) (stated (source_view c.args.source.now) (map heading_view c.args.source.now.headings) [])
-    (groups_view c.args.source.now.groups) (map function_view c.in_ok-functions.functions.items) _ (map bodied_view c.args.bodies.items)
+    ∙ all_filled (source_view c.args.source.now)
+    (stated (source_view c.args.source.now) (map heading_view c.args.source.now.headings) [])
+    (groups_view c.args.source.now.groups) (map function_view c.in_ok-functions.functions.items) _
+    (map bodied_view c.args.bodies.items)
     c.in_ok-functions.ensures c.in_ok-fill.ensures

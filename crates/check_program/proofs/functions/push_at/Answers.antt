@@ -5,5 +5,6 @@ use Rattle.check_program.proofs.functions.push_at.Goals as goal
 
 pub returns : goal.returns
 returns c =
-    pushed_at c.args.functions.now.items c.args.number c.index_mut.result.now c.push_body.new.function (map slot_view c.args.params) (body_view c.args.body)
+    pushed_at c.args.functions.now.items c.args.number c.index_mut.result.now
+    c.push_body.new.function (map slot_view c.args.params) (body_view c.args.body)
     c.index_mut.ensures.value c.in_ok-push_body.ensures

@@ -8,5 +8,7 @@ use Rattle.check_program.proofs.natives.natives_of.Given as goal
 abbrev pub invariant-loop-i : goal.invariant-loop-i
 invariant-loop-i l =
     l.list
-    ++ spec.natives (source_view l.source) (stated (source_view l.source) (drop l.i (map heading_view l.source.headings)) [])
-    ≡ spec.natives (source_view l.source) (stated (source_view l.source) (map heading_view l.source.headings) [])
+    ++ spec.natives (source_view l.source)
+    (stated (source_view l.source) (drop l.i (map heading_view l.source.headings)) [])
+    ≡ spec.natives (source_view l.source)
+    (stated (source_view l.source) (map heading_view l.source.headings) [])

@@ -13,12 +13,14 @@ use Rattle.check_program.proofs.program.program_of.Goals as goal
 pub returns : goal.returns
 returns c =
     let source = source_view c.args.source.now in
-    program_is source (heads (without_heads source) (beginning source) (tree_view c.args.tree.now)) (tree_marks (tree_view c.args.tree.now)) c.args.dynamic _
+    program_is source (heads (without_heads source) (beginning source) (tree_view c.args.tree.now))
+    (tree_marks (tree_view c.args.tree.now)) c.args.dynamic _
     (record {
       objects = map object_view c.args.objects;
       bodies = map bodied_view c.args.bodies.items;
       warned = [];
     })
     _ _ _ _ _ _
-    c.in_ok-functions.ensures c.in_ok-natives.ensures c.in_ok-automata.ensures c.in_ok-tags.ensures c.requires.publics c.entry_of-entry.ensures
+    c.in_ok-functions.ensures c.in_ok-natives.ensures c.in_ok-automata.ensures c.in_ok-tags.ensures
+    c.requires.publics c.entry_of-entry.ensures
     (to_z-of_z w32 c.args.dynamic c.ranges.dynamic)

@@ -6,5 +6,6 @@ use Rattle.check_published.proofs.marks.find_marks.Given as goal
 
 abbrev pub invariant-loop-i : goal.invariant-loop-i
 invariant-loop-i l =
-    AreMarked l.source.tags l.source.fallback.now (groups_view l.source.groups) (map heading_view (take l.i l.headings))
+    AreMarked l.source.tags l.source.fallback.now (groups_view l.source.groups)
+    (map heading_view (take l.i l.headings))
     l.marks.flags.items l.marks.entry

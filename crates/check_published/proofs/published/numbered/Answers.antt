@@ -10,13 +10,16 @@ pub loop-i-preserved : goal.loop-i-preserved
 loop-i-preserved c =
     let groups = c.as_slice-groups.result.now in
     let group = c.index-groups-i.result in
-    numbered_more (source_view c.args.source.now) (groups_view groups) c.loop-i.i (group_view group) _ _
+    numbered_more (source_view c.args.source.now) (groups_view groups) c.loop-i.i
+    (group_view group) _ _
     c.loop-i.invariant (group_at groups c.loop-i.i group (omega arith) c.index-groups-i.is)
     c.in_ok-add_public.ensures
 
 pub returns : goal.returns
 returns c =
-    numbered_all (source_view c.args.source.now) c.as_slice-groups.result.now c.loop-i.i _ c.loop-i.invariant
+    numbered_all (source_view c.args.source.now) c.as_slice-groups.result.now c.loop-i.i _
+    c.loop-i.invariant
     (omega arith)
-    ∙ ap (λ (groups : List Group). publics_from (source_view c.args.source.now) 0 (groups_view groups))
+    ∙ ap (λ (groups : List Group). publics_from (source_view c.args.source.now) 0
+    (groups_view groups))
     c.as_slice-groups.ensures

@@ -8,7 +8,8 @@ use Rattle.check_reading.proofs.reading.parts.Goals as goal
 
 pub returns-clause-parts : goal.returns-clause-parts
 returns-clause-parts c =
-    subst (λ (bs : List Written). AreParts (tree_view c.args.tree.now) (map written_view bs) (source_view (record {
+    subst (λ (bs : List Written). AreParts (tree_view c.args.tree.now) (map written_view bs)
+    (source_view (record {
       tags = c.args.tags;
       fallback = c.entry_fallback-fallback.result;
       groups = c.in_ok-groups.groups;

@@ -9,10 +9,12 @@ use Rattle.check_reading.proofs.reading.read_source.Goals as goal
 
 pub returns-clause-source : goal.returns-clause-source
 returns-clause-source c =
-    source_by (tree_view c.args.tree.now) (map written_view c.in_ok-bodies.bodies) (source_view c.in_ok-source.source) c.in_ok-source.ensures.parts
+    source_by (tree_view c.args.tree.now) (map written_view c.in_ok-bodies.bodies)
+    (source_view c.in_ok-source.source) c.in_ok-source.ensures.parts
     (c.in_ok-source.ensures.tags ∙ c.in_ok-tags.ensures) c.in_ok-bodies.ensures
 
 pub returns-clause-distinct : goal.returns-clause-distinct
 returns-clause-distinct c =
-    distinct_of (groups_view c.in_ok-source.source.groups) c.in_ok-source.source.tags c.in_ok-source.source.fallback.now (map written_view c.in_ok-bodies.bodies)
+    distinct_of (groups_view c.in_ok-source.source.groups) c.in_ok-source.source.tags
+    c.in_ok-source.source.fallback.now (map written_view c.in_ok-bodies.bodies)
     c.in_ok-source.ensures.parts.groups

@@ -11,8 +11,11 @@ loop-i-preserved c =
     let automaton = slice_get (automata_view c.args.automata.now) c.args.number in
     let clause = c.index-clauses-i.result in
     cased_more clause c.loop-i.invariant (omega arith) c.index-clauses-i.is
-    (subst (λ n. pairs_view c.push_states.new.list ≡ pairs_view c.loop-i.list ++ states_numbered automaton n clause.states) c.in_ok-clause.ensures
-    (subst (λ states. pairs_view c.push_states.new.list ≡ pairs_view c.loop-i.list ++ states_numbered automaton c.in_ok-clause.clause states)
+    (subst (λ n. pairs_view c.push_states.new.list
+    ≡ pairs_view c.loop-i.list ++ states_numbered automaton n clause.states)
+    c.in_ok-clause.ensures
+    (subst (λ states. pairs_view c.push_states.new.list
+    ≡ pairs_view c.loop-i.list ++ states_numbered automaton c.in_ok-clause.clause states)
     (c.as_slice.ensures ∙ ap (λ (it : Clause). it.states) (sym c.index-clauses-i.is))
     c.in_ok-push_states.ensures))
 

@@ -6,4 +6,6 @@ use Rattle.check_routes.proofs.routes.number_of.Goals as goal
 
 pub returns-in-None : goal.returns-in-None
 returns-in-None c =
-    rw c.in-None.is (c.unwrap_or.ensures ∙ ap (λ o. unwrap_or o 0) (c.number.ensures ∙ ap (automaton_named (automata_view c.args.automata.now)) c.anonymous.ensures))
+    rw c.in-None.is (c.unwrap_or.ensures
+    ∙ ap (λ o. unwrap_or o 0) (c.number.ensures
+    ∙ ap (automaton_named (automata_view c.args.automata.now)) c.anonymous.ensures))

@@ -7,5 +7,6 @@ use Rattle.check_routes.proofs.routes.push_states.Goals as goal
 
 pub returns : goal.returns
 returns c =
-    numbered_all (slice_get (automata_view c.args.automata.now) c.args.number) c.args.clause c.args.states.now c.loop-i.i (pairs_view c.args.list.now) (pairs_view c.loop-i.list)
+    numbered_all (slice_get (automata_view c.args.automata.now) c.args.number) c.args.clause
+    c.args.states.now c.loop-i.i (pairs_view c.args.list.now) (pairs_view c.loop-i.list)
     c.loop-i.invariant (omega arith)

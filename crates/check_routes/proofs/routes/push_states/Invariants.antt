@@ -6,4 +6,6 @@ use Rattle.check_routes.proofs.routes.push_states.Given as goal
 
 abbrev pub invariant-loop-i : goal.invariant-loop-i
 invariant-loop-i l =
-    pairs_view l.list ≡ pairs_view l.initial.list ++ states_numbered (slice_get (automata_view l.automata) l.number) l.clause (take l.i l.states)
+    pairs_view l.list ≡ pairs_view l.initial.list
+    ++ states_numbered (slice_get (automata_view l.automata) l.number) l.clause
+    (take l.i l.states)

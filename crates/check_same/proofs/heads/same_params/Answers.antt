@@ -9,5 +9,6 @@ returns-then-x-y c =
 
 pub loop-i-preserved : goal.loop-i-preserved
 loop-i-preserved c =
-    same_more c.args.x.now c.args.y.now c.loop-i.i c.index-x-i.result c.index-y-i.result c.loop-i.invariant (omega arith) (omega arith)
+    same_more c.args.x.now c.args.y.now c.loop-i.i c.index-x-i.result c.index-y-i.result
+    c.loop-i.invariant (omega arith) (omega arith)
     c.index-x-i.is c.index-y-i.is (sym c.if-not-same_param.ensures)

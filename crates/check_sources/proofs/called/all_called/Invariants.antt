@@ -6,4 +6,5 @@ use Rattle.check_sources.proofs.called.all_called.Given as goal
 
 abbrev pub invariant-loop-it : goal.invariant-loop-it
 invariant-loop-it l =
-    bytes_of l.list ++ called_by (map written_view (drop l.it-index l.bodies)) ≡ called_by (map written_view l.bodies)
+    bytes_of l.list ++ called_by (map written_view (drop l.it-index l.bodies))
+    ≡ called_by (map written_view l.bodies)

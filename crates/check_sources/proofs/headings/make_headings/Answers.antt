@@ -8,5 +8,6 @@ use Rattle.check_sources.proofs.headings.make_headings.Goals as goal
 
 pub loop-i-preserved : goal.loop-i-preserved
 loop-i-preserved c =
-    gathered decl_view spec.headings headings_more c.as_slice-items.result.now c.loop-i.i c.index-items-i.result (map heading_view c.loop-i.list) _
+    gathered decl_view spec.headings headings_more c.as_slice-items.result.now c.loop-i.i
+    c.index-items-i.result (map heading_view c.loop-i.list) _
     c.loop-i.invariant (omega arith) c.index-items-i.is c.in_ok-add_heading.ensures

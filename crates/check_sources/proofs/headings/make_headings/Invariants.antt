@@ -6,4 +6,5 @@ use Rattle.check_sources.proofs.headings.make_headings.Given as goal
 
 abbrev pub invariant-loop-i : goal.invariant-loop-i
 invariant-loop-i l =
-    map heading_view l.list ++ spec.headings (map decl_view (drop l.i l.items)) ≡ spec.headings (map decl_view l.items)
+    map heading_view l.list ++ spec.headings (map decl_view (drop l.i l.items))
+    ≡ spec.headings (map decl_view l.items)

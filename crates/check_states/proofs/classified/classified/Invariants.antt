@@ -7,6 +7,8 @@ use Rattle.check_states.proofs.classified.classified.Given as goal
 
 abbrev pub invariant-loop-it : goal.invariant-loop-it
 invariant-loop-it l =
-    spec.classified l.known.tags.now l.known.fallback.now (groups_view l.known.groups.now) (automata_view l.automata)
+    spec.classified l.known.tags.now l.known.fallback.now (groups_view l.known.groups.now)
+    (automata_view l.automata)
     (map written_view (drop l.it-index l.bodies))
-    ≡ spec.classified l.known.tags.now l.known.fallback.now (groups_view l.known.groups.now) [] (map written_view l.bodies)
+    ≡ spec.classified l.known.tags.now l.known.fallback.now (groups_view l.known.groups.now) []
+    (map written_view l.bodies)

@@ -6,5 +6,6 @@ use Rattle.check_states.proofs.classified.enter_all.Given as goal
 
 abbrev pub invariant-loop-number : goal.invariant-loop-number
 invariant-loop-number l =
-    (automata_view l.automata ≡ enter_first (groups_view l.groups) l.number (automata_view l.initial.automata))
+    (automata_view l.automata ≡ enter_first (groups_view l.groups) l.number
+    (automata_view l.initial.automata))
     × (length l.automata ≡ length l.initial.automata)

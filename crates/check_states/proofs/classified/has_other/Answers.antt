@@ -8,7 +8,9 @@ pub returns : goal.returns
 returns c =
     let naming = c.requires.naming in
     cc (
-      other_at c.args.known.now.tags.now c.args.known.now.fallback.now (groups_view c.args.known.now.groups.now)
-          (body_key c.args.known.now.tags.now c.args.known.now.fallback.now (written_view c.args.it.now)),
+      other_at c.args.known.now.tags.now c.args.known.now.fallback.now
+          (groups_view c.args.known.now.groups.now)
+          (body_key c.args.known.now.tags.now c.args.known.now.fallback.now
+          (written_view c.args.it.now)),
       naming,
     )

@@ -5,4 +5,5 @@ use Rattle.check_states.proofs.naming.some_name.Given as goal
 
 abbrev pub invariant-loop-it : goal.invariant-loop-it
 invariant-loop-it l =
-    bodies_name (map written_view (drop l.it-index l.bodies)) ≡ bodies_name (map written_view l.bodies)
+    bodies_name (map written_view (drop l.it-index l.bodies))
+    ≡ bodies_name (map written_view l.bodies)

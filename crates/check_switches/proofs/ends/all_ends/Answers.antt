@@ -15,14 +15,18 @@ loop-i-init c = rw c.new.ensures.items (taken_begins _ _ _ _ _ _ _)
 
 pub loop-i-preserved : goal.loop-i-preserved
 loop-i-preserved c =
-    taken_more _ _ _ _ _ _ _ _ c.index-ranges-i.result _ _ _ c.loop-i.invariant (omega arith) c.index-ranges-i.is
-    (ap (λ v. after v (λ y. Stands (y ∷ []))) c.in_ok-it.ensures) (c.in_ok-done.ensures ∙ pushed _ _)
+    taken_more _ _ _ _ _ _ _ _ c.index-ranges-i.result _ _ _ c.loop-i.invariant
+    (omega arith) c.index-ranges-i.is
+    (ap (λ v. after v (λ y. Stands (y ∷ []))) c.in_ok-it.ensures)
+    (c.in_ok-done.ensures ∙ pushed _ _)
 
 pub returns-in_err-it : goal.returns-in_err-it
 returns-in_err-it c =
     let p = err_from_is_err_and c.from_residual.result c.from_residual.ensures.1 in
-    rw (p.1, p.2) (taken_fails _ _ _ _ _ _ _ _ c.index-ranges-i.result _ _ c.loop-i.invariant (omega arith) c.index-ranges-i.is
-    (fails_after (ends (around_view c.args.cx.now) (scope_view c.args.scopes.now) (range_view c.index-ranges-i.result)) (λ y. Stands (y ∷ [])) _ c.in_err-it.ensures))
+    rw (p.1, p.2) (taken_fails _ _ _ _ _ _ _ _ c.index-ranges-i.result _ _ c.loop-i.invariant
+    (omega arith) c.index-ranges-i.is
+    (fails_after (ends (around_view c.args.cx.now) (scope_view c.args.scopes.now)
+    (range_view c.index-ranges-i.result)) (λ y. Stands (y ∷ [])) _ c.in_err-it.ensures))
 
 pub returns : goal.returns
 returns c = taken_all _ _ _ _ _ _ _ _ _ c.loop-i.invariant (omega arith)

@@ -12,5 +12,7 @@ use Rattle.check_switches.proofs.ends.all_ends.Given as goal
 
 abbrev pub invariant-loop-i : goal.invariant-loop-i
 invariant-loop-i l =
-    Taken (λ x y. x ++ y) [] (single (ends (around_view l.cx) (scope_view l.scopes))) (each (ends (around_view l.cx) (scope_view l.scopes)))
-    range_view (each_row (ends (around_view l.cx) (scope_view l.scopes))) l.ranges l.i (told all_ends_view l.done)
+    Taken (λ x y. x ++ y) [] (single (ends (around_view l.cx) (scope_view l.scopes)))
+    (each (ends (around_view l.cx) (scope_view l.scopes)))
+    range_view (each_row (ends (around_view l.cx) (scope_view l.scopes))) l.ranges l.i
+    (told all_ends_view l.done)

@@ -10,5 +10,7 @@ use Rattle.check_switches.proofs.labels.case_labels.Given as goal
 
 abbrev pub invariant-loop-it : goal.invariant-loop-it
 invariant-loop-it l =
-    Taken label_join (record { ranges = []; warned = [] }) (one_label (around_view l.cx) l.at l.tag) (labels (around_view l.cx) l.at l.tag)
-    ends_view (label_row (around_view l.cx) l.at l.tag) l.fn.ends.items (length l.yielded) (Stands (labels_view l.done))
+    Taken label_join (record { ranges = []; warned = [] }) (one_label (around_view l.cx) l.at l.tag)
+    (labels (around_view l.cx) l.at l.tag)
+    ends_view (label_row (around_view l.cx) l.at l.tag) l.fn.ends.items (length l.yielded)
+    (Stands (labels_view l.done))

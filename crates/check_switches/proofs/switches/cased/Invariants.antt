@@ -11,5 +11,7 @@ use Rattle.check_switches.proofs.switches.cased.Given as goal
 
 abbrev pub invariant-loop-part : goal.invariant-loop-part
 invariant-loop-part l =
-    Taken cased_behind no_cased (case_rule (around_view l.cx) l.at l.tag) (λ parts. bare_verdict (cased_in (around_view l.cx) l.at l.tag parts))
-    part_view (cased_row (around_view l.cx) l.at l.tag) l.fn.parts.items (length l.yielded) (Stands (cased_view l.done))
+    Taken cased_behind no_cased (case_rule (around_view l.cx) l.at l.tag)
+    (λ parts. bare_verdict (cased_in (around_view l.cx) l.at l.tag parts))
+    part_view (cased_row (around_view l.cx) l.at l.tag) l.fn.parts.items (length l.yielded)
+    (Stands (cased_view l.done))

@@ -5,4 +5,5 @@ use Rattle.pawn_marks.specs.MarkView.{marks_view}
 use Rattle.check_tags.proofs.tags.mentioned.Given as goal
 
 abbrev pub invariant-loop-i : goal.invariant-loop-i
-invariant-loop-i l = (name : List ℕ) → is_among name l.names ≡ mentions (marks_view (take l.i l.marks)) name
+invariant-loop-i l =
+    (name : List ℕ) → is_among name l.names ≡ mentions (marks_view (take l.i l.marks)) name

@@ -11,7 +11,8 @@ returns-in-Braces c =
     rw (
       c.in-Braces.is,
       size_from_list (around_view c.args.cx.now) (scope_view c.args.scopes.now) c.args.at
-          c.in-Braces.field-0 (inner_sizes c.args.it.now.second c.args.it.now.third) c.in-Braces.list
+          c.in-Braces.field-0 (inner_sizes c.args.it.now.second c.args.it.now.third)
+          c.in-Braces.list
           c.in-Braces.goes_on,
       ← c.len.ensures,
     ) c.list_size.ensures
@@ -21,4 +22,5 @@ returns-in_ok-x-in-Value c =
     rw c.in-Value.is
     (size_from_text (around_view c.args.cx.now) (scope_view c.args.scopes.now) c.args.at
     (inner_sizes c.args.it.now.second c.args.it.now.third) (expr_view c.in-Value.e)
-    (typed_view c.in_ok-x-in-Value.x) c.value_size.result c.in_ok-x-in-Value.ensures c.value_size.ensures)
+    (typed_view c.in_ok-x-in-Value.x) c.value_size.result c.in_ok-x-in-Value.ensures
+    c.value_size.ensures)

@@ -14,5 +14,6 @@ returns c =
     rw (to_z-of_z w32 c.last_value.result last, to_z-of_z w32 c.value_before.result before)
     at c.difference.ensures in
     let step : sub c.last_value.result c.value_before.result ≡ step_in c.args.values.now =
-    rw (c.last_value.ensures, c.value_before.ensures) (step_between c.args.values.now (omega arith)) in
+    rw (c.last_value.ensures, c.value_before.ensures)
+    (step_between c.args.values.now (omega arith)) in
     rw (to_z-of_z w32 c.difference.result fits) (is ∙ step)

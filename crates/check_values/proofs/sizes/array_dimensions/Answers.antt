@@ -14,4 +14,5 @@ returns-then-count-le2 c =
 pub returns-else-count-le2 : goal.returns-else-count-le2
 returns-else-count-le2 c =
     rw (many_dimensions (around_view c.args.cx.now) (scope_view c.args.scopes.now) c.args.at
-    (dim_view c.args.dim.now) c.args.dims.now (omega arith)) (fails_here _ c.args.at _ c.part_broken.ensures)
+    (dim_view c.args.dim.now) c.args.dims.now (omega arith))
+    (fails_here _ c.args.at _ c.part_broken.ensures)

@@ -10,7 +10,10 @@ use Rattle.pawn_check.proofs.checking.check.Goals as goal
 
 pub returns : goal.returns
 returns c =
-    subst (λ (source : Source). Answers checked_view (typed_by source (tree_view c.args.tree.now) c.args.dynamic) c.check_read.result)
+    subst (λ (source : Source). Answers checked_view
+    (typed_by source (tree_view c.args.tree.now) c.args.dynamic) c.check_read.result)
     c.in_ok-reading.ensures.source
-    (subst (λ (d : ℤ). Answers checked_view (typed_by (source_view c.in_ok-reading.reading.source) (tree_view c.args.tree.now) d) c.check_read.result)
+    (subst (λ (d : ℤ). Answers checked_view
+    (typed_by (source_view c.in_ok-reading.reading.source) (tree_view c.args.tree.now) d)
+    c.check_read.result)
     (to_z-of_z w32 c.args.dynamic c.ranges.dynamic) c.check_read.ensures)

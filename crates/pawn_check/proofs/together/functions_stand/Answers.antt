@@ -6,5 +6,6 @@ use Rattle.pawn_check.proofs.together.functions_stand.Goals as goal
 
 pub returns : goal.returns
 returns c =
-    functions_are (source_view c.args.reading.now.source) (tree_view c.args.tree.now) (heads_view c.args.heads.now)
+    functions_are (source_view c.args.reading.now.source) (tree_view c.args.tree.now)
+    (heads_view c.args.heads.now)
     c.group_faults.result c.requires.heads c.group_faults.ensures

@@ -14,7 +14,11 @@ use Rattle.pawn_check.proofs.whole.finish.Goals as goal
 pub returns : goal.returns
 returns c =
     let made : ℤ → Checked = λ d.
-    checked_by (source_view c.args.reading.now.source) (tree_view c.args.tree.now) d (done_view c.args.done) in
-    whole_within (made c.args.dynamic) (program_view c.in_ok-program.program) c.in_ok-warnings.warnings c.within.result
-    (c.in_ok-program.ensures ∙ ap (λ (d : ℤ). (made d).program) (to_z-of_z w32 c.args.dynamic c.ranges.dynamic))
-    (c.in_ok-warnings.ensures ∙ ap (map (λ (at : At). at.place)) c.as_slice.ensures) c.within.ensures
+    checked_by (source_view c.args.reading.now.source) (tree_view c.args.tree.now) d
+    (done_view c.args.done) in
+    whole_within (made c.args.dynamic)
+    (program_view c.in_ok-program.program) c.in_ok-warnings.warnings c.within.result
+    (c.in_ok-program.ensures ∙ ap (λ (d : ℤ). (made d).program)
+    (to_z-of_z w32 c.args.dynamic c.ranges.dynamic))
+    (c.in_ok-warnings.ensures ∙ ap (map (λ (at : At). at.place)) c.as_slice.ensures)
+    c.within.ensures

@@ -8,9 +8,11 @@ use Rattle.check_automata.proofs.automata.Automata.enter.Goals as goal
 pub invariant_of-self : goal.invariant_of-self
 invariant_of-self c =
     c.self.invariant
-    ∙ sym (map_set name_of c.self.inside.items.items c.args.number c.index_mut.result.now _ c.index_mut.ensures.value refl)
+    ∙ sym (map_set name_of c.self.inside.items.items c.args.number c.index_mut.result.now _
+    c.index_mut.ensures.value refl)
 
 pub returns : goal.returns
 returns c =
-    enters c.self.inside.items.items c.args.number c.index_mut.result.now c.args.function c.index_mut.ensures.value
+    enters c.self.inside.items.items c.args.number c.index_mut.result.now c.args.function
+    c.index_mut.ensures.value
     ∙ ap (λ all. updated all c.args.number (known_entered c.args.function)) c.self.view_is

@@ -5,4 +5,6 @@ use Rattle.check_automata.specs.AutomataView.{known_view}
 use Rattle.check_automata.proofs.automata.Automata.into_list.Given as goal
 
 abbrev pub invariant-loop-it : goal.invariant-loop-it
-invariant-loop-it l = map automaton_view l.list ++ map known_view (into_iter_items l.it-iterator) ≡ map known_view l.fn.self
+invariant-loop-it l =
+    map automaton_view l.list ++ map known_view (into_iter_items l.it-iterator)
+    ≡ map known_view l.fn.self

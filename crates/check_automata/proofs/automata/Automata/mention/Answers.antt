@@ -9,4 +9,5 @@ pub returns-in_ok-push-in-None : goal.returns-in_ok-push-in-None
 returns-in_ok-push-in-None c =
     item_new c.args.self.now c.args.name.now None _ (sym c.in-None.ensures)
     (c.in_ok-push-in-None.ensures
-    ∙ ap (λ (s : List (List ℕ)). c.args.self.now ++ record { name = c.args.name.now; states = s; enter = None } ∷ []) c.new.ensures)
+    ∙ ap (λ (s : List (List ℕ)). c.args.self.now
+    ++ record { name = c.args.name.now; states = s; enter = None } ∷ []) c.new.ensures)

@@ -15,4 +15,5 @@ returns-in_ok-then-in-Ok c = λ (v : Verdict spec.Headed) h.
     let P : Result Headed PartFault → Type 0 = λ next. PartAnswers headed_view v next in
     let stands : v ≡ Stands (headed_view c.in-Ok.it) = subst P c.in-Ok.is h in
     stands_behind headed_behind headed_joins c.args.self.fell (headed_view c.args.self.done)
-    (headed_view c.in-Ok.it) (headed_view c.in_ok-then-in-Ok.field-0) v stands c.in_ok-then-in-Ok.ensures
+    (headed_view c.in-Ok.it) (headed_view c.in_ok-then-in-Ok.field-0) v stands
+    c.in_ok-then-in-Ok.ensures

@@ -1,5 +1,0 @@
-use Rattle.check_bodies.proofs.PlaceLaws.{beyond_none}
-use Rattle.check_bodies.proofs.values.value_or_zero.Goals as goal
-
-pub returns-in-None-clause-behind : goal.returns-in-None-clause-behind
-returns-in-None-clause-behind c = rw c.in-None.is (beyond_none _)

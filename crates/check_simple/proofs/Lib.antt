@@ -1,0 +1,2 @@
+pub mod PointLaws
+mod MadeLaws
