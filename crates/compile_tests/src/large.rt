@@ -1,4 +1,4 @@
-use super::stage::{compile_it, files_of};
+use super::stage::{compile_it, files_of, is_put};
 use pawn_base::{Bytes, Memory};
 use pawn_outside::MemorySink;
 use pawn_words::Status;
@@ -43,5 +43,27 @@ fn brackets_may_be_too_deep(rt: HostRuntime) -> Result<(), Fail> {
     let alloc = rt.alloc();
     let source = repeated(alloc, "main() {\n", "(", 256, "")?;
     assert!(rt; is_refused(alloc, source.as_slice(), "refused 31 at s.p:2\n")?);
+    Ok(())
+}
+
+/// A source that declares so many natives.
+fn natives(alloc: Global, count: u32) -> Result<Bytes, Memory> {
+    let mut text = Bytes::new(alloc);
+    for number in 0..count {
+        let line = format!(in alloc; "native n{number}(v);\n")?;
+        text.append(line.as_bytes())?;
+    }
+    text.append(b"main() { n0(1); n299(2); }")?;
+    Ok(text)
+}
+
+#[test]
+fn three_hundred_natives_are_compiled(rt: HostRuntime) -> Result<(), Fail> {
+    let alloc = rt.alloc();
+    let source = natives(alloc, 300)?;
+    let mut files = files_of(alloc, source.as_slice(), "", &[])?;
+    let mut out = MemorySink::new(alloc, 100, &[])?;
+    let status = compile_it(alloc, false, &mut files, &mut out)?;
+    assert!(rt; status == Status::Ok && is_put(alloc, &mut files));
     Ok(())
 }

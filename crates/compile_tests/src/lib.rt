@@ -10,4 +10,6 @@ mod goes;
 #[cfg(test)]
 mod large;
 #[cfg(test)]
+mod nodes;
+#[cfg(test)]
 mod stage;

@@ -36,12 +36,15 @@ pub fn compile_it(
     Ok(compile(alloc, words, files, out))
 }
 
-/// Compiles `s.p`, puts its file at `f.amx`, and runs it under the plain script, going on behind
-/// one sleep.
-pub fn go_it(alloc: Global, files: &mut MemoryFiles, out: &mut MemorySink) -> Result<Status, Fail> {
+/// Compiles `s.p`, puts its file at `f.amx`, and runs it under a script, going on behind one sleep.
+fn go_by(
+    alloc: Global,
+    script: Option<Name>,
+    files: &mut MemoryFiles,
+    out: &mut MemorySink,
+) -> Result<Status, Fail> {
     let src = Name::from_str(alloc, "s.p").ok().ok_or("memory")?;
     let amx = Name::from_str(alloc, "f.amx").ok().ok_or("memory")?;
-    let script = None;
     let words = GoWords {
         src: &src,
         amx: &amx,
@@ -50,6 +53,21 @@ pub fn go_it(alloc: Global, files: &mut MemoryFiles, out: &mut MemorySink) -> Re
         sleeps: 1,
     };
     Ok(go(alloc, words, files, out))
+}
+
+/// Under the plain script.
+pub fn go_it(alloc: Global, files: &mut MemoryFiles, out: &mut MemorySink) -> Result<Status, Fail> {
+    go_by(alloc, None, files, out)
+}
+
+/// Under the script `s.json`.
+pub fn go_with(
+    alloc: Global,
+    files: &mut MemoryFiles,
+    out: &mut MemorySink,
+) -> Result<Status, Fail> {
+    let script = Name::from_str(alloc, "s.json").ok().ok_or("memory")?;
+    go_by(alloc, Some(script), files, out)
 }
 
 /// Whether `f.amx` is held.

@@ -1,6 +1,7 @@
 -- When the trace of a file agrees with a meaning. The meaning is told for each bound on turns, the
 -- trace stopped at an end, at a sleep or for want of steps.
-use Rattle.std.specs.Prelude.{◌≡◌, ◌≢◌, ◌⊎◌, ◌+◌, ◌*◌, ◌<◌, ◌≤◌, ℕ, pos, Bool, true, false, List, [], ◌∷◌, ◌++◌, Some, length, map, slice_get}
+use Rattle.std.specs.Prelude.{◌≡◌, ◌≢◌, ◌⊎◌, ◌+◌, ◌*◌, ◌<◌, ◌≤◌, ℕ, pos, Bool, true, false, List}
+use Rattle.std.specs.Prelude.{[], ◌∷◌, ◌++◌, Some, length, map, slice_get}
 use Rattle.host_script.specs.declared.event.Event.{Event}
 use Rattle.host_script.specs.declared.event.End.{End}
 use Rattle.host_script.specs.declared.event.End.TheVariants.{Error, Stray}
@@ -9,6 +10,7 @@ use Rattle.pawn_meaning.specs.Told.{Last, Ended, Cut, Told, events_of}
 use Rattle.amx_ops.specs.Runs.{Steps, Over_by, Traced}
 use Rattle.amx_ops.specs.Moves.{Config}
 
+-- what a program means, for each bound on turns
 abbrev pub Meanings : Type 0
 Meanings = ℕ → Told
 
@@ -23,13 +25,16 @@ pub record Mark : Type 0 where
   pub peak : ℕ
   pub is_cut : Bool
 
+-- the turns were used up before an end
 abbrev pub is_cut : Last → Bool
 is_cut (Ended end) = false
 is_cut Cut = true
 
+-- where the events of a meaning stand, in their order, and then its outcome
 abbrev pub marks : Told → List Mark
 marks told =
-    map (λ (entry : Entry). record { turns = entry.turns; peak = entry.peak; is_cut = false }) told.entries
+    map (λ (entry : Entry). record { turns = entry.turns; peak = entry.peak; is_cut = false })
+    told.entries
     ++ record { turns = told.turns; peak = told.peak; is_cut = is_cut told.last } ∷ []
 
 module _ (means : Meanings) where
@@ -68,10 +73,14 @@ module _ (means : Meanings) where
     -- events: none but the meaning's, in its order
     pub prefix : Shows t.config.events ⊎ ShowsUpToStray t.config.events
     -- end: an end other than error 3 is the meaning's
-    pub end : (e : End) → t.stop ≡ Over_by e → e ≢ Error (pos 3) → IsLost (length t.config.events) ⊎ Is t.config.events e
+    pub end : (e : End) → t.stop ≡ Over_by e → e ≢ Error (pos 3)
+        → IsLost (length t.config.events) ⊎ Is t.config.events e
     -- stack: error 3 is the meaning's, or the stack is short
     pub stack : t.stop ≡ Over_by (Error (pos 3))
-        → IsLost (length t.config.events) ⊎ (Is t.config.events (Error (pos 3)) ⊎ IsShort (length t.config.events) room)
+        → IsLost (length t.config.events)
+        ⊎ (Is t.config.events (Error (pos 3)) ⊎ IsShort (length t.config.events) room)
     -- steps: a bound is used up only below so many steps for each turn
-    pub steps : t.stop ≡ Steps → (limit : ℕ) (mark : Mark) → slice_get (marks (means limit)) (length t.config.events) ≡ Some mark
-        → mark.is_cut ≡ false → IsLost (length t.config.events) ⊎ (t.bound < cells * (mark.turns + 1))
+    pub steps : t.stop ≡ Steps → (limit : ℕ) (mark : Mark)
+        → slice_get (marks (means limit)) (length t.config.events) ≡ Some mark
+        → mark.is_cut ≡ false → IsLost (length t.config.events)
+        ⊎ (t.bound < cells * (mark.turns + 1))

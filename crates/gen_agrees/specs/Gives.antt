@@ -1,4 +1,5 @@
--- What agreement gives: with room and bounds enough, a file shows all that its program means, and ends so.
+-- What agreement gives: with room and bounds enough, a file shows all that its program means, and
+-- ends so.
 use Rattle.std.specs.Prelude.{◌≡◌, ◌≢◌, ◌+◌, ◌*◌, ◌≤◌, ℕ, ℤ, List, [], ◌∷◌, Some, length}
 use Rattle.host_script.specs.declared.script.Script.{Script}
 use Rattle.host_script.specs.declared.event.End.{End}
@@ -18,8 +19,8 @@ abbrev pub AreAtLeast : ℕ → List ℕ → Type 0
 AreAtLeast least [] = Unit {0}
 AreAtLeast least (bound ∷ bounds) = (least ≤ bound) × AreAtLeast least bounds
 
--- a meaning that ended without a stray access, in a room of its peak and 16 cells, with a bound more than it
--- sleeps, each of so many steps for each turn
+-- a meaning that ended without a stray access, in a room of its peak and 16 cells, with a bound
+-- more than it sleeps, each of so many steps for each turn
 pub record HasEnough (told : Told) (end : End) (cells room : ℕ) (bounds : List ℕ) : Type 0 where
   pub ended : told.last ≡ Ended end
   pub astray : end ≢ Stray
@@ -32,10 +33,13 @@ pub record EndsAs (told : Told) (end : End) (t : Traced Config End) : Type 0 whe
   pub stops : t.stop ≡ Over_by end
   pub events : t.config.events ≡ events_of told.entries
 
+-- so it is for every program and file that agree, whatever script serves the natives
 abbrev pub WhatAgreementGives : Type 0
 WhatAgreementGives = (program : Program) (amx : Amx) → Agrees program amx
-    → (script : Script) (room : ℕ) (entry : Entry) (f : ℕ) (address : ℤ) (bound : ℕ) (bounds : List ℕ)
+    → (script : Script) (room : ℕ) (entry : Entry) (f : ℕ) (address : ℤ) (bound : ℕ)
+    (bounds : List ℕ)
     → IsScript script → Serves script program.natives → IsRoom amx room
     → function_of program entry ≡ Some f → address_of amx entry ≡ Some address
-    → (limit : ℕ) (end : End) → HasEnough (meaning program script f limit) end (length amx.code) room (bound ∷ bounds)
+    → (limit : ℕ) (end : End) → HasEnough (meaning program script f limit) end
+    (length amx.code) room (bound ∷ bounds)
     → EndsAs (meaning program script f limit) end (trace_from amx room script address bound bounds)

@@ -1,5 +1,6 @@
 -- What a program tells of its file before it runs.
-use Rattle.std.specs.Prelude.{◌≡◌, ◌≢◌, ◌+◌, ◌≤◌, ℕ, ℤ, pos, negsuc, List, [], ◌∷◌, Option, None, Some, IfSome, length, map}
+use Rattle.std.specs.Prelude.{◌≡◌, ◌≢◌, ◌+◌, ◌≤◌, ℕ, ℤ, pos, negsuc, List, [], ◌∷◌, Option, None}
+use Rattle.std.specs.Prelude.{Some, IfSome, length, map}
 use Rattle.pawn_cells.specs.Cells.{cell_of}
 use Rattle.pawn_program.specs.Program.{Program, Public, Tag}
 use Rattle.pawn_meaning.specs.declared.limits.TheConstants.{DATA_LIMIT}
@@ -13,6 +14,7 @@ use Rattle.amx_ops.specs.Instructions.{Placed, placed}
 use Rattle.amx_ops.specs.Valid.{IsValid}
 use Rattle.amx_ops.specs.Writable.{IsWritable}
 
+-- of the records of a table, in their order
 abbrev pub names : List Record → List (List ℕ)
 names records = map (λ it. it.name) records
 
@@ -25,6 +27,7 @@ abbrev pub HasEntry : Option ℕ → ℤ → Type 0
 HasEntry None address = address ≡ negsuc 0
 HasEntry (Some function) address = address ≢ negsuc 0
 
+-- the last instruction of a file's code, if there is any
 abbrev pub last_of : List Placed → Option Placed
 last_of [] = None
 last_of (it ∷ []) = Some it
@@ -34,12 +37,14 @@ last_of (it ∷ next ∷ others) = last_of (next ∷ others)
 abbrev pub IsSleep : Instr → Type 0
 IsSleep i = (op_of i.op ≡ Some Halt) × (i.operand ≡ pos 12)
 
+-- the tables, the sizes and the code of a file are such as its program's has
 pub record HasShape (program : Program) (amx : Amx) : Type 0 where
   pub writable : IsWritable amx
   pub valid : IsValid amx.code (length amx.natives) amx.entry (map (λ it. it.address) amx.publics)
   pub natives : amx.natives ≡ map native_record program.natives
   pub publics : names amx.publics ≡ map (λ (it : Public). it.name) program.publics
-  pub tags : amx.tags ≡ map (λ (it : Tag). record { address = cell_of it.number; name = it.name }) program.tags
+  pub tags : amx.tags ≡ map (λ (it : Tag). record { address = cell_of it.number; name = it.name })
+      program.tags
   pub no_libraries : amx.libraries ≡ []
   pub no_variables : amx.variables ≡ []
   pub version : amx.version ≡ 8

@@ -5,6 +5,7 @@ use Rattle.pawn_meaning.specs.Weight.{values_in}
 use Rattle.gen_builder.specs.Built.{Built}
 use Rattle.gen_emit.specs.Filled.{filled}
 
+-- from this cell on they replace what is there
 abbrev pub over : ℕ → List ℤ → Built → Built
 over at [] b = b
 over at (v ∷ vs) b = over (at + 1) vs (filled at v b)

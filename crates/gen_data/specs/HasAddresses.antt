@@ -1,4 +1,5 @@
--- Where the data of a program stand: the objects one behind another, and behind them a cell for each automaton.
+-- Where the data of a program stand: the objects one behind another, and behind them a cell for
+-- each automaton.
 use Rattle.std.specs.Prelude.{◌≡◌, ℕ, ℤ, Some, length, slice_get}
 use Rattle.pawn_program.specs.Program.{Program}
 use Rattle.gen_sim.specs.Pieces.{total, objects_from}

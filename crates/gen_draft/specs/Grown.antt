@@ -10,6 +10,7 @@ use Rattle.gen_draft.specs.Led.{AreIn, AreOthers, led}
 abbrev pub IsDraft : Draft → Type 0
 IsDraft d = AreIn (length d.code.code) d.holes
 
+-- r is o with these items behind it, once the jumps to exits are led
 pub record Grown (o r : Draft) (items : Exits → List Item) : Type 0 where
   -- no cell is lost
   pub long : length o.code.code ≤ length r.code.code

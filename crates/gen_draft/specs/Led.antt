@@ -21,7 +21,8 @@ exit_at exits exit.Continue = exits.continued
 -- the operand of each jump is where it leads
 abbrev pub all_led : (broke continued : ℤ) → List Hole → Built → Built
 all_led broke continued [] b = b
-all_led broke continued (hole ∷ holes) b = all_led broke continued holes (filled hole.at (exit_by broke continued hole.exit) b)
+all_led broke continued (hole ∷ holes) b =
+    all_led broke continued holes (filled hole.at (exit_by broke continued hole.exit) b)
 
 -- they are cells of so many
 abbrev pub AreIn : ℕ → List Hole → Type 0

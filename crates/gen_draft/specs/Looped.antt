@@ -15,7 +15,8 @@ abbrev pub repeat_code : ℕ → (top : ℤ) → (Exits → ℕ → List Item) �
 repeat_code p top body step =
     let next = past (p + 8) (body nowhere (p + 8)) in
     let more = step next in
-    let all = body (record { looped = true; broke = past next more + 8; continued = next }) (p + 8) in
+    let all =
+    body (record { looped = true; broke = past next more + 8; continued = next }) (p + 8) in
     jump_to op.Jzer (past (past (p + 8) all) more + 8) ∷ (all ++ (more ++ taking op.Jump top ∷ []))
 
 -- a body from an address on, and a test behind it
@@ -23,5 +24,8 @@ abbrev pub until_tail : ℕ → (Exits → ℕ → List Item) → (ℕ → List 
 until_tail p body test =
     let next = past (p + 4) (body nowhere (p + 4)) in
     let more = test next in
-    let all = body (record { looped = true; broke = past next more + 8 + 8; continued = next }) (p + 4) in
-    alone op.Nop ∷ (all ++ (more ++ (jump_to op.Jzer (past (past (p + 4) all) more + 8 + 8) ∷ jump_to op.Jump p ∷ [])))
+    let all =
+    body (record { looped = true; broke = past next more + 8 + 8; continued = next })
+    (p + 4) in
+    alone op.Nop ∷ (all ++ (more ++
+    (jump_to op.Jzer (past (past (p + 4) all) more + 8 + 8) ∷ jump_to op.Jump p ∷ [])))

@@ -5,8 +5,10 @@ use Rattle.pawn_program.specs.View.{object_view, slot_view}
 use Rattle.pawn_program.specs.declared.program.Object.{Object}
 use Rattle.pawn_program.specs.declared.program.Slot.{Slot}
 
-pub objects_seen : (objects : List Object) (o : ℕ) → slice_get (map object_view objects) o ≡ option_map object_view (slice_get objects o)
+pub objects_seen : (objects : List Object) (o : ℕ)
+    → slice_get (map object_view objects) o ≡ option_map object_view (slice_get objects o)
 objects_seen objects o = slice_get-map object_view objects o
 
-pub slots_seen : (slots : List Slot) (s : ℕ) → slice_get (map slot_view slots) s ≡ option_map slot_view (slice_get slots s)
+pub slots_seen : (slots : List Slot) (s : ℕ)
+    → slice_get (map slot_view slots) s ≡ option_map slot_view (slice_get slots s)
 slots_seen slots s = slice_get-map slot_view slots s

@@ -1,4 +1,5 @@
--- Where code finds what an expression names: the scope that a frame lends, and that its tables are that scope's.
+-- Where code finds what an expression names: the scope that a frame lends, and that its tables are
+-- that scope's.
 use Rattle.std.specs.Prelude.{◌≡◌, ℕ, ℤ, map, Option, None, Some, slice_get}
 use Rattle.pawn_arrays.specs.Sizes.{sizes, inner_sizes}
 use Rattle.pawn_program.specs.Scope.{Scope, Extent, known_extent, open_extent}
@@ -8,15 +9,23 @@ use Rattle.gen_emit.specs.declared.frame.Frame.{Frame}
 use Rattle.gen_emit.specs.declared.reach.Reach.{Reach}
 use Rattle.gen_emit.specs.declared.reach.Reach.TheVariants as reach
 
+-- as the meaning of expressions has it
 abbrev pub scope_of : Frame → Scope
 scope_of frame =
-    record { program = program_view frame.program.now; slots = map slot_view frame.slots.now; params = frame.params; made = frame.made.now }
+    record {
+      program = program_view frame.program.now;
+      slots = map slot_view frame.slots.now;
+      params = frame.params;
+      made = frame.made.now;
+    }
 
 -- the tables are of the objects' addresses, and of the offsets of slots in force
 abbrev pub Serves : Frame → Type 0
 Serves frame =
-    ((o : ℕ) (x : ℤ) → slice_get frame.objects.now o ≡ Some x → x ≡ object_address (scope_of frame).program o)
-    × ((s : ℕ) (x : ℤ) → slice_get frame.offsets.now s ≡ Some (Some x) → x ≡ slot_offset (scope_of frame) s)
+    ((o : ℕ) (x : ℤ) → slice_get frame.objects.now o ≡ Some x
+    → x ≡ object_address (scope_of frame).program o)
+    × ((s : ℕ) (x : ℤ) → slice_get frame.offsets.now s ≡ Some (Some x)
+    → x ≡ slot_offset (scope_of frame) s)
 
 -- how far an array is said to reach
 abbrev pub extent_of : Reach → Option Extent

@@ -8,8 +8,11 @@ use Rattle.gen_expr.specs.ExprCode.{value_items}
 use Rattle.gen_expr.specs.CodeMeans.{CodeMeans}
 use Rattle.gen_builder.specs.Built.{Built, with_items}
 
-pub means_so : CodeMeans → (scope : Scope) (e : Expr) (b r : Built) → r ≡ with_items (value_items scope (4 * length b.code) e) b
-    → IsValidExpr scope e → Appended scope (length scope.program.natives) e b.code b.waits r.code r.waits
+pub means_so : CodeMeans → (scope : Scope) (e : Expr) (b r : Built)
+    → r ≡ with_items (value_items scope (4 * length b.code) e) b
+    → IsValidExpr scope e → Appended scope
+    (length scope.program.natives) e b.code b.waits r.code r.waits
 means_so law scope e b r is valid =
-    subst (λ (z : Built). Appended scope (length scope.program.natives) e b.code b.waits z.code z.waits) (sym is)
+    subst (λ (z : Built). Appended scope (length scope.program.natives) e b.code b.waits z.code
+    z.waits) (sym is)
     (law scope e valid b.code b.waits)

@@ -1,4 +1,5 @@
--- The cells of a chain's links that hold where a link leads that doesn't hold: one for each link but the last.
+-- The cells of a chain's links that hold where a link leads that doesn't hold: one for each link
+-- but the last.
 use Rattle.std.specs.Prelude.{◌+◌, ◌*◌, ◌/◌, ◌<◌, ℕ, ℤ, pos, List, [], ◌∷◌, length}
 use Rattle.pawn_program.specs.Program.{Links, no_links, then_link}
 use Rattle.pawn_program.specs.Scope.{Scope}
@@ -13,12 +14,14 @@ abbrev pub holes_with : ℕ → Links → List ℕ → List ℕ
 holes_with at no_links others = []
 holes_with at (then_link o e f swapped links) others = at ∷ others
 
+-- of links that begin at an address
 abbrev pub holes_of : Scope → ℕ → Links → List ℕ
 holes_of scope begin no_links = []
 holes_of scope begin (then_link o e f swapped links) =
     let operand = value_items scope (begin + 4) e in
     let link = link_code o f swapped in
-    holes_with (past (past (begin + 4) operand + 4 + 4) link / 4 + 1) links (holes_of scope (others_at begin operand link) links)
+    holes_with (past (past (begin + 4) operand + 4 + 4) link / 4 + 1) links
+    (holes_of scope (others_at begin operand link) links)
 
 -- each of some cells holds the same
 abbrev pub all_filled : List ℕ → ℤ → Built → Built
@@ -34,4 +37,5 @@ AreIn count (at ∷ holes) = (at < count) × AreIn count holes
 abbrev pub ended_by : List ℕ → Built → Built
 ended_by [] b = b
 ended_by (at ∷ holes) b =
-    all_filled (at ∷ holes) (pos (fail_at (4 * length b.code))) (with_items (chain_end_code (4 * length b.code)) b)
+    all_filled (at ∷ holes) (pos (fail_at (4 * length b.code)))
+    (with_items (chain_end_code (4 * length b.code)) b)

@@ -13,8 +13,10 @@ use Rattle.gen_expr.proofs.FaultLaws.{have_no_fault}
 use Rattle.gen_expr.proofs.ExprForms.{value_closed}
 use Rattle.gen_expr.proofs.WeightLaws.{value_light}
 
-pub appended : (scope : Scope) (e : Expr) → IsValidExpr scope e → (code : List ℤ) (waits : List (ℕ × ℕ))
-    → Appended scope (length scope.program.natives) e code waits (code ++ item_cells (value_items scope (4 * length code) e))
+pub appended : (scope : Scope) (e : Expr) → IsValidExpr scope e
+    → (code : List ℤ) (waits : List (ℕ × ℕ))
+    → Appended scope (length scope.program.natives) e code waits
+    (code ++ item_cells (value_items scope (4 * length code) e))
     (waits ++ waits_from (length code) (value_items scope (4 * length code) e))
 appended scope e h code waits =
     let begin = 4 * length code in

@@ -1,5 +1,7 @@
 -- Single items that are fine, and the node's own ones.
-use Rattle.std.proofs.Common.{◌≡◌, ◌≢◌, ◌*◌, ◌%◌, ◌<◌, ℕ, zero, suc, ℤ, pos, neg_ℤ, List, [], ◌∷◌, ◌++◌, Option, None, Some, Bool, true, false, ◌==◌, nat_lt, refl, sym, ap, ◌∙◌, arith, eq-eqb, lt-ltb}
+use Rattle.std.proofs.Common.{◌≡◌, ◌≢◌, ◌*◌, ◌%◌, ◌<◌, ℕ, zero, suc, ℤ, pos, neg_ℤ, List, [], ◌∷◌}
+use Rattle.std.proofs.Common.{◌++◌, Option, None, Some, Bool, true, false, ◌==◌, nat_lt, refl, sym}
+use Rattle.std.proofs.Common.{ap, ◌∙◌, arith, eq-eqb, lt-ltb}
 use Rattle.std.proofs.lemmas.Int.{ints}
 use Rattle.pawn_cells.specs.declared.operator.Prefix.{Prefix}
 use Rattle.pawn_cells.specs.declared.operator.Prefix.TheVariants as before
@@ -38,25 +40,36 @@ no_call o h e = clash (sym (ap is_call e) ∙ h)
     clash z = cc
 
 module _ (natives : ℕ) (T : ℕ → Type 0) where
-  pub alone_fine : (o : Op) → operand_of o ≡ operand.Nothing → is_call o ≡ false → IsFine natives T (alone o)
+  pub alone_fine : (o : Op) → operand_of o ≡ operand.Nothing → is_call o ≡ false
+      → IsFine natives T (alone o)
   alone_fine o k c = rw k ((refl, refl), no_call o c, λ at. refl, tt)
 
-  pub any_fine : (o : Op) (v : ℤ) → operand_of o ≡ operand.AnyCell → is_call o ≡ false → IsFine natives T (taking o v)
+  pub any_fine : (o : Op) (v : ℤ) → operand_of o ≡ operand.AnyCell → is_call o ≡ false
+      → IsFine natives T (taking o v)
   any_fine o v k c = rw k ((tt, refl), no_call o c, λ at. refl, tt)
 
-  pub byte_fine : (o : Op) → operand_of o ≡ operand.ByteCount → is_call o ≡ false → IsFine natives T (taking o (pos 1))
+  pub byte_fine : (o : Op) → operand_of o ≡ operand.ByteCount → is_call o ≡ false
+      → IsFine natives T (taking o (pos 1))
   byte_fine o k c = rw k ((tt, refl), no_call o c, λ at. refl, tt)
 
-  pub multiple_fine : (o : Op) (v : ℤ) → operand_of o ≡ operand.Multiple → is_call o ≡ false → bits_of v % 4 ≡ 0 → IsFine natives T (taking o v)
-  multiple_fine o v k c h = let e : (bits_of v % 4 == 0) ≡ true = eq-eqb _ _ h in rw k ((tt, refl), no_call o c, λ at. rw e refl, tt)
+  pub multiple_fine : (o : Op) (v : ℤ) → operand_of o ≡ operand.Multiple → is_call o ≡ false
+      → bits_of v % 4 ≡ 0 → IsFine natives T (taking o v)
+  multiple_fine o v k c h =
+      let e : (bits_of v % 4 == 0) ≡ true = eq-eqb _ _ h in
+      rw k ((tt, refl), no_call o c, λ at. rw e refl, tt)
 
-  pub length_fine : (o : Op) (n : ℕ) → operand_of o ≡ operand.Length → is_call o ≡ false → IsFine natives T (taking o (pos n))
+  pub length_fine : (o : Op) (n : ℕ) → operand_of o ≡ operand.Length → is_call o ≡ false
+      → IsFine natives T (taking o (pos n))
   length_fine o n k c = rw k ((tt, refl), no_call o c, λ at. refl, tt)
 
-  pub native_fine : (o : Op) (n : ℕ) → operand_of o ≡ operand.NativeNumber → is_call o ≡ false → n < natives → IsFine natives T (taking o (pos n))
-  native_fine o n k c h = let e : nat_lt n natives ≡ true = lt-ltb _ _ h in rw k ((tt, refl), no_call o c, λ at. rw e refl, tt)
+  pub native_fine : (o : Op) (n : ℕ) → operand_of o ≡ operand.NativeNumber → is_call o ≡ false
+      → n < natives → IsFine natives T (taking o (pos n))
+  native_fine o n k c h =
+      let e : nat_lt n natives ≡ true = lt-ltb _ _ h in
+      rw k ((tt, refl), no_call o c, λ at. rw e refl, tt)
 
-  pub target_fine : (o : Op) (to : ℕ) → operand_of o ≡ operand.Target → is_call o ≡ false → T to → IsFine natives T (jump_to o to)
+  pub target_fine : (o : Op) (to : ℕ) → operand_of o ≡ operand.Target → is_call o ≡ false → T to
+      → IsFine natives T (jump_to o to)
   target_fine o to k c h = rw k ((tt, refl), no_call o c, λ at. refl, (to, refl, h))
 
   -- the usual ones
@@ -99,7 +112,8 @@ module _ (natives : ℕ) where
   pub operator_fine : (o : Operator) → Own (operator_code o)
   operator_fine between.Multiply = own_alone op.Smul refl refl
   operator_fine between.Divide = own_alone op.SdivAlt refl refl
-  operator_fine between.Remainder = (alone_fine natives Nowhere op.SdivAlt refl refl, own_alone op.MovePri refl refl)
+  operator_fine between.Remainder =
+      (alone_fine natives Nowhere op.SdivAlt refl refl, own_alone op.MovePri refl refl)
   operator_fine between.Add = own_alone op.Add refl refl
   operator_fine between.Subtract = own_alone op.SubAlt refl refl
   operator_fine between.ShiftLeft = (exchanges natives Nowhere, own_alone op.Shl refl refl)
@@ -128,35 +142,67 @@ module _ (natives : ℕ) where
   pub changed_fine : (s : Scalar) (change : List Item) → Own change → Own (changed_code s change)
   changed_fine s change h =
       let last = alone op.PopAlt ∷ store_code s in
-      let made : Own (alone op.Xchg ∷ (change ++ last)) = (exchanges natives Nowhere, fine_both natives Nowhere change last h (pop_alt natives Nowhere, store_fine s)) in
-      let loaded = fine_both natives Nowhere (load_code s) (alone op.Xchg ∷ (change ++ last)) (load_fine s) made in
+      let made : Own (alone op.Xchg ∷ (change ++ last)) = (
+        exchanges natives Nowhere,
+        fine_both natives Nowhere change last h
+            (pop_alt natives Nowhere, store_fine s),
+      ) in
+      let loaded =
+      fine_both natives Nowhere (load_code s) (alone op.Xchg ∷ (change ++ last))
+      (load_fine s) made in
       (push_alt natives Nowhere, (exchanges natives Nowhere, loaded))
 
   stored_fine : (s : Scalar) → Own (store_code s ++ alone op.PopPri ∷ [])
-  stored_fine s = fine_both natives Nowhere (store_code s) (alone op.PopPri ∷ []) (store_fine s) (pop_pri natives Nowhere, tt)
+  stored_fine s =
+      fine_both natives Nowhere (store_code s) (alone op.PopPri ∷ []) (store_fine s)
+      (pop_pri natives Nowhere, tt)
 
   pub stepped_fine : (s : Scalar) (delta : ℤ) (prefix : Bool) → Own (stepped_code s delta prefix)
   stepped_fine s delta true = (any_fine natives Nowhere op.AddC delta refl refl, store_fine s)
-  stepped_fine s delta false = (push_pri natives Nowhere, (any_fine natives Nowhere op.AddC delta refl refl, stored_fine s))
+  stepped_fine s delta false =
+      (push_pri natives Nowhere, (any_fine natives Nowhere op.AddC delta refl refl, stored_fine s))
 
-  pub turned_fine : (s : Scalar) (change : List Item) (prefix : Bool) → Own change → Own (turned_code s change prefix)
-  turned_fine s change true h =
-      (push_alt natives Nowhere, fine_both natives Nowhere change (alone op.PopAlt ∷ store_code s) h (pop_alt natives Nowhere, store_fine s))
+  pub turned_fine : (s : Scalar) (change : List Item) (prefix : Bool) → Own change
+      → Own (turned_code s change prefix)
+  turned_fine s change true h = (
+    push_alt natives Nowhere,
+    fine_both natives Nowhere change (alone op.PopAlt ∷ store_code s) h
+        (pop_alt natives Nowhere, store_fine s),
+  )
   turned_fine s change false h =
-      let made = fine_both natives Nowhere change (alone op.PopAlt ∷ (store_code s ++ alone op.PopPri ∷ [])) h (pop_alt natives Nowhere, stored_fine s) in
+      let made =
+      fine_both natives Nowhere change
+      (alone op.PopAlt ∷ (store_code s ++ alone op.PopPri ∷ [])) h
+      (pop_alt natives Nowhere, stored_fine s) in
       (push_pri natives Nowhere, (push_alt natives Nowhere, made))
 
   pub bounds_fine : (size : Option ℕ) → Own (bounds_code size)
   bounds_fine None = tt
-  bounds_fine (Some zero) = (any_fine natives Nowhere op.ConstPri (pos 1) refl refl, (any_fine natives Nowhere op.Bounds (pos 0) refl refl, tt))
+  bounds_fine (Some zero) = (
+    any_fine natives Nowhere op.ConstPri (pos 1) refl refl,
+    (any_fine natives Nowhere op.Bounds (pos 0) refl refl, tt),
+  )
   bounds_fine (Some (suc n)) = (any_fine natives Nowhere op.Bounds (pos n) refl refl, tt)
 
   pub one_fine : (f : ℕ) → Own (one_code f)
-  one_fine f = (push_pri natives Nowhere, (any_fine natives Nowhere op.PushC (pos 4) refl refl, (tt, tt)))
+  one_fine f =
+      (push_pri natives Nowhere, (any_fine natives Nowhere op.PushC (pos 4) refl refl, (tt, tt)))
 
   pub two_fine : (f : ℕ) (swapped : Bool) → Own (two_code f swapped)
-  two_fine f true = (push_alt natives Nowhere, (push_pri natives Nowhere, (any_fine natives Nowhere op.PushC (pos 8) refl refl, (tt, tt))))
-  two_fine f false = (push_pri natives Nowhere, (push_alt natives Nowhere, (any_fine natives Nowhere op.PushC (pos 8) refl refl, (tt, tt))))
+  two_fine f true = (
+    push_alt natives Nowhere,
+    (
+      push_pri natives Nowhere,
+      (any_fine natives Nowhere op.PushC (pos 8) refl refl, (tt, tt)),
+    ),
+  )
+  two_fine f false = (
+    push_pri natives Nowhere,
+    (
+      push_alt natives Nowhere,
+      (any_fine natives Nowhere op.PushC (pos 8) refl refl, (tt, tt)),
+    ),
+  )
 
   pub convert_fine : (f : Option ℕ) → Own (convert_code f)
   convert_fine None = tt
@@ -164,7 +210,11 @@ module _ (natives : ℕ) where
 
   pub give_back_fine : (n : ℕ) → Own (give_back_code n)
   give_back_fine zero = tt
-  give_back_fine (suc n) = (multiple_fine natives Nowhere op.Heap (neg_ℤ (pos (4 * suc n))) refl refl (multiple_down (4 * suc n) (suc n) refl), tt)
+  give_back_fine (suc n) = (
+    multiple_fine natives Nowhere op.Heap (neg_ℤ (pos (4 * suc n))) refl refl
+        (multiple_down (4 * suc n) (suc n) refl),
+    tt,
+  )
 
   pub link_fine : (o : Comparison) (f : Option ℕ) (swapped : Bool) → Own (link_code o f swapped)
   link_fine comparison.Less None swapped = own_alone op.Sgrtr refl refl

@@ -1,5 +1,6 @@
--- Items without a fault, each by itself: a whole instruction with a valid operand, which leads to an address of which
--- something holds. That is said of a part's items, and holds in whatever they are a part of.
+-- Items without a fault, each by itself: a whole instruction with a valid operand, which leads to
+-- an address of which something holds. That is said of a part's items, and holds in whatever they
+-- are a part of.
 use Rattle.std.specs.Prelude.{◌≡◌, ◌≢◌, ◌+◌, ◌*◌, ◌⊎◌, ℕ, ℤ, pos, List, [], ◌∷◌, None}
 use Rattle.amx_ops.specs.declared.op.Op.TheVariants as op
 use Rattle.amx_ops.specs.declared.table.Operand.{Operand}
@@ -9,8 +10,8 @@ use Rattle.amx_ops.specs.Written.{IsWritten}
 use Rattle.amx_ops.specs.Valid.{operand_fault}
 use Rattle.gen_sim.specs.Items.{Item, Plain, CallOf, size}
 
--- an operand that is an address is one of which something holds; a generator of expressions writes no relative address
--- and no case table
+-- an operand that is an address is one of which something holds; a generator of expressions writes
+-- no relative address and no case table
 abbrev pub LeadsBy : (ℕ → Type 0) → Operand → ℤ → Type 0
 LeadsBy T operand.Target v = (at : ℕ) × (v ≡ pos at) × T at
 LeadsBy T operand.Relative v = ⊥
@@ -18,9 +19,11 @@ LeadsBy T operand.CaseTable v = ⊥
 LeadsBy T operand.Cases v = ⊥
 LeadsBy T kind v = Unit {0}
 
+-- an item has a whole instruction and a valid operand; CALL stands only where an address waits
 abbrev pub IsFine : (natives : ℕ) → (ℕ → Type 0) → Item → Type 0
 IsFine natives T (Plain it) =
-    IsWritten it × (it.op ≢ op.Call) × ((at : ℕ) → operand_fault natives (operand_of it.op) it.operand at ≡ None)
+    IsWritten it × (it.op ≢ op.Call)
+    × ((at : ℕ) → operand_fault natives (operand_of it.op) it.operand at ≡ None)
     × LeadsBy T (operand_of it.op) it.operand
 IsFine natives T (CallOf f) = Unit {0}
 

@@ -7,7 +7,9 @@ use Rattle.pawn_program.specs.View.{automaton_view}
 use Rattle.pawn_program.specs.declared.program.Automaton.{Automaton}
 use Rattle.gen_files.specs.Few.{AreFew}
 
-pub all_few : (automata : List Automaton) → AreFew automata → All (λ (it : plain.Automaton). length it.states < 2 ^ 31) (map automaton_view automata)
+pub all_few : (automata : List Automaton) → AreFew automata
+    → All (λ (it : plain.Automaton). length it.states < 2 ^ 31) (map automaton_view automata)
 all_few [] h = All-nil (λ (it : plain.Automaton). length it.states < 2 ^ 31)
 all_few (automaton ∷ automata) h =
-    All-cons (λ (it : plain.Automaton). length it.states < 2 ^ 31) (automaton_view automaton) (map automaton_view automata) h.0 (all_few automata h.1)
+    All-cons (λ (it : plain.Automaton). length it.states < 2 ^ 31) (automaton_view automaton)
+    (map automaton_view automata) h.0 (all_few automata h.1)

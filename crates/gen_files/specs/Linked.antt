@@ -9,7 +9,8 @@ nothing = record { code = []; waits = [] }
 -- with the address of its function in each cell that waits
 abbrev pub linked_with : (ℕ → ℕ) → List (ℕ × ℕ) → List ℤ → List ℤ
 linked_with entry [] code = code
-linked_with entry (wait ∷ waits) code = linked_with entry waits (slice_set code wait.0 (pos (entry wait.1)))
+linked_with entry (wait ∷ waits) code =
+    linked_with entry waits (slice_set code wait.0 (pos (entry wait.1)))
 
 -- the cells that wait are cells of so many
 abbrev pub AreIn : ℕ → List (ℕ × ℕ) → Type 0

@@ -15,11 +15,16 @@ here_of program slots n = record {
   exits = no_exits;
 }
 
-pub body_made : (program : Program) (params slots : List Slot) (n : ℕ) (body : Body) (b done r : Built) → slots ≡ body.slots → n ≡ length params
-    → done ≡ with_items (stmt_items (here_of program slots n) (4 * length b.code) body.stmt) b → r ≡ with_items end_code done
+pub body_made : (program : Program) (params slots : List Slot) (n : ℕ) (body : Body)
+    (b done r : Built) → slots ≡ body.slots → n ≡ length params
+    → done ≡ with_items (stmt_items (here_of program slots n) (4 * length b.code) body.stmt) b
+    → r ≡ with_items end_code done
     → r ≡ with_items (body_items program params (4 * length b.code) body) b
 body_made program params slots n body b done r same count first last =
-    then_grow b done r (stmt_items (body_here program params body) (4 * length b.code) body.stmt) end_code
-    (first ∙ ap (λ l. with_items (stmt_items (here_of program l n) (4 * length b.code) body.stmt) b) same
-    ∙ ap (λ k. with_items (stmt_items (here_of program body.slots k) (4 * length b.code) body.stmt) b) count)
+    then_grow b done r (stmt_items (body_here program params body) (4 * length b.code) body.stmt)
+    end_code
+    (first ∙ ap (λ l. with_items (stmt_items (here_of program l n) (4 * length b.code) body.stmt) b)
+    same
+    ∙ ap (λ k. with_items (stmt_items (here_of program body.slots k) (4 * length b.code) body.stmt)
+    b) count)
     last

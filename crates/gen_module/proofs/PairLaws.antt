@@ -2,6 +2,7 @@
 use Rattle.std.proofs.Common.{◌≡◌, ◌*◌, ℕ, List, [], ◌∷◌, length, refl, arith}
 use Rattle.gen_program.specs.RouteCode.{route_table}
 
-pub table_count : (address : ℕ → ℕ) (cases : List (ℕ × ℕ)) → length (route_table address cases) ≡ 2 * length cases
+pub table_count : (address : ℕ → ℕ) (cases : List (ℕ × ℕ))
+    → length (route_table address cases) ≡ 2 * length cases
 table_count address [] = refl
 table_count address (case ∷ cases) = omega (arith, table_count address cases)

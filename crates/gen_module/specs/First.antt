@@ -5,5 +5,6 @@ use Rattle.gen_program.specs.BodyCode.{no_exits}
 use Rattle.gen_slots.specs.Keeps.{scope_in}
 use Rattle.gen_slots.specs.declared.place.Place.{Place}
 
+-- no slot has been made, and no loop is around
 abbrev pub first_here : Place → Here
 first_here place = record { scope = scope_in place []; since = []; exits = no_exits }

@@ -2,6 +2,7 @@
 use Rattle.std.specs.Prelude.{ℕ, zero, suc, List, [], ◌∷◌, ◌++◌}
 use Rattle.gen_sim.specs.Items.{Item, past}
 
+-- the items of all parts in their order
 abbrev pub row_items : {A : Type 0} → (ℕ → A → List Item) → ℕ → List A → List Item
 row_items part at [] = []
 row_items part at (x ∷ xs) = part at x ++ row_items part (past at (part at x)) xs

@@ -1,5 +1,7 @@
 -- A file's trace agrees with the program's meaning.
-use Rattle.std.proofs.Common.{◌≡◌, ◌+◌, ◌*◌, ◌^◌, ◌<◌, ◌≤◌, ◌⊎◌, inl, inr, ℕ, zero, suc, ℤ, pos, List, [], ◌∷◌, Option, None, Some, length, slice_get, refl, sym, subst, arith}
+use Rattle.std.proofs.Common.{◌≡◌, ◌+◌, ◌*◌, ◌^◌, ◌<◌, ◌≤◌, ◌⊎◌, inl, inr, ℕ, zero, suc, ℤ, pos}
+use Rattle.std.proofs.Common.{List, [], ◌∷◌, Option, None, Some, length, slice_get, refl, sym}
+use Rattle.std.proofs.Common.{subst, arith}
 use Rattle.std.proofs.lemmas.Bool.{cases_lt}
 use Rattle.pawn_cells.specs.Cells.{bits_of}
 use Rattle.host_script.specs.declared.script.Script.{Script}
@@ -41,14 +43,28 @@ first_mark [] last = record { mark = last; first = refl }
 first_mark (entry ∷ entries) last = record { mark = mark_of entry; first = refl }
 
 no_start : (means : Meanings) (cells room bound : ℕ) (c : Config) → room < 2 → c.events ≡ []
-    → AgreesOn means cells room (record { stop = Over_by (Error (pos 3)); config = c; bound = bound; steps = 0 })
+    → AgreesOn means cells room (record
+    { stop = Over_by (Error (pos 3)); config = c; bound = bound; steps = 0 })
 no_start means cells room bound c h e =
     let told = means 0 in
-    let first = first_mark told.entries (record { turns = told.turns; peak = told.peak; is_cut = is_cut told.last }) in
+    let first =
+    first_mark told.entries (record
+    { turns = told.turns; peak = told.peak; is_cut = is_cut told.last }) in
     record {
-      prefix = inl (record { limit = 0; first = rw e (record { rest = events_of told.entries; all_is = refl }) });
+      prefix =
+          inl (record {
+            limit = 0;
+            first = rw e
+                (record { rest = events_of told.entries; all_is = refl });
+          });
       end = λ x is never. elim (never (ends x is)) [ ];
-      stack = λ is. inr (inr (record { limit = 0; mark = first.mark; next = rw e first.first; deep = omega (arith, h) }));
+      stack =
+          λ is. inr (inr (record {
+            limit = 0;
+            mark = first.mark;
+            next = rw e first.first;
+            deep = omega (arith, h);
+          }));
       steps = λ is. elim (clash is) [ ];
     }
   where
@@ -60,8 +76,10 @@ no_start means cells room bound c h e =
 
 -- ---- all of it
 
-module _ (program : Program) (amx : Amx) (entry : ℕ → ℕ) (is : IsFileOf program amx entry) (script : Script) (room : ℕ) (keeps : IsScript script)
-    (within : IsRoom amx room) (f : ℕ) (address : ℤ) (here : bits_of address ≡ entry f) (bound : ℕ) (bounds : List ℕ) where
+module _ (program : Program) (amx : Amx) (entry : ℕ → ℕ) (is : IsFileOf program amx entry)
+    (script : Script) (room : ℕ) (keeps : IsScript script)
+    (within : IsRoom amx room) (f : ℕ) (address : ℤ) (here : bits_of address ≡ entry f) (bound : ℕ)
+    (bounds : List ℕ) where
   abbrev code : ℕ
   code = length amx.code
 
@@ -82,31 +100,43 @@ module _ (program : Program) (amx : Amx) (entry : ℕ → ℕ) (is : IsFileOf pr
   has limit = record {
     site = site limit;
     few = is.few;
-    lie = λ g function there. let it = is.lie script room limit g function there in (it.0, omega (arith, it.1));
+    lie =
+        λ g function there. let it = is.lie script room limit g function there in
+        (it.0, omega (arith, it.1));
   }
 
   small : 4 * all_cells program room < 2 ^ 31
   small = omega (arith, within, store_count program amx entry is room address)
 
   with_room : (st : Started program amx entry is room address)
-      → AgreesOn (meaning program script f) code room (joined (move amx script) bound bounds (begun st.state))
+      → AgreesOn (meaning program script f) code room
+      (joined (move amx script) bound bounds (begun st.state))
   with_room st =
       final.agrees (move amx script) code room (begun st.state) (said_more amx script) program outs
-      (λ limit. whole_does (site_of program amx entry script room limit) (has limit) is.first (λ g function there. (is.lie script room limit g function there).1) f (begun st.state)
-      (subst (λ q. Stands program room first_view (pos 0 ∷ pos 0 ∷ []) q (first_world program) (begun st.state)) here st.stands))
-      (λ t m least. runs_extend_lem t m least program script f) (λ m. runs_grow_lem.programs program script m f) (bound ∷ bounds)
-      (joined (move amx script) bound bounds (begun st.state)) (joined_cut (move amx script) bound bounds (begun st.state))
+      (λ limit. whole_does (site_of program amx entry script room limit) (has limit) is.first
+      (λ g function there. (is.lie script room limit g function there).1) f (begun st.state)
+      (subst (λ q. Stands program room first_view (pos 0 ∷ pos 0 ∷ []) q (first_world program)
+      (begun st.state)) here st.stands))
+      (λ t m least. runs_extend_lem t m least program script f)
+      (λ m. runs_grow_lem.programs program script m f) (bound ∷ bounds)
+      (joined (move amx script) bound bounds (begun st.state))
+      (joined_cut (move amx script) bound bounds (begun st.state))
 
   abbrev traced_by : Option State → Traced Config End
   traced_by o = trace_by amx script (loaded amx room) o bound bounds
 
-  by_room : (room < 2) ⊎ (2 ≤ room) → AgreesOn (meaning program script f) code room (trace_from amx room script address bound bounds)
+  by_room : (room < 2) ⊎ (2 ≤ room)
+      → AgreesOn (meaning program script f) code room
+      (trace_from amx room script address bound bounds)
   by_room (inl few) =
-      subst (λ o. AgreesOn (meaning program script f) code room (traced_by o)) (sym (fails program amx entry is room address few))
+      subst (λ o. AgreesOn (meaning program script f) code room (traced_by o))
+      (sym (fails program amx entry is room address few))
       (no_start (meaning program script f) code room bound (begun (loaded amx room)) few refl)
   by_room (inr enough) =
       let st = starts program amx entry is room address small enough in
-      subst (λ o. AgreesOn (meaning program script f) code room (traced_by o)) (sym st.is_it) (with_room st)
+      subst (λ o. AgreesOn (meaning program script f) code room (traced_by o)) (sym st.is_it)
+      (with_room st)
 
-  pub file_agrees : AgreesOn (meaning program script f) code room (trace_from amx room script address bound bounds)
+  pub file_agrees : AgreesOn (meaning program script f) code room
+      (trace_from amx room script address bound bounds)
   file_agrees = by_room (cases_lt room 2)

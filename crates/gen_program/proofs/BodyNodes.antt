@@ -1,5 +1,6 @@
 -- A body's code does what its statement means, and goes back to the caller.
-use Rattle.std.proofs.Common.{◌≡◌, ◌+◌, ◌*◌, ◌-◌, ◌≤◌, ℕ, ℤ, pos, List, [], ◌∷◌, Some, true, false, length, sum, slice_get, refl, sym, ◌∙◌, arith}
+use Rattle.std.proofs.Common.{◌≡◌, ◌+◌, ◌*◌, ◌-◌, ◌≤◌, ℕ, ℤ, pos, List, [], ◌∷◌, Some, true, false}
+use Rattle.std.proofs.Common.{length, sum, slice_get, refl, sym, ◌∙◌, arith}
 use Rattle.pawn_program.specs.Program.{Body, Function}
 use Rattle.pawn_program.specs.Valid.{IsValidBody, body_scope}
 use Rattle.pawn_program.specs.ValidStmts.{slots_made, all_slots_made}
@@ -46,8 +47,10 @@ use Rattle.gen_program.proofs.ReturnLaws.{returns}
 clash : false ≡ true → ⊥
 clash e = cc
 
-module _ (x : Site) (site : IsSite x) (function : Function) (number : ℕ) (body : Body) (there : slice_get function.bodies number ≡ Some body)
-    (valid : IsValidBody x.program function.params body) (ready : Ready x.program body.slots) (at : ℕ) where
+module _ (x : Site) (site : IsSite x) (function : Function) (number : ℕ) (body : Body)
+    (there : slice_get function.bodies number ≡ Some body)
+    (valid : IsValidBody x.program function.params body) (ready : Ready x.program body.slots)
+    (at : ℕ) where
   abbrev here : Here
   here = body_here x.program function.params body
 
@@ -60,7 +63,9 @@ module _ (x : Site) (site : IsSite x) (function : Function) (number : ℕ) (body
   fresh : Fresh (body_scope x.program function.params body) (all_slots_made body.stmt)
   fresh = record {
     new = λ s a m. absurd (omega (arith, m.2));
-    once = made_once (all_slots_made body.stmt) (length function.params) (length body.slots - length function.params) valid.makes;
+    once =
+        made_once (all_slots_made body.stmt) (length function.params)
+        (length body.slots - length function.params) valid.makes;
   }
 
   none : slots_made body.stmt ≡ []
@@ -69,7 +74,8 @@ module _ (x : Site) (site : IsSite x) (function : Function) (number : ℕ) (body
   part : StmtCode here body.stmt at items
   part = stmt_does body.stmt here false valid.stmt ready fresh at
 
-  enough : locals body.slots body.stmt + stmt_load body.stmt ≤ greatest_locals function.bodies + greatest_load function.bodies
+  enough : locals body.slots body.stmt + stmt_load body.stmt ≤ greatest_locals function.bodies
+      + greatest_load function.bodies
   enough =
       omega (
         arith,
@@ -78,9 +84,12 @@ module _ (x : Site) (site : IsSite x) (function : Function) (number : ℕ) (body
       )
 
   module _ (l : LieIn x at (body_items x.program function.params at body))
-      (paid : length (item_cells (body_items x.program function.params at body)) ≤ length x.amx.code) (turns : ℕ) (calls : CallsWithin x turns)
-      (v : View) (held : List Held) (cells waits : List ℤ) (back : ℕ) (suit : SuitAll function.params held) (hold : HoldArguments x.program x.room v held cells)
-      (laid : Laid x.program x.room v) (starts : Starts x back) (deep : used x.program x.room v waits ≤ kept x.program x.room + sum v.needs) where
+      (paid : length (item_cells (body_items x.program function.params at body))
+      ≤ length x.amx.code) (turns : ℕ) (calls : CallsWithin x turns)
+      (v : View) (held : List Held) (cells waits : List ℤ) (back : ℕ)
+      (suit : SuitAll function.params held) (hold : HoldArguments x.program x.room v held cells)
+      (laid : Laid x.program x.room v) (starts : Starts x back)
+      (deep : used x.program x.room v waits ≤ kept x.program x.room + sum v.needs) where
     abbrev saved : List ℤ
     saved = pos v.frm ∷ pos back ∷ pos (4 * length cells) ∷ []
 
@@ -107,32 +116,39 @@ module _ (x : Site) (site : IsSite x) (function : Function) (number : ℕ) (body
     few : length cells ≡ length function.params
     few = hold_count x.program x.room v held cells hold ∙ suit_count function.params held suit
 
-    all_deep : used x.program x.room inner [] + (locals body.slots body.stmt + stmt_load body.stmt) ≤ kept x.program x.room + sum inner.needs
+    all_deep : used x.program x.room inner [] + (locals body.slots body.stmt + stmt_load body.stmt)
+        ≤ kept x.program x.room + sum inner.needs
     all_deep = omega (arith, high, few, enough, deep, sum_cons (need function) v.needs)
 
-    begins : (w : World) (c : Config) → Stands x.program x.room inner [] at w c → Begins here x turns inner outer
+    begins : (w : World) (c : Config) → Stands x.program x.room inner [] at w c
+        → Begins here x turns inner outer
     begins w c s = record {
       site = site;
       same = refl;
       calls = calls;
       fits =
-          called_fits x.program x.room v function.params body (need function) saved held cells waits laid hold suit valid.begins refl
+          called_fits x.program x.room v function.params body
+          (need function) saved held cells waits laid hold suit valid.begins refl
           (omega (arith, high, s.mem.size));
       inside = record {
         loop = λ h. absurd (clash h);
         body = record { is = refl; laid = s.laid };
-        returns = λ y q u t k g. returns x v (need function) back held cells waits hold laid starts y (λ z. z) y refl q u t k g;
+        returns =
+            λ y q u t k g. returns x v (need function) back held cells waits hold laid starts y
+            (λ z. z) y refl q u t k g;
       };
     }
 
     -- through its end 0 is the value
     finish : (way : Way) (w : World) (c : Config) → Left x no_exits outer inner end way w c
-        → DoesAt x (length (item_cells end_code)) w c (Gives way w) (λ z. Back x.program x.room v waits back (value_of z))
+        → DoesAt x (length (item_cells end_code)) w c (Gives way w)
+        (λ z. Back x.program x.room v waits back (value_of z))
     finish Through w c k =
         let t : State = record c.state { pri = pos 0; cip = end + 4 } in
         let s = stands_on x.program x.room k (end + 4) t refl refl refl refl refl in
         goes x {d = 1} k (with op.ZeroPri (pos 0)) at_end.0 t refl
-        (returns x v (need function) back held cells waits hold laid starts Through value_of (pos 0) refl (end + 4) w (record c { state = t })
+        (returns x v (need function) back held cells waits hold laid starts Through value_of
+        (pos 0) refl (end + 4) w (record c { state = t })
         (record { stands = s; value = refl; fits = small_cell 0 (omega arith) }) at_end.3.0)
     finish Broke w c k = absurd (clash k.0)
     finish Continued w c k = absurd (clash k.0)
@@ -142,10 +158,13 @@ module _ (x : Site) (site : IsSite x) (function : Function) (number : ℕ) (body
         (stays (move x.amx x.script) (length x.amx.code) x.room c w k.back.stands.said k))
 
     pub body_runs : (w : World) (c : Config) → Stands x.program x.room inner [] at w c
-        → DoesAt x (length (item_cells (body_items x.program function.params at body))) w c (run (scene_at x) (with_turns x turns) body.stmt w)
+        → DoesAt x (length (item_cells (body_items x.program function.params at body))) w c
+        (run (scene_at x) (with_turns x turns) body.stmt w)
         (λ way. Back x.program x.room v waits back (value_of way))
     body_runs w c s =
         size_is (move x.amx x.script) (length x.amx.code) x.room (sym (count-append items end_code))
-        (after_it (move x.amx x.script) (length x.amx.code) x.room (run (scene_at x) (with_turns x turns) body.stmt w) (Left x no_exits outer inner end)
-        (inner_does here none part x turns inner outer (begins w c s) lies (omega (arith, paid, count-append items end_code))
+        (after_it (move x.amx x.script) (length x.amx.code) x.room
+        (run (scene_at x) (with_turns x turns) body.stmt w) (Left x no_exits outer inner end)
+        (inner_does here none part x turns inner outer (begins w c s) lies
+        (omega (arith, paid, count-append items end_code))
         all_deep w c s) finish)

@@ -1,10 +1,12 @@
 -- The calls in the nodes' own items, and in items one behind another.
-use Rattle.std.proofs.Common.{ℕ, zero, suc, ℤ, pos, List, [], ◌∷◌, ◌++◌, Option, None, Some, Bool, true, false}
+use Rattle.std.proofs.Common.{ℕ, zero, suc, ℤ, pos, List, [], ◌∷◌, ◌++◌, Option, None, Some, Bool}
+use Rattle.std.proofs.Common.{true, false}
 use Rattle.std.specs.Prelude.{IfSome}
 use Rattle.pawn_cells.specs.declared.operator.Operator.{Operator}
 use Rattle.pawn_cells.specs.declared.operator.Operator.TheVariants as between
 use Rattle.pawn_cells.specs.declared.operator.Comparison.{Comparison}
-use Rattle.pawn_program.specs.Program.{Scalar, Global, Own, Through, Element, Char, Slot, Links, no_links, then_link}
+use Rattle.pawn_program.specs.Program.{Scalar, Global, Own, Through, Element, Char, Slot, Links}
+use Rattle.pawn_program.specs.Program.{no_links, then_link}
 use Rattle.amx_ops.specs.declared.op.Op.TheVariants as op
 use Rattle.gen_sim.specs.Items.{Item, Plain, CallOf}
 use Rattle.gen_sim.specs.SimpleCode.{alone, operator_code, waiting_code}
@@ -23,11 +25,15 @@ module _ (C : ℕ → Type 0) where
   both_called (Plain it ∷ is) js h g = both_called is js h g
   both_called (CallOf f ∷ is) js h g = (h.0, both_called is js h.1 g)
 
-  pub waiting_called : (first second tail : List Item) → AreCalled C first → AreCalled C second → AreCalled C tail → AreCalled C (waiting_code first second tail)
-  waiting_called first second tail h g k = both_called first (alone op.PushPri ∷ (second ++ tail)) h (both_called second tail g k)
+  pub waiting_called : (first second tail : List Item) → AreCalled C first → AreCalled C second
+      → AreCalled C tail → AreCalled C (waiting_code first second tail)
+  waiting_called first second tail h g k =
+      both_called first (alone op.PushPri ∷ (second ++ tail)) h (both_called second tail g k)
 
-  pub choice_called : (p : ℕ) (first second : List Item) → AreCalled C first → AreCalled C second → AreCalled C (choice_code p first second)
-  choice_called p first second h g = both_called first (jump_to op.Jump (end_at p first second) ∷ second) h g
+  pub choice_called : (p : ℕ) (first second : List Item) → AreCalled C first → AreCalled C second
+      → AreCalled C (choice_code p first second)
+  choice_called p first second h g =
+      both_called first (jump_to op.Jump (end_at p first second) ∷ second) h g
 
   -- ---- without a call
 
@@ -73,19 +79,26 @@ module _ (C : ℕ → Type 0) where
   leave_called slots [] = tt
   leave_called slots (s ∷ made) = tt
 
-  pub changed_called : (s : Scalar) (change : List Item) → AreCalled C change → AreCalled C (changed_code s change)
+  pub changed_called : (s : Scalar) (change : List Item) → AreCalled C change
+      → AreCalled C (changed_code s change)
   changed_called s change h =
       let last = alone op.PopAlt ∷ store_code s in
-      both_called (load_code s) (alone op.Xchg ∷ (change ++ last)) (load_called s) (both_called change last h (store_called s))
+      both_called (load_code s) (alone op.Xchg ∷ (change ++ last)) (load_called s)
+      (both_called change last h (store_called s))
 
-  pub stepped_called : (s : Scalar) (delta : ℤ) (prefix : Bool) → AreCalled C (stepped_code s delta prefix)
+  pub stepped_called : (s : Scalar) (delta : ℤ) (prefix : Bool)
+      → AreCalled C (stepped_code s delta prefix)
   stepped_called s delta true = store_called s
-  stepped_called s delta false = both_called (store_code s) (alone op.PopPri ∷ []) (store_called s) tt
+  stepped_called s delta false =
+      both_called (store_code s) (alone op.PopPri ∷ []) (store_called s) tt
 
-  pub turned_called : (s : Scalar) (change : List Item) (prefix : Bool) → AreCalled C change → AreCalled C (turned_code s change prefix)
-  turned_called s change true h = both_called change (alone op.PopAlt ∷ store_code s) h (store_called s)
+  pub turned_called : (s : Scalar) (change : List Item) (prefix : Bool) → AreCalled C change
+      → AreCalled C (turned_code s change prefix)
+  turned_called s change true h =
+      both_called change (alone op.PopAlt ∷ store_code s) h (store_called s)
   turned_called s change false h =
-      both_called change (alone op.PopAlt ∷ (store_code s ++ alone op.PopPri ∷ [])) h (both_called (store_code s) (alone op.PopPri ∷ []) (store_called s) tt)
+      both_called change (alone op.PopAlt ∷ (store_code s ++ alone op.PopPri ∷ [])) h
+      (both_called (store_code s) (alone op.PopPri ∷ []) (store_called s) tt)
 
   -- ---- with one
 
@@ -97,18 +110,24 @@ module _ (C : ℕ → Type 0) where
   convert_called None h = tt
   convert_called (Some f) h = (h, tt)
 
-  pub link_called : (o : Comparison) (f : Option ℕ) (swapped : Bool) → IfSome f C → AreCalled C (link_code o f swapped)
+  pub link_called : (o : Comparison) (f : Option ℕ) (swapped : Bool) → IfSome f C
+      → AreCalled C (link_code o f swapped)
   link_called o None swapped h = tt
   link_called o (Some f) swapped h = two_called f swapped h
 
-  pub link_with_called : (fail : ℕ) (operand link : List Item) (links : Links) (others : List Item) → AreCalled C operand → AreCalled C link → AreCalled C others
+  pub link_with_called : (fail : ℕ) (operand link : List Item) (links : Links) (others : List Item)
+      → AreCalled C operand → AreCalled C link → AreCalled C others
       → AreCalled C (link_with fail operand link links others)
-  link_with_called fail operand link no_links others h g k = both_called operand (alone op.PopAlt ∷ link) h g
+  link_with_called fail operand link no_links others h g k =
+      both_called operand (alone op.PopAlt ∷ link) h g
   link_with_called fail operand link (then_link o e f swapped links) others h g k =
       let tested = jump_to op.Jzer fail ∷ alone op.PopPri ∷ others in
-      both_called operand (alone op.PopAlt ∷ alone op.PushPri ∷ (link ++ tested)) h (both_called link tested g k)
+      both_called operand (alone op.PopAlt ∷ alone op.PushPri ∷ (link ++ tested)) h
+      (both_called link tested g k)
 
-  pub linked_called : (q : ℕ) (links : Links) (items : List Item) → AreCalled C items → AreCalled C (linked_with q links items)
+  pub linked_called : (q : ℕ) (links : Links) (items : List Item) → AreCalled C items
+      → AreCalled C (linked_with q links items)
   linked_called q no_links items h = h
   linked_called q (then_link o e f swapped no_links) items h = h
-  linked_called q (then_link o e f swapped (then_link o2 e2 f2 swapped2 links)) items h = both_called items (chain_end_code q) h tt
+  linked_called q (then_link o e f swapped (then_link o2 e2 f2 swapped2 links)) items h =
+      both_called items (chain_end_code q) h tt

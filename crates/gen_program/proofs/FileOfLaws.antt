@@ -1,5 +1,6 @@
 -- The file of a program has all of it.
-use Rattle.std.proofs.Common.{◌≡◌, ◌^◌, ◌<◌, ◌≤◌, ◌≤ℤ◌, ℤ, pos, negsuc, List, [], ◌∷◌, length, map, refl, ap, arith}
+use Rattle.std.proofs.Common.{◌≡◌, ◌^◌, ◌<◌, ◌≤◌, ◌≤ℤ◌, ℤ, pos, negsuc, List, [], ◌∷◌, length, map}
+use Rattle.std.proofs.Common.{refl, ap, arith}
 use Rattle.std.specs.Prelude.{All}
 use Rattle.std.proofs.lemmas.Int.{ints}
 use Rattle.pawn_program.specs.Program.{Automaton, Public, Program}
@@ -14,7 +15,8 @@ use Rattle.gen_program.specs.FileOf.{file_of}
 use Rattle.gen_program.specs.HasProgram.{HasProgram}
 use Rattle.gen_program.proofs.ProgramLaws.{program_agrees}
 
-map_twice : {A B C : Type 0} (f : A → B) (g : B → C) (xs : List A) → map g (map f xs) ≡ map (λ x. g (f x)) xs
+map_twice : {A B C : Type 0} (f : A → B) (g : B → C) (xs : List A)
+    → map g (map f xs) ≡ map (λ x. g (f x)) xs
 map_twice f g [] = refl
 map_twice f g (x ∷ xs) = ap (λ l. g (f x) ∷ l) (map_twice f g xs)
 
@@ -22,9 +24,11 @@ not_below : (z : ℤ) → pos 0 ≤ℤ z → pos (counted z) ≡ z
 not_below (pos n) h = refl
 not_below (negsuc n) h = absurd (omega (arith, ints, h))
 
-pub file_has : (program : Program) → IsWithinLimits program → IsWritable (file_of program) → HasProgram program (file_of program)
+pub file_has : (program : Program) → IsWithinLimits program → IsWritable (file_of program)
+    → HasProgram program (file_of program)
 file_has program limits writable =
-    let of : Public → Record = λ it. record { address = pos (entry_of program it.function); name = it.name } in
+    let of : Public → Record =
+    λ it. record { address = pos (entry_of program it.function); name = it.name } in
     record {
       code = refl;
       entry = refl;
@@ -43,7 +47,10 @@ file_has program limits writable =
       };
     }
 
-pub file_agrees_with : (program : Program) → IsValid program → IsWithinLimits program → All (λ (it : Automaton). length it.states < 2 ^ 31) program.automata
-    → length program.natives ≤ 2 ^ 31 → IsWritable (file_of program) → Agrees program (file_of program)
+pub file_agrees_with : (program : Program) → IsValid program → IsWithinLimits program
+    → All (λ (it : Automaton). length it.states < 2 ^ 31) program.automata
+    → length program.natives ≤ 2 ^ 31 → IsWritable (file_of program)
+    → Agrees program (file_of program)
 file_agrees_with program valid limits few numbered writable =
-    program_agrees program (file_of program) valid limits few numbered (file_has program limits writable)
+    program_agrees program (file_of program) valid limits few numbered
+    (file_has program limits writable)

@@ -1,5 +1,6 @@
 -- The code of a program is within its weight.
-use Rattle.std.proofs.Common.{◌≡◌, ◌+◌, ◌*◌, ◌≤◌, ℕ, List, [], ◌∷◌, ◌++◌, Option, None, Some, length, arith, length-append}
+use Rattle.std.proofs.Common.{◌≡◌, ◌+◌, ◌*◌, ◌≤◌, ℕ, List, [], ◌∷◌, ◌++◌, Option, None, Some}
+use Rattle.std.proofs.Common.{length, arith, length-append}
 use Rattle.std.specs.Prelude.{pos, sum_by}
 use Rattle.std.proofs.lemmas.List.Sums.{sum_by-cons}
 use Rattle.pawn_program.specs.Program.{Slot, Body, Route, Function, Program}
@@ -21,12 +22,18 @@ module _ (program : Program) where
   abbrev bodies_weight : List Body → ℕ
   bodies_weight bodies = sum_by (λ (body : Body). stmt_weight never body.stmt) bodies
 
-  body_light : (params : List Slot) (begin : ℕ) (body : Body) → count (body_items program params begin body) + 18 ≤ stmt_weight never body.stmt
+  body_light : (params : List Slot) (begin : ℕ) (body : Body)
+      → count (body_items program params begin body) + 18 ≤ stmt_weight never body.stmt
   body_light params begin body =
       let here = body_here program params body in
-      omega (arith, count-append (stmt_items here begin body.stmt) end_code, stmt_light body.stmt here begin)
+      omega (
+        arith,
+        count-append (stmt_items here begin body.stmt) end_code,
+        stmt_light body.stmt here begin,
+      )
 
-  bodies_light : (params : List Slot) (begin : ℕ) (bodies : List Body) → count (bodies_items program params begin bodies) ≤ bodies_weight bodies
+  bodies_light : (params : List Slot) (begin : ℕ) (bodies : List Body)
+      → count (bodies_items program params begin bodies) ≤ bodies_weight bodies
   bodies_light params begin [] = omega arith
   bodies_light params begin (body ∷ bodies) =
       let one = body_items program params begin body in
@@ -38,12 +45,19 @@ module _ (program : Program) where
         bodies_light params (past begin one) bodies,
       )
 
-  one_light : (function : Function) (begin : ℕ) (bodies : List Body) → count (one_of program function begin bodies) ≤ bodies_weight bodies
+  one_light : (function : Function) (begin : ℕ) (bodies : List Body)
+      → count (one_of program function begin bodies) ≤ bodies_weight bodies
   one_light function begin [] = omega arith
   one_light function begin (body ∷ bodies) =
-      omega (arith, sum_by-cons (λ (it : Body). stmt_weight never it.stmt) body bodies, body_light function.params (begin + 4) body)
+      omega (
+        arith,
+        sum_by-cons (λ (it : Body). stmt_weight never it.stmt) body bodies,
+        body_light function.params (begin + 4) body,
+      )
 
-  light_by : (function : Function) (begin : ℕ) (d : Option Route) → count (function_by program function begin d) ≤ route_weight d + bodies_weight function.bodies
+  light_by : (function : Function) (begin : ℕ) (d : Option Route)
+      → count (function_by program function begin d) ≤ route_weight d
+      + bodies_weight function.bodies
   light_by function begin None = omega (arith, one_light function begin function.bodies)
   light_by function begin (Some route) =
       let address = address_of program function begin route in
@@ -51,11 +65,13 @@ module _ (program : Program) where
       omega (
         arith,
         length_route address route.cases,
-        length-append (route_table address route.cases) (item_cells (taking op.Halt (pos 13) ∷ bodies)),
+        length-append (route_table address route.cases)
+            (item_cells (taking op.Halt (pos 13) ∷ bodies)),
         bodies_light function.params (bodies_at begin route) function.bodies,
       )
 
-  functions_light : (begin : ℕ) (functions : List Function) → count (functions_items program begin functions) ≤ sum_by (function_weight never) functions
+  functions_light : (begin : ℕ) (functions : List Function)
+      → count (functions_items program begin functions) ≤ sum_by (function_weight never) functions
   functions_light begin [] = omega arith
   functions_light begin (function ∷ functions) =
       let one = function_items program begin function in

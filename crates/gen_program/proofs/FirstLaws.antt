@@ -1,5 +1,8 @@
 -- A machine at its start stands for the world in which a program begins.
-use Rattle.std.proofs.Common.{◌≡◌, ◌+◌, ◌*◌, ◌^◌, ◌<◌, ◌≤◌, ℕ, zero, suc, ℤ, pos, List, [], ◌∷◌, ◌++◌, Option, None, Some, Bool, true, false, map, length, slice_get, replicate, nat_le, refl, sym, ap, subst, ◌∙◌, arith, append-nil, length-append, le-leb}
+use Rattle.std.proofs.Common.{◌≡◌, ◌+◌, ◌*◌, ◌^◌, ◌<◌, ◌≤◌, ℕ, zero, suc, ℤ, pos, List, [], ◌∷◌}
+use Rattle.std.proofs.Common.{◌++◌, Option, None, Some, Bool, true, false, map, length, slice_get}
+use Rattle.std.proofs.Common.{replicate, nat_le, refl, sym, ap, subst, ◌∙◌, arith, append-nil}
+use Rattle.std.proofs.Common.{length-append, le-leb}
 use Rattle.std.proofs.lemmas.Bool.{lt-leb}
 use Rattle.std.proofs.lemmas.List.{length-replicate}
 use Rattle.std.proofs.lemmas.List.Elements.{All-append, All-replicate}
@@ -13,7 +16,8 @@ use Rattle.amx_ops.specs.declared.amx.Amx.{Amx}
 use Rattle.amx_ops.specs.State.{State}
 use Rattle.amx_ops.specs.Trace.{loaded, fresh, start_at, begun}
 use Rattle.amx_ops.proofs.CellLaws.{small_cell}
-use Rattle.gen_sim.specs.Pieces.{Piece, Each, IsThere, AreThere, image, total, objects_from, automata_from, data_pieces}
+use Rattle.gen_sim.specs.Pieces.{Piece, Each, IsThere, AreThere, image, total, objects_from}
+use Rattle.gen_sim.specs.Pieces.{automata_from, data_pieces}
 use Rattle.gen_sim.specs.Mem.{row, Mem}
 use Rattle.gen_sim.specs.View.{View, Laid, all_cells, kept, low}
 use Rattle.gen_sim.specs.Stands.{Stands}
@@ -25,14 +29,17 @@ use Rattle.gen_program.specs.FilesAgree.{IsFileOf}
 
 module _ (all : List Object) (m : Memory) (same : m.objects ≡ all) where
   objects_there : (k : ℕ) (objects : List StaticObject) → All IsValidObject objects
-      → ((i : ℕ) (it : StaticObject) → slice_get objects i ≡ Some it → slice_get all (k + i) ≡ Some (first_object it)) → Each (IsThere m) (objects_from k objects)
+      → ((i : ℕ) (it : StaticObject) → slice_get objects i ≡ Some it
+      → slice_get all (k + i) ≡ Some (first_object it)) → Each (IsThere m) (objects_from k objects)
   objects_there k [] valid at = tt
   objects_there k (it ∷ objects) valid at =
       let here : slice_get m.objects k ≡ Some (first_object it) =
-      ap (λ (l : List Object). slice_get l k) same ∙ ap (λ n. slice_get all n) {x = k} {y = k + 0} (omega arith) ∙ at 0 it refl in (
+      ap (λ (l : List Object). slice_get l k) same
+      ∙ ap (λ n. slice_get all n) {x = k} {y = k + 0} (omega arith) ∙ at 0 it refl in (
         rw here (record { sizes_are = refl; count = (valid 0 it (omega arith)).count }),
         objects_there (k + 1) objects (λ i d h. valid (suc i) d (omega (arith, h)))
-            (λ i x e. ap (λ n. slice_get all n) {x = k + 1 + i} {y = k + suc i} (omega arith) ∙ at (suc i) x e),
+            (λ i x e. ap (λ n. slice_get all n) {x = k + 1 + i} {y = k + suc i} (omega arith)
+            ∙ at (suc i) x e),
       )
 
 first_of : (objects : List StaticObject) (i : ℕ) (it : StaticObject) → slice_get objects i ≡ Some it
@@ -49,26 +56,35 @@ none_at zero a h = absurd (omega (arith, h))
 none_at (suc n) zero h = refl
 none_at (suc n) (suc a) h = none_at n a (omega (arith, h))
 
-automata_there : (m : Memory) (all a left : ℕ) → m.states ≡ no_states all → a + left ≤ all → Each (IsThere m) (automata_from a left)
+automata_there : (m : Memory) (all a left : ℕ) → m.states ≡ no_states all → a + left ≤ all
+    → Each (IsThere m) (automata_from a left)
 automata_there m all a zero same h = tt
 automata_there m all a (suc left) same h =
-    let here : slice_get m.states a ≡ Some None = ap (λ (l : List (Option ℕ)). slice_get l a) same ∙ none_at all a (omega (arith, h)) in
+    let here : slice_get m.states a ≡ Some None =
+    ap (λ (l : List (Option ℕ)). slice_get l a) same ∙ none_at all a (omega (arith, h)) in
     (rw here tt, automata_there m all (a + 1) left same (omega (arith, h)))
 
-pub first_there : (program : Program) → All IsValidObject program.objects → AreThere (first_memory program) (data_pieces program)
+pub first_there : (program : Program) → All IsValidObject program.objects
+    → AreThere (first_memory program) (data_pieces program)
 first_there program valid =
-    each_both (IsThere (first_memory program)) (objects_from 0 program.objects) (automata_from 0 (length program.automata))
-    (objects_there (map first_object program.objects) (first_memory program) refl 0 program.objects valid
-    (λ i it e. ap (λ n. slice_get (map first_object program.objects) n) {x = 0 + i} {y = i} (omega arith) ∙ first_of program.objects i it e))
-    (automata_there (first_memory program) (length program.automata) 0 (length program.automata) refl (omega arith))
+    each_both (IsThere (first_memory program)) (objects_from 0 program.objects)
+    (automata_from 0 (length program.automata))
+    (objects_there (map first_object program.objects)
+    (first_memory program) refl 0 program.objects valid
+    (λ i it e. ap (λ n. slice_get (map first_object program.objects) n) {x = 0 + i} {y = i}
+    (omega arith) ∙ first_of program.objects i it e))
+    (automata_there (first_memory program) (length program.automata) 0
+    (length program.automata) refl (omega arith))
 
 -- ---- the first view
 
 -- no call is alive, and nothing waits
 abbrev pub first_view : View
-first_view = record { frm = 0; needs = []; high = []; temps = 0; temps_before = 0; params = λ k slot. None }
+first_view =
+    record { frm = 0; needs = []; high = []; temps = 0; temps_before = 0; params = λ k slot. None }
 
-first_laid : (program : Program) (room : ℕ) → 4 * all_cells program room < 2 ^ 31 → Laid program room first_view
+first_laid : (program : Program) (room : ℕ) → 4 * all_cells program room < 2 ^ 31
+    → Laid program room first_view
 first_laid program room h = record {
   small = h;
   refs = λ slot r e. cc;
@@ -83,7 +99,8 @@ low_is program room = append-nil (data_pieces program)
 
 -- ---- the start
 
-module _ (program : Program) (amx : Amx) (entry : ℕ → ℕ) (is : IsFileOf program amx entry) (room : ℕ) (address : ℤ) where
+module _ (program : Program) (amx : Amx) (entry : ℕ → ℕ) (is : IsFileOf program amx entry)
+    (room : ℕ) (address : ℤ) where
   abbrev pieces : List Piece
   pieces = data_pieces program
 
@@ -108,17 +125,26 @@ module _ (program : Program) (amx : Amx) (entry : ℕ → ℕ) (is : IsFileOf pr
   mem_first : Mem (all_cells program room) (low program room first_view) [] [] m begins
   mem_first =
       let nil : zeros ++ [] ≡ zeros = append-nil zeros in
-      let cells_are : image m (row (low program room first_view) (zeros ++ []) []) ≡ amx.store ++ zeros =
-      image_row m (low program room first_view) (zeros ++ []) [] ∙ ap (λ (l : List ℤ). image m (low program room first_view) ++ l) (append-nil (zeros ++ []) ∙ nil)
-      ∙ ap (λ (ps : List Piece). image m ps ++ zeros) (low_is program room) ∙ ap (λ (l : List ℤ). l ++ zeros) (sym is.store) in
+      let cells_are : image m (row (low program room first_view) (zeros ++ []) [])
+      ≡ amx.store ++ zeros =
+      image_row m (low program room first_view) (zeros ++ []) []
+      ∙ ap (λ (l : List ℤ). image m (low program room first_view) ++ l)
+      (append-nil (zeros ++ []) ∙ nil)
+      ∙ ap (λ (ps : List Piece). image m ps ++ zeros) (low_is program room)
+      ∙ ap (λ (l : List ℤ). l ++ zeros) (sym is.store) in
       record {
         free = zeros;
         cells = sym cells_are;
         hea = omega (arith, store_count, low_total);
         stk = omega (arith, count, low_total, length-replicate room (pos 0));
-        there = there_row m (low program room first_view) (zeros ++ []) [] (subst (λ ps. AreThere m ps) (sym (low_is program room)) (first_there program is.valid.objects)) tt;
+        there =
+            there_row m (low program room first_view) (zeros ++ []) []
+            (subst (λ ps. AreThere m ps) (sym (low_is program room))
+            (first_there program is.valid.objects)) tt;
         size = omega (arith, low_total, ap length nil, length-replicate room (pos 0));
-        fits = All-append IsCell amx.store zeros is.cells (All-replicate IsCell room (pos 0) (small_cell 0 (omega arith)));
+        fits =
+            All-append IsCell amx.store zeros is.cells
+            (All-replicate IsCell room (pos 0) (small_cell 0 (omega arith)));
       }
 
   free_is : length mem_first.free ≡ room
@@ -128,17 +154,21 @@ module _ (program : Program) (amx : Amx) (entry : ℕ → ℕ) (is : IsFileOf pr
   pub record Started : Type 0 where
     pub state : State
     pub is_it : start_at amx address [] (loaded amx room) ≡ Some state
-    pub stands : Stands program room first_view (pos 0 ∷ pos 0 ∷ []) (bits_of address) (first_world program) (begun state)
+    pub stands : Stands program room first_view (pos 0 ∷ pos 0 ∷ []) (bits_of address)
+        (first_world program) (begun state)
 
   pub starts : 4 * all_cells program room < 2 ^ 31 → 2 ≤ room → Started
   starts small h =
       let zero_fits : IsCell (pos 0) = small_cell 0 (omega arith) in
       let one = pushed_on begins (pos 0) in
       let m1 = pushed_mem mem_first (pos 0) zero_fits (omega (arith, h, free_is)) in
-      let free1 : 1 ≤ length m1.free = omega (arith, m1.size, low_total, length-append m1.free (pos 0 ∷ []), h) in
+      let free1 : 1 ≤ length m1.free =
+      omega (arith, m1.size, low_total, length-append m1.free (pos 0 ∷ []), h) in
       let m2 = pushed_mem m1 (pos 0) zero_fits free1 in
-      let e1 : nat_le (begins.hea + 4) begins.stk ≡ true = le-leb _ _ (omega (arith, mem_first.hea, mem_first.stk, free_is, h)) in
-      let e2 : nat_le (one.hea + 4) one.stk ≡ true = le-leb _ _ (omega (arith, m1.hea, m1.stk, free1)) in
+      let e1 : nat_le (begins.hea + 4) begins.stk ≡ true =
+      le-leb _ _ (omega (arith, mem_first.hea, mem_first.stk, free_is, h)) in
+      let e2 : nat_le (one.hea + 4) one.stk ≡ true =
+      le-leb _ _ (omega (arith, m1.hea, m1.stk, free1)) in
       record {
         state = pushed_on one (pos 0);
         is_it = rw (e1, e2) refl;
@@ -159,9 +189,11 @@ module _ (program : Program) (amx : Amx) (entry : ℕ → ℕ) (is : IsFileOf pr
   pub fails : room < 2 → start_at amx address [] (loaded amx room) ≡ None
   fails h = by_first (nat_le (begins.hea + 4) begins.stk) refl
     where
-      by_first : (b : Bool) → nat_le (begins.hea + 4) begins.stk ≡ b → start_at amx address [] (loaded amx room) ≡ None
+      by_first : (b : Bool) → nat_le (begins.hea + 4) begins.stk ≡ b
+          → start_at amx address [] (loaded amx room) ≡ None
       by_first false e = rw e refl
       by_first true e =
           let one = pushed_on begins (pos 0) in
-          let f : nat_le (one.hea + 4) one.stk ≡ false = lt-leb _ _ (omega (arith, mem_first.hea, mem_first.stk, free_is, h)) in
+          let f : nat_le (one.hea + 4) one.stk ≡ false =
+          lt-leb _ _ (omega (arith, mem_first.hea, mem_first.stk, free_is, h)) in
           rw (e, f) refl

@@ -1,4 +1,5 @@
--- The code of a body: its statement, and behind it the value 0 and RETN. A function without a route is PROC and its body.
+-- The code of a body: its statement, and behind it the value 0 and RETN. A function without a route
+-- is PROC and its body.
 use Rattle.std.specs.Prelude.{◌+◌, ℕ, List, [], ◌∷◌, ◌++◌, false}
 use Rattle.pawn_program.specs.Program.{Slot, Body, Program}
 use Rattle.pawn_program.specs.Valid.{body_scope}
@@ -14,14 +15,18 @@ no_exits = record { looped = false; broke = 0; continued = 0 }
 
 -- where its statement stands
 abbrev pub body_here : Program → List Slot → Body → Here
-body_here program params body = record { scope = body_scope program params body; since = []; exits = no_exits }
+body_here program params body =
+    record { scope = body_scope program params body; since = []; exits = no_exits }
 
 -- a body left through its end gives 0
 abbrev pub end_code : List Item
 end_code = alone op.ZeroPri ∷ alone op.Retn ∷ []
 
+-- with the value 0 behind it, where control may come to the end
 abbrev pub body_items : Program → List Slot → ℕ → Body → List Item
-body_items program params begin body = stmt_items (body_here program params body) begin body.stmt ++ end_code
+body_items program params begin body =
+    stmt_items (body_here program params body) begin body.stmt ++ end_code
 
+-- at the function's address PROC begins the frame
 abbrev pub single_items : Program → List Slot → ℕ → Body → List Item
 single_items program params begin body = alone op.Proc ∷ body_items program params (begin + 4) body

@@ -1,4 +1,5 @@
--- The code of a whole program: HALT 0 at address 0, to which the entry function returns, and then the functions.
+-- The code of a whole program: HALT 0 at address 0, to which the entry function returns, and then
+-- the functions.
 use Rattle.std.specs.Prelude.{ℕ, zero, suc, ℤ, pos, List, [], ◌∷◌, ◌++◌}
 use Rattle.pawn_program.specs.Program.{Function, Program}
 use Rattle.amx_ops.specs.declared.op.Op.TheVariants as op
@@ -10,7 +11,8 @@ use Rattle.gen_program.specs.FunctionCode.{function_items}
 abbrev pub functions_items : Program → ℕ → List Function → List Item
 functions_items program begin [] = []
 functions_items program begin (function ∷ functions) =
-    let one = function_items program begin function in one ++ functions_items program (past begin one) functions
+    let one = function_items program begin function in
+    one ++ functions_items program (past begin one) functions
 
 -- where one of them begins, by its number
 abbrev pub function_begin : Program → ℕ → List Function → ℕ → ℕ
@@ -19,9 +21,11 @@ function_begin program begin (function ∷ functions) zero = begin
 function_begin program begin (function ∷ functions) (suc f) =
     function_begin program (past begin (function_items program begin function)) functions f
 
+-- a function's address, behind HALT 0
 abbrev pub entry_of : Program → ℕ → ℕ
 entry_of program f = function_begin program 8 program.functions f
 
+-- all items of the code, in their order
 abbrev pub program_items : Program → List Item
 program_items program = taking op.Halt (pos 0) ∷ functions_items program 8 program.functions
 

@@ -14,6 +14,7 @@ use Rattle.gen_sim.specs.Pieces.{image, data_pieces}
 use Rattle.gen_program.specs.FileCode.{entry_of, code_of}
 use Rattle.gen_program.specs.CodeIsValid.{main_by}
 
+-- no flag is set, and the tables of libraries and public variables are empty
 abbrev pub file_of : Program → Amx
 file_of program = record {
   flags = 0;
@@ -22,7 +23,9 @@ file_of program = record {
   store = image (first_memory program) (data_pieces program);
   room = counted program.dynamic;
   entry = main_by program program.entry;
-  publics = map (λ (it : Public). record { address = pos (entry_of program it.function); name = it.name }) program.publics;
+  publics =
+      map (λ (it : Public). record { address = pos (entry_of program it.function); name = it.name })
+      program.publics;
   natives = map native_record program.natives;
   libraries = [];
   variables = [];
@@ -31,5 +34,7 @@ file_of program = record {
 
 -- it agrees with the program, where it can be written
 abbrev pub ProgramsHaveFiles : Type 0
-ProgramsHaveFiles = (program : Program) → IsValid program → IsWithinLimits program → All (λ (it : Automaton). length it.states < 2 ^ 31) program.automata
-    → length program.natives ≤ 2 ^ 31 → IsWritable (file_of program) → Agrees program (file_of program)
+ProgramsHaveFiles = (program : Program) → IsValid program → IsWithinLimits program
+    → All (λ (it : Automaton). length it.states < 2 ^ 31) program.automata
+    → length program.natives ≤ 2 ^ 31 → IsWritable (file_of program)
+    → Agrees program (file_of program)

@@ -1,5 +1,6 @@
 -- A file that has a program's code and data agrees with what the program means.
-use Rattle.std.specs.Prelude.{◌≡◌, ◌+◌, ◌*◌, ◌^◌, ◌<◌, ◌≤◌, ℕ, ℤ, pos, List, ◌∷◌, Some, All, length, slice_get}
+use Rattle.std.specs.Prelude.{◌≡◌, ◌+◌, ◌*◌, ◌^◌, ◌<◌, ◌≤◌, ℕ, ℤ, pos, List, ◌∷◌, Some, All, length}
+use Rattle.std.specs.Prelude.{slice_get}
 use Rattle.pawn_cells.specs.Cells.{IsCell, bits_of}
 use Rattle.host_script.specs.declared.script.Script.{Script}
 use Rattle.host_script.specs.Ranges.{IsScript}
@@ -32,8 +33,8 @@ site_of program amx entry script room limit = record {
   entry = entry;
 }
 
--- a valid program's file: HALT 0 at address 0, each function's code at its address, the first cells of all objects with
--- their offsets, and the natives' names
+-- a valid program's file: HALT 0 at address 0, each function's code at its address, the first cells
+-- of all objects with their offsets, and the natives' names
 pub record IsFileOf (program : Program) (amx : Amx) (entry : ℕ → ℕ) : Type 0 where
   pub valid : IsValid program
   pub few : All (λ (it : Automaton). length it.states < 2 ^ 31) program.automata
@@ -42,12 +43,17 @@ pub record IsFileOf (program : Program) (amx : Amx) (entry : ℕ → ℕ) : Type
   pub store : amx.store ≡ image (first_memory program) (data_pieces program)
   pub cells : All IsCell amx.store
   pub first : fetched amx.code 0 ≡ Some (read_as (with op.Halt (pos 0)))
-  pub lie : (script : Script) (room limit f : ℕ) (function : Function) → slice_get program.functions f ≡ Some function
-      → LieIn (site_of program amx entry script room limit) (entry f) (function_items program (entry f) function)
+  pub lie : (script : Script) (room limit f : ℕ) (function : Function)
+      → slice_get program.functions f ≡ Some function
+      → LieIn (site_of program amx entry script room limit) (entry f)
+      (function_items program (entry f) function)
       × (length (item_cells (function_items program (entry f) function)) + 2 ≤ length amx.code)
 
 -- for every script that keeps its ranges, every room, function and list of bounds
 abbrev pub FilesAgree : Type 0
-FilesAgree = (program : Program) (amx : Amx) (entry : ℕ → ℕ) → IsFileOf program amx entry → (script : Script) (room : ℕ)
-    → IsScript script → IsRoom amx room → (f : ℕ) (address : ℤ) → bits_of address ≡ entry f → (bound : ℕ) (bounds : List ℕ)
-    → AgreesOn (meaning program script f) (length amx.code) room (trace_from amx room script address bound bounds)
+FilesAgree = (program : Program) (amx : Amx) (entry : ℕ → ℕ) → IsFileOf program amx entry
+    → (script : Script) (room : ℕ)
+    → IsScript script → IsRoom amx room → (f : ℕ) (address : ℤ) → bits_of address ≡ entry f
+    → (bound : ℕ) (bounds : List ℕ)
+    → AgreesOn (meaning program script f) (length amx.code) room
+    (trace_from amx room script address bound bounds)

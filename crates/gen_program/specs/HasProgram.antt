@@ -18,14 +18,16 @@ pub record HasTables (program : Program) (amx : Amx) : Type 0 where
   pub writable : IsWritable amx
   pub natives : amx.natives ≡ map native_record program.natives
   pub publics : names amx.publics ≡ map (λ (it : Public). it.name) program.publics
-  pub tags : amx.tags ≡ map (λ (it : Tag). record { address = cell_of it.number; name = it.name }) program.tags
+  pub tags : amx.tags ≡ map (λ (it : Tag). record { address = cell_of it.number; name = it.name })
+      program.tags
   pub no_libraries : amx.libraries ≡ []
   pub no_variables : amx.variables ≡ []
   pub version : amx.version ≡ 8
   pub flags : amx.flags ≡ 0
   pub room : pos amx.room ≡ program.dynamic
 
--- the program's code, with its functions' addresses as entries, and the first cells of its objects with their offsets
+-- the program's code, with its functions' addresses as entries, and the first cells of its objects
+-- with their offsets
 pub record HasProgram (program : Program) (amx : Amx) : Type 0 where
   pub code : amx.code ≡ code_of program
   pub entry : amx.entry ≡ main_by program program.entry
@@ -33,6 +35,8 @@ pub record HasProgram (program : Program) (amx : Amx) : Type 0 where
   pub store : amx.store ≡ image (first_memory program) (data_pieces program)
   pub tables : HasTables program amx
 
+-- such a file behaves as its program means, where the program is valid and within the limits
 abbrev pub ProgramsAgree : Type 0
-ProgramsAgree = (program : Program) (amx : Amx) → IsValid program → IsWithinLimits program → All (λ (it : Automaton). length it.states < 2 ^ 31) program.automata
+ProgramsAgree = (program : Program) (amx : Amx) → IsValid program → IsWithinLimits program
+    → All (λ (it : Automaton). length it.states < 2 ^ 31) program.automata
     → length program.natives ≤ 2 ^ 31 → HasProgram program amx → Agrees program amx

@@ -3,6 +3,7 @@ use Rattle.std.specs.Prelude.{◌≡◌, ◌+◌, ◌*◌, ◌⊎◌, ℕ, List,
 use Rattle.gen_sim.specs.Items.{Item, size}
 use Rattle.gen_stmt.specs.Well.{TableAt}
 
+-- an address at which an item starts
 abbrev pub InnerAt : ℕ → List Item → ℕ → Type 0
 InnerAt begin [] at = ⊥
 InnerAt begin (it ∷ items) at = (at ≡ begin) ⊎ InnerAt (begin + 4 * size it) items at

@@ -1,9 +1,13 @@
--- Arrays without an index: the code of each leads to the array that it means, which reaches as far as its scope says.
-use Rattle.std.proofs.Common.{◌≡◌, ◌+◌, ◌*◌, ◌<◌, ℕ, ℤ, pos, List, [], ◌∷◌, Option, None, Some, Bool, true, false, slice_get, refl, sym, ap, subst, ◌∙◌, arith}
+-- Arrays without an index: the code of each leads to the array that it means, which reaches as far
+-- as its scope says.
+use Rattle.std.proofs.Common.{◌≡◌, ◌+◌, ◌*◌, ◌<◌, ℕ, ℤ, pos, List, [], ◌∷◌, Option, None, Some}
+use Rattle.std.proofs.Common.{Bool, true, false, slice_get, refl, sym, ap, subst, ◌∙◌, arith}
 use Rattle.pawn_cells.specs.Cells.{cell_of}
-use Rattle.pawn_program.specs.Program.{Slot, ScalarSlot, ReferenceSlot, ArraySlot, OpenSlot, StaticObject, SlotArray, ParamArray}
+use Rattle.pawn_program.specs.Program.{Slot, ScalarSlot, ReferenceSlot, ArraySlot, OpenSlot}
+use Rattle.pawn_program.specs.Program.{StaticObject, SlotArray, ParamArray}
 use Rattle.pawn_program.specs.Program as node
-use Rattle.pawn_program.specs.Scope.{Scope, Extent, IsMade, known_extent, object_extent, slot_extent, param_extent}
+use Rattle.pawn_program.specs.Scope.{Scope, Extent, IsMade, known_extent, object_extent}
+use Rattle.pawn_program.specs.Scope.{slot_extent, param_extent}
 use Rattle.pawn_meaning.specs.Memory.{Name, Static, Local, Reference, through, whole_of}
 use Rattle.pawn_meaning.specs.World.{World}
 use Rattle.pawn_meaning.specs.Run.{give, look}
@@ -26,7 +30,8 @@ use Rattle.gen_sim.specs.Contract.{ArrayCode}
 use Rattle.gen_sim.proofs.StepLaws.{given}
 use Rattle.gen_sim.proofs.ItemSteps.{item_sets}
 use Rattle.gen_sim.proofs.NodesPartLaws.{then_nothing}
-use Rattle.gen_sim.specs.PlaceItems.{object_address, object_code, slot_offset, slot_code, through_code}
+use Rattle.gen_sim.specs.PlaceItems.{object_address, object_code, slot_offset, slot_code}
+use Rattle.gen_sim.specs.PlaceItems.{through_code}
 use Rattle.gen_sim.proofs.SlotLaws.{running_is, first_inside, local_at, addr_is, param_loads}
 use Rattle.gen_sim.proofs.PlaceNodes.{object_placed, object_address_is}
 
@@ -50,9 +55,12 @@ known (first ∷ inner) reach e = record {
 }
 
 -- a whole object whose address is in PRI
-module _ (x : Site) (v : View) {pending : List ℤ} {p : ℕ} {w : World} {c : Config} (s : Stands x.program x.room v pending p w c) where
-  pub whole_does : (name : Name) (sizes : List ℕ) (first : ℕ) (reach : Extent) → PlacedIn x.program x.room v (Thing name sizes) first
-      → IsAlive (depth v) v.temps name → known_extent sizes ≡ Some reach → c.state.pri ≡ pos (4 * first)
+module _ (x : Site) (v : View) {pending : List ℤ} {p : ℕ} {w : World} {c : Config}
+    (s : Stands x.program x.room v pending p w c) where
+  pub whole_does : (name : Name) (sizes : List ℕ) (first : ℕ) (reach : Extent)
+      → PlacedIn x.program x.room v (Thing name sizes) first
+      → IsAlive (depth v) v.temps name → known_extent sizes ≡ Some reach
+      → c.state.pri ≡ pos (4 * first)
       → DoesAt x 0 w c (look (whole_of name) w) (ArrayAt x.program x.room v reach pending p)
   whole_does name sizes first reach placed alive e pri =
       let k = known sizes reach e in
@@ -67,11 +75,14 @@ module _ (x : Site) (v : View) {pending : List ℤ} {p : ℕ} {w : World} {c : C
           placed = placed;
           leads =
               subst (λ z. Leads z first f.object.sizes 0 first) (sym k.sizes_are)
-              (subst (λ z. Leads (k.first ∷ k.inner) first z 0 first) (sym all) (whole_leads k.inner first k.first));
+              (subst (λ z. Leads (k.first ∷ k.inner) first z 0 first) (sym all)
+              (whole_leads k.inner first k.first));
           alive = alive;
         };
         address = pri;
-        reaches = subst (λ z. Reaches z.first z.inner (record { object = name; at = 0; sizes = f.object.sizes })) (sym k.reach_is) all;
+        reaches =
+            subst (λ z. Reaches z.first z.inner
+            (record { object = name; at = 0; sizes = f.object.sizes })) (sym k.reach_is) all;
       }))
 
 -- ---- what the scope says of objects and slots
@@ -81,11 +92,13 @@ record ObjectAt (found : Option StaticObject) (reach : Extent) : Type 0 where
   there : found ≡ Some object
   known_as : known_extent object.sizes ≡ Some reach
 
-object_at : (o : Option StaticObject) (reach : Extent) → object_extent o ≡ Some reach → ObjectAt o reach
+object_at : (o : Option StaticObject) (reach : Extent) → object_extent o ≡ Some reach
+    → ObjectAt o reach
 object_at None reach e = cc
 object_at (Some object) reach e = record { object = object; there = refl; known_as = e }
 
-own_extent : (o : Option Slot) (reach : Extent) → slot_extent o ≡ Some reach → known_extent (own_sizes o) ≡ Some reach
+own_extent : (o : Option Slot) (reach : Extent) → slot_extent o ≡ Some reach
+    → known_extent (own_sizes o) ≡ Some reach
 own_extent None reach e = cc
 own_extent (Some ScalarSlot) reach e = cc
 own_extent (Some ReferenceSlot) reach e = cc
@@ -93,19 +106,24 @@ own_extent (Some (ArraySlot sizes)) reach e = e
 own_extent (Some (OpenSlot inner)) reach e = cc
 
 -- a parameter of which the scope says how far it reaches does so
-module _ (x : Site) (scope : Scope) (v : View) (fits : Fits x.program x.room scope v) (slot : ℕ) (below : slot < scope.params) where
-  reaches_by : (o : Option Slot) (known_here : Bool) (reach : Extent) → slice_get scope.slots slot ≡ o → param_extent o known_here ≡ Some reach
+module _ (x : Site) (scope : Scope) (v : View) (fits : Fits x.program x.room scope v) (slot : ℕ)
+    (below : slot < scope.params) where
+  reaches_by : (o : Option Slot) (known_here : Bool) (reach : Extent)
+      → slice_get scope.slots slot ≡ o → param_extent o known_here ≡ Some reach
       → (r : Reference) → v.params (innermost v) slot ≡ Some r → Reaches reach.first reach.inner r
   reaches_by None known_here reach k e r is = cc
   reaches_by (Some ScalarSlot) known_here reach k e r is = cc
   reaches_by (Some ReferenceSlot) known_here reach k e r is = cc
   reaches_by (Some (ArraySlot sizes)) true reach k e r is =
       let n = known sizes reach e in
-      subst (λ z. Reaches z.first z.inner r) (sym n.reach_is) (fits.params slot (ArraySlot sizes) below k r is ∙ n.sizes_are)
+      subst (λ z. Reaches z.first z.inner r) (sym n.reach_is)
+      (fits.params slot (ArraySlot sizes) below k r is ∙ n.sizes_are)
   reaches_by (Some (ArraySlot sizes)) false reach k e r is = cc
   reaches_by (Some (OpenSlot inner)) true reach k e r is = cc
   reaches_by (Some (OpenSlot inner)) false reach k e r is =
-      subst (λ z. Reaches z.first z.inner r) (inside (record { first = None; inner = inner }) reach e) (fits.params slot (OpenSlot inner) below k r is)
+      subst (λ z. Reaches z.first z.inner r)
+      (inside (record { first = None; inner = inner }) reach e)
+      (fits.params slot (OpenSlot inner) below k r is)
 
 -- ---- nodes
 
@@ -113,36 +131,52 @@ module _ (scope : Scope) (begin : ℕ) where
   pub object_does : (o : ℕ) → ArrayCode scope (node.Object o) begin (object_code scope.program o)
   object_does o = record {
     does = λ reach e x site same turns calls v fits lie starts pending deep w c s.
-        let here : object_extent (slice_get x.program.objects o) ≡ Some reach = ap (λ p. object_extent (slice_get p.objects o)) same ∙ e in
+        let here : object_extent (slice_get x.program.objects o) ≡ Some reach =
+        ap (λ p. object_extent (slice_get p.objects o)) same ∙ e in
         let it = object_at (slice_get x.program.objects o) reach here in
         let placed = object_placed x v o it.object s.laid it.there in
-        item_sets x (with op.ConstPri (object_address scope.program o)) {js = []} s (record { lie = lie; starts = starts }) (object_address scope.program o) c.state.alt refl
-        (λ t b m n. whole_does x v b (Static o) it.object.sizes (object_first x.program o) reach placed tt it.known_as (m ∙ object_address_is x scope o same));
+        item_sets x (with op.ConstPri (object_address scope.program o)) {js = []} s
+        (record { lie = lie; starts = starts })
+        (object_address scope.program o) c.state.alt refl
+        (λ t b m n. whole_does x v b (Static o) it.object.sizes
+        (object_first x.program o) reach placed tt it.known_as
+        (m ∙ object_address_is x scope o same));
   }
 
-  pub slot_array_does : (slot : ℕ) → IsMade scope slot → ArrayCode scope (SlotArray slot) begin (slot_code scope slot)
+  pub slot_array_does : (slot : ℕ) → IsMade scope slot
+      → ArrayCode scope (SlotArray slot) begin (slot_code scope slot)
   slot_array_does slot made = record {
     does = λ reach e x site same turns calls v fits lie starts pending deep w c s.
         let at = local_at x v s scope fits slot made in
         let k = own_extent (slice_get scope.slots slot) reach e in
         let top = first_inside x v s at.placed in
-        item_sets x (with op.AddrPri (slot_offset scope slot)) {js = []} s (record { lie = lie; starts = starts }) (cell_of (in_frame c.state (slot_offset scope slot))) c.state.alt refl
+        item_sets x (with op.AddrPri (slot_offset scope slot)) {js = []} s
+        (record { lie = lie; starts = starts })
+        (cell_of (in_frame c.state (slot_offset scope slot))) c.state.alt refl
         (λ t b m n.
-        subst (λ j. DoesAt x 0 w t (look (whole_of (Local j slot)) w) (ArrayAt x.program x.room v reach pending (begin + 8))) (sym (running_is x v s))
-        (whole_does x v b (Local (innermost v) slot) (own_sizes (slice_get scope.slots slot)) at.first reach at.placed (omega (arith, fits.deep)) k
+        subst (λ j. DoesAt x 0 w t (look (whole_of (Local j slot)) w)
+        (ArrayAt x.program x.room v reach pending (begin + 8))) (sym (running_is x v s))
+        (whole_does x v b (Local (innermost v) slot)
+        (own_sizes (slice_get scope.slots slot)) at.first reach at.placed
+        (omega (arith, fits.deep)) k
         (m ∙ addr_is x v s (slot_offset scope slot) at.first top at.address)));
   }
 
-  pub param_array_does : (slot : ℕ) (known_here : Bool) → slot < scope.params → ArrayCode scope (ParamArray slot known_here) begin (through_code slot)
+  pub param_array_does : (slot : ℕ) (known_here : Bool) → slot < scope.params
+      → ArrayCode scope (ParamArray slot known_here) begin (through_code slot)
   param_array_does slot known_here below = record {
     does = λ reach e x site same turns calls v fits lie starts pending deep w c s.
-        subst (λ o. DoesAt x 2 w c o (ArrayAt x.program x.room v reach pending (begin + 8))) (then_nothing (look (through slot) w))
-        (param_loads x v s slot {js = []} {Q = ArrayAt x.program x.room v reach pending (begin + 8)} (λ r. give r) (record { lie = lie; starts = starts })
+        subst (λ o. DoesAt x 2 w c o (ArrayAt x.program x.room v reach pending (begin + 8)))
+        (then_nothing (look (through slot) w))
+        (param_loads x v s slot {js = []} {Q = ArrayAt x.program x.room v reach pending (begin + 8)}
+        (λ r. give r) (record { lie = lie; starts = starts })
         (λ r is cell refers t b m. given x b (record {
           stands = b;
           cell = cell;
           refers = refers;
           address = m;
-          reaches = reaches_by x scope v fits slot below (slice_get scope.slots slot) known_here reach refl e r is;
+          reaches =
+              reaches_by x scope v fits slot below
+              (slice_get scope.slots slot) known_here reach refl e r is;
         })));
   }

@@ -1,5 +1,8 @@
 -- MOVS copies a row of cells to another one, as the meaning does.
-use Rattle.std.proofs.Common.{◌≡◌, ◌+◌, ◌-◌, ◌*◌, ◌≤◌, inl, inr, ℕ, ℤ, pos, List, [], ◌∷◌, ◌++◌, Option, None, Some, Bool, true, false, ◌==◌, ◌&&◌, ◌||◌, length, take, drop, nat_le, if◌then◌else◌, refl, sym, ap, subst, ◌∙◌, arith, length-append, le-leb}
+use Rattle.std.proofs.Common.{◌≡◌, ◌+◌, ◌-◌, ◌*◌, ◌≤◌, inl, inr, ℕ, ℤ, pos, List, [], ◌∷◌, ◌++◌}
+use Rattle.std.proofs.Common.{Option, None, Some, Bool, true, false, ◌==◌, ◌&&◌, ◌||◌, length, take}
+use Rattle.std.proofs.Common.{drop, nat_le, if◌then◌else◌, refl, sym, ap, subst, ◌∙◌, arith}
+use Rattle.std.proofs.Common.{length-append, le-leb}
 use Rattle.std.proofs.lemmas.Bool.{leb-true}
 use Rattle.std.proofs.lemmas.List.{length-take-le, length-drop}
 use Rattle.std.proofs.lemmas.List.Elements.{All-take, All-drop}
@@ -8,7 +11,8 @@ use Rattle.std.specs.Prelude.{All}
 use Rattle.pawn_arrays.specs.Sizes.{elements_in}
 use Rattle.pawn_cells.specs.Cells.{IsCell}
 use Rattle.pawn_program.specs.Program.{Program}
-use Rattle.pawn_meaning.specs.Memory.{Memory, Object, Reference, object_at, put, read_cells, cells_from, write_cells, copy_of, copied}
+use Rattle.pawn_meaning.specs.Memory.{Memory, Object, Reference, object_at, put, read_cells}
+use Rattle.pawn_meaning.specs.Memory.{cells_from, write_cells, copy_of, copied}
 use Rattle.pawn_meaning.specs.References.{other_sizes}
 use Rattle.pawn_meaning.specs.World.{World}
 use Rattle.pawn_meaning.specs.Run.{Run, Done, done, then_do, changed}
@@ -48,17 +52,24 @@ both : (a b : Bool) → a ≡ true → b ≡ true → (a && b) ≡ true
 both a b e f = rw (e, f) refl
 
 -- the cells of a piece from one on are live
-pub part_live : {N : ℕ} {lows : List Piece} {pending : List ℤ} {high : List Piece} {m : Memory} {s : State} (mem : Mem N lows pending high m s)
-    {piece : Piece} {first : ℕ} → Placed N lows high piece first → (i n : ℕ) → i + n ≤ extent piece → are_live s (4 * (first + i)) (4 * n) ≡ true
+pub part_live : {N : ℕ} {lows : List Piece} {pending : List ℤ} {high : List Piece} {m : Memory}
+    {s : State} (mem : Mem N lows pending high m s)
+    {piece : Piece} {first : ℕ} → Placed N lows high piece first → (i n : ℕ) → i + n ≤ extent piece
+    → are_live s (4 * (first + i)) (4 * n) ≡ true
 part_live {N} {lows} {pending} {high} {m} {s} mem {piece} {first} p i n h =
     let a : ℕ = 4 * (first + i) in
     elim (placed_inside p) [
       | inl l ↦
-          second_of (4 * n == 0) (nat_le (a + 4 * n) s.hea) (nat_le s.stk a && nat_le (a + 4 * n) (stp s)) ((s.hea == s.stk) && nat_le (a + 4 * n) (stp s))
+          second_of (4 * n == 0) (nat_le (a + 4 * n) s.hea)
+          (nat_le s.stk a && nat_le (a + 4 * n) (stp s))
+          ((s.hea == s.stk) && nat_le (a + 4 * n) (stp s))
           (le-leb _ _ (omega (arith, mem.hea, l, h)))
       | inr g ↦
-          third_of (4 * n == 0) (nat_le (a + 4 * n) s.hea) (nat_le s.stk a && nat_le (a + 4 * n) (stp s)) ((s.hea == s.stk) && nat_le (a + 4 * n) (stp s))
-          (both (nat_le s.stk a) (nat_le (a + 4 * n) (stp s)) (le-leb _ _ (omega (arith, mem.stk, mem.size, g.0, length-append mem.free pending)))
+          third_of (4 * n == 0) (nat_le (a + 4 * n) s.hea)
+          (nat_le s.stk a && nat_le (a + 4 * n) (stp s))
+          ((s.hea == s.stk) && nat_le (a + 4 * n) (stp s))
+          (both (nat_le s.stk a) (nat_le (a + 4 * n) (stp s))
+          (le-leb _ _ (omega (arith, mem.stk, mem.size, g.0, length-append mem.free pending)))
           (le-leb _ _ (omega (arith, count_cells mem, g.1, h))))
     ]
 
@@ -78,10 +89,12 @@ module _ (program : Program) (room : ℕ) where
     pub cell_is : cell ≡ first + (length (vectors sizes) + r.at)
     pub inside : r.at + elements_in r.sizes ≤ elements_in sizes
 
-  pub row_at : (v : View) (r : Reference) (cell : ℕ) → RefersTo program room v r cell → other_sizes r.sizes ≡ [] → RowAt v r cell
+  pub row_at : (v : View) (r : Reference) (cell : ℕ) → RefersTo program room v r cell
+      → other_sizes r.sizes ≡ [] → RowAt v r cell
   row_at v r cell h none = by_sizes h.sizes h.placed h.leads
     where
-      by_sizes : (all : List ℕ) → PlacedIn program room v (Thing r.object all) h.first → Leads all h.first r.sizes r.at cell → RowAt v r cell
+      by_sizes : (all : List ℕ) → PlacedIn program room v (Thing r.object all) h.first
+          → Leads all h.first r.sizes r.at cell → RowAt v r cell
       by_sizes [] pl d = elim d [ ]
       by_sizes (k ∷ ks) pl d =
           let y = among ks h.first k r.sizes r.at cell none d in
@@ -100,41 +113,55 @@ pub record Cells (m : Memory) (r : Reference) (n : ℕ) (values : List ℤ) : Ty
   pub inside : r.at + n ≤ length object.cells
   pub values_are : values ≡ take n (drop r.at object.cells)
 
-pub cells_read : (m : Memory) (r : Reference) (n : ℕ) (values : List ℤ) → read_cells r.object r.at n m ≡ Some values → Cells m r n values
+pub cells_read : (m : Memory) (r : Reference) (n : ℕ) (values : List ℤ)
+    → read_cells r.object r.at n m ≡ Some values → Cells m r n values
 cells_read m r n values e = by_object (object_at m r.object) refl e
   where
-    by_size : (y : Object) → object_at m r.object ≡ Some y → (b : Bool) → nat_le (r.at + n) (length y.cells) ≡ b
+    by_size : (y : Object) → object_at m r.object ≡ Some y → (b : Bool)
+        → nat_le (r.at + n) (length y.cells) ≡ b
         → (if b then Some (take n (drop r.at y.cells)) else None) ≡ Some values → Cells m r n values
     by_size y o true b z = record { object = y; is = o; inside = leb-true _ _ b; values_are = cc }
     by_size y o false b z = cc
 
-    by_object : (o : Option Object) → object_at m r.object ≡ o → cells_from o r.at n ≡ Some values → Cells m r n values
+    by_object : (o : Option Object) → object_at m r.object ≡ o → cells_from o r.at n ≡ Some values
+        → Cells m r n values
     by_object None o z = cc
     by_object (Some y) o z = by_size y o (nat_le (r.at + n) (length y.cells)) refl z
 
 module _ (x : Site) {v : View} {pending : List ℤ} {p : ℕ} {w : World} {c : Config}
-    (a : Stands x.program x.room v pending p w c) (to from : Reference) (ct cf n : ℕ) (there : RowAt x.program x.room v to ct) (here : RowAt x.program x.room v from cf) where
+    (a : Stands x.program x.room v pending p w c) (to from : Reference) (ct cf n : ℕ)
+    (there : RowAt x.program x.room v to ct) (here : RowAt x.program x.room v from cf) where
   -- the values that the machine moves
-  same_values : (values : List ℤ) → Cells w.memory from n values → take n (drop cf c.state.cells) ≡ values
+  same_values : (values : List ℤ) → Cells w.memory from n values
+      → take n (drop cf c.state.cells) ≡ values
   same_values values r =
       let i : ℕ = length (vectors here.sizes) + from.at in
       let between : List ℤ = a.mem.free ++ pending in
       let ps : List Piece = row (low x.program x.room v) between v.high in
       let fits : i + n ≤ length (object_cells here.sizes (object_at w.memory from.object)) =
       rw r.is (omega (arith, length-append (vectors here.sizes) r.object.cells, r.inside)) in
-      let q = part_of_row w.memory (Thing from.object here.sizes) ps here.first (placed_at here.placed between a.mem.size) a.mem.there i n fits in
-      let own : drop i (object_cells here.sizes (object_at w.memory from.object)) ≡ drop from.at r.object.cells =
+      let q =
+      part_of_row w.memory (Thing from.object here.sizes) ps here.first
+      (placed_at here.placed between a.mem.size) a.mem.there i n fits in
+      let own : drop i (object_cells here.sizes (object_at w.memory from.object))
+      ≡ drop from.at r.object.cells =
       rw r.is (drop-append-add (vectors here.sizes) r.object.cells from.at) in
       let all : drop cf c.state.cells ≡ take n (drop from.at r.object.cells) ++ q.more =
-      ap (λ k. drop k c.state.cells) here.cell_is ∙ ap (λ l. drop (here.first + i) l) a.mem.cells ∙ q.is ∙ ap (λ z. take n z ++ q.more) own in
+      ap (λ k. drop k c.state.cells) here.cell_is ∙ ap (λ l. drop (here.first + i) l) a.mem.cells
+      ∙ q.is ∙ ap (λ z. take n z ++ q.more) own in
       let count : length (take n (drop from.at r.object.cells)) ≡ n =
-      length-take-le n (drop from.at r.object.cells) (omega (arith, length-drop from.at r.object.cells, r.inside)) in
-      ap (λ l. take n l) all ∙ ap (λ k. take k (take n (drop from.at r.object.cells) ++ q.more)) (sym count)
+      length-take-le n (drop from.at r.object.cells)
+      (omega (arith, length-drop from.at r.object.cells, r.inside)) in
+      ap (λ l. take n l) all ∙ ap (λ k. take k (take n (drop from.at r.object.cells) ++ q.more))
+      (sym count)
       ∙ take-append_seam (take n (drop from.at r.object.cells)) q.more ∙ sym r.values_are
 
-  pub copy_does : {A : Type 0} {d : ℕ} {Q : A → World → Config → Type 0} → 1 ≤ n → n ≤ elements_in to.sizes → n ≤ elements_in from.sizes → c.state.alt ≡ pos (4 * ct) → c.state.pri ≡ pos (4 * cf)
+  pub copy_does : {A : Type 0} {d : ℕ} {Q : A → World → Config → Type 0} → 1 ≤ n
+      → n ≤ elements_in to.sizes → n ≤ elements_in from.sizes → c.state.alt ≡ pos (4 * ct)
+      → c.state.pri ≡ pos (4 * cf)
       → fetched x.amx.code p ≡ Some (read_as (with op.Movs (pos (4 * n)))) → (go : Done → Run A)
-      → ((m : Memory) (t : Config) → Stands x.program x.room v pending (p + 8) (record w { memory = m }) t → DoesAt x d w t (go done (record w { memory = m })) Q)
+      → ((m : Memory) (t : Config) → Stands x.program x.room v pending (p + 8)
+      (record w { memory = m }) t → DoesAt x d w t (go done (record w { memory = m })) Q)
       → DoesAt x (1 + d) w c (then_do (changed (copied to from n w.memory) w) go) Q
   copy_does {A = A} {d = d} {Q = Q} one lt lf e g f go next =
       let b1 : nat_le n (elements_in to.sizes) ≡ true = le-leb _ _ lt in
@@ -150,30 +177,44 @@ module _ (x : Site) {v : View} {pending : List ℤ} {p : ℕ} {w : World} {c : C
         inside = omega (arith, there.inside, one, lt);
       }
 
-      part_of : (r : Reference) (cell : ℕ) (at : RowAt x.program x.room v r cell) → n ≤ elements_in r.sizes
+      part_of : (r : Reference) (cell : ℕ) (at : RowAt x.program x.room v r cell)
+          → n ≤ elements_in r.sizes
           → (are_live c.state (4 * cell) (4 * n) ≡ true) × (cell + n ≤ length c.state.cells)
       part_of r cell at l =
           let i : ℕ = length (vectors at.sizes) + r.at in
           let within : i + n ≤ extent (Thing r.object at.sizes) = omega (arith, at.inside, l) in
           let live = part_live a.mem at.placed i n within in
-          let top = below_top a.mem at.placed (at.first + i + n - 1) (omega (arith, within, one)) in
-          (ap (λ k. are_live c.state (4 * k) (4 * n)) at.cell_is ∙ live, omega (arith, at.cell_is, top, count_cells a.mem, one))
+          let top = below_top a.mem at.placed (at.first + i + n - 1) (omega (arith, within, one)) in (
+            ap (λ k. are_live c.state (4 * k) (4 * n)) at.cell_is
+                ∙ live,
+            omega (arith, at.cell_is, top, count_cells a.mem, one),
+          )
 
-      by_memory : (values : List ℤ) → Cells w.memory from n values → (o : Option Memory) → write_cells to.object to.at values w.memory ≡ o
+      by_memory : (values : List ℤ) → Cells w.memory from n values → (o : Option Memory)
+          → write_cells to.object to.at values w.memory ≡ o
           → DoesAt x (1 + d) w c (then_do (changed o w) go) Q
       by_memory values r None o = stray x a
       by_memory values r (Some m) o =
           let lt2 = part_of to ct there lt in
           let lf2 = part_of from cf here lf in
-          let t : State = record c.state { cells = put (take n (drop cf c.state.cells)) ct c.state.cells; cip = p + 8 } in
+          let t : State =
+          record c.state {
+            cells = put (take n (drop cf c.state.cells)) ct c.state.cells;
+            cip = p + 8;
+          } in
           let is = moved_cells c.state.cells a.mem.fits cf ct n lf2.1 lt2.1 in
           let fit : All IsCell values =
-          subst (λ l. All IsCell l) (same_values values r) (All-take IsCell n (drop cf c.state.cells) (All-drop IsCell cf c.state.cells a.mem.fits)) in
+          subst (λ l. All IsCell l) (same_values values r)
+          (All-take IsCell n (drop cf c.state.cells)
+          (All-drop IsCell cf c.state.cells a.mem.fits)) in
           goes x a (with op.Movs (pos (4 * n))) f t (rw (e, g, lf2.0, lt2.0, is) refl)
           (next m (record c { state = t })
-          (cells_written x.program x.room a cell_at values fit m o (p + 8) t (ap (λ l. put l ct c.state.cells) (same_values values r)) refl refl refl refl))
+          (cells_written x.program x.room a cell_at values fit m o (p + 8) t
+          (ap (λ l. put l ct c.state.cells) (same_values values r)) refl refl refl refl))
 
       by_values : (o : Option (List ℤ)) → read_cells from.object from.at n w.memory ≡ o
           → DoesAt x (1 + d) w c (then_do (changed (copy_of o to.object to.at w.memory) w) go) Q
       by_values None o = stray x a
-      by_values (Some values) o = by_memory values (cells_read w.memory from n values o) (write_cells to.object to.at values w.memory) refl
+      by_values (Some values) o =
+          by_memory values (cells_read w.memory from n values o)
+          (write_cells to.object to.at values w.memory) refl

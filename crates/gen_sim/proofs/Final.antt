@@ -1,6 +1,8 @@
 -- From the simulation to the four parts of agreement. Nothing here knows of trees or instructions:
 -- it takes a simulation for each bound on turns, and how the meanings for two bounds are related.
-use Rattle.std.proofs.Common.{◌≡◌, ◌≢◌, ◌⊎◌, inl, inr, ◌+◌, ◌*◌, ◌<◌, ◌≤◌, ℕ, pos, false, List, ◌++◌, Some, length, slice_get, refl, sym, ap, subst, ◌∙◌, arith, mul-le-mul_left, length-append}
+use Rattle.std.proofs.Common.{◌≡◌, ◌≢◌, ◌⊎◌, inl, inr, ◌+◌, ◌*◌, ◌<◌, ◌≤◌, ℕ, pos, false, List}
+use Rattle.std.proofs.Common.{◌++◌, Some, length, slice_get, refl, sym, ap, subst, ◌∙◌, arith}
+use Rattle.std.proofs.Common.{mul-le-mul_left, length-append}
 use Rattle.std.proofs.lemmas.List.{map-append, length-map}
 use Rattle.host_script.specs.declared.event.Event.{Event}
 use Rattle.host_script.specs.declared.event.End.{End}
@@ -14,10 +16,12 @@ use Rattle.pawn_meaning.proofs.RunLaws.{runs_grow_lem}
 use Rattle.amx_ops.specs.Runs.{Moved, iterate, Stop, Steps, Asleep, Over_by, Traced}
 use Rattle.amx_ops.specs.Moves.{Config}
 use Rattle.amx_ops.specs.Cuts.{Leads, Enough, IsCut}
-use Rattle.gen_agrees.specs.AgreesOn.{IsPrefix, Mark, marks, Is, IsLost, IsShort, Shows, ShowsUpToStray, AgreesOn}
+use Rattle.gen_agrees.specs.AgreesOn.{IsPrefix, Mark, marks, Is, IsLost, IsShort, Shows}
+use Rattle.gen_agrees.specs.AgreesOn.{ShowsUpToStray, AgreesOn}
 use Rattle.gen_sim.proofs.Fronts.{same_prefix, prefix_on, finished}
 use Rattle.gen_sim.proofs.Outcomes.{entries_are, next_on_way, cut_is_last, more_is_above}
-use Rattle.gen_sim.proofs.Iterations.{over_end, over_config, over_past, both_over, over_front, on_front, running_over}
+use Rattle.gen_sim.proofs.Iterations.{over_end, over_config, over_past, both_over, over_front}
+use Rattle.gen_sim.proofs.Iterations.{on_front, running_over}
 use Rattle.gen_sim.specs.Does.{nothing, Running, Closed, how_of, Short, Reach, Does, Then}
 use Rattle.gen_sim.proofs.Orders.{either}
 
@@ -448,7 +452,8 @@ module _ (mv : Config → Moved Config End) (cells room : ℕ) (start : Config)
   enough_is (Over_by x) bound T h e = absurd (let clash : ⊥ = cc in clash)
 
   -- a trace that is one iteration agrees with the meaning
-  pub agrees : (bounds : List ℕ) (t : Traced Config End) → IsCut mv start bounds t → AgreesOn means cells room t
+  pub agrees : (bounds : List ℕ) (t : Traced Config End) → IsCut mv start bounds t
+      → AgreesOn means cells room t
   agrees bounds t cut =
       let v = verdict t.steps t.stop t.config cut.leads in
       record {

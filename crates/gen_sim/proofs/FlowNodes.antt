@@ -1,9 +1,11 @@
--- Expression statements, locals, lists, `if`, `exit` and `assert`: their code does what they mean, where that of their
--- parts does.
-use Rattle.std.proofs.Common.{◌≡◌, ◌+◌, ◌≤◌, ℕ, pos, List, [], ◌∷◌, ◌++◌, Some, length, sum, slice_get, refl, sym, ap, subst, ◌∙◌, arith}
+-- Expression statements, locals, lists, `if`, `exit` and `assert`: their code does what they mean,
+-- where that of their parts does.
+use Rattle.std.proofs.Common.{◌≡◌, ◌+◌, ◌≤◌, ℕ, pos, List, [], ◌∷◌, ◌++◌, Some, length, sum}
+use Rattle.std.proofs.Common.{slice_get, refl, sym, ap, subst, ◌∙◌, arith}
 use Rattle.pawn_cells.specs.Cells.{cell_of, is_zero}
 use Rattle.host_script.specs.declared.event.End.TheVariants as end
-use Rattle.pawn_program.specs.Program.{Expr, Stmt, Do, Empty, Local, If, Exit, Assert, Stmts, no_stmts, then_stmt, Else, no_else, otherwise, ScalarSlot}
+use Rattle.pawn_program.specs.Program.{Expr, Stmt, Do, Empty, Local, If, Exit, Assert, Stmts}
+use Rattle.pawn_program.specs.Program.{no_stmts, then_stmt, Else, no_else, otherwise, ScalarSlot}
 use Rattle.pawn_program.specs.Scope.{IsMade}
 use Rattle.pawn_program.specs.ValidStmts.{slots_made, slots_made_by}
 use Rattle.pawn_meaning.specs.Memory.{made, one_cell}
@@ -39,35 +41,45 @@ use Rattle.gen_sim.specs.Here.{Here, behind}
 use Rattle.gen_sim.specs.FlowCode.{made_cells, local_code, exit_code, assert_code, if_code}
 use Rattle.gen_sim.specs.Ways.{Outer, made_view, Left}
 use Rattle.gen_sim.specs.Flow.{Begins, StmtCode, StmtsCode, ElseCode}
-use Rattle.gen_sim.proofs.MadeViews.{count_more, made_upon, upon_used, upon_needs, made_more, new_more, made_begins}
+use Rattle.gen_sim.proofs.MadeViews.{count_more, made_upon, upon_used, upon_needs, made_more}
+use Rattle.gen_sim.proofs.MadeViews.{new_more, made_begins}
 use Rattle.gen_sim.proofs.WayLaws.{pass_grows, passes_left, chooses}
 
 -- an expression in a statement
-pub value_at : (here : Here) {x : Site} {turns : ℕ} {v : View} {o : Outer} (b : Begins here x turns v o) {e : Expr} {begin : ℕ} {items : List Item}
-    → ValueCode here.scope e begin items → Lies x begin items → used x.program x.room v [] + load e ≤ kept x.program x.room + sum v.needs
+pub value_at : (here : Here) {x : Site} {turns : ℕ} {v : View} {o : Outer}
+    (b : Begins here x turns v o) {e : Expr} {begin : ℕ} {items : List Item}
+    → ValueCode here.scope e begin items → Lies x begin items
+    → used x.program x.room v [] + load e ≤ kept x.program x.room + sum v.needs
     → (w : World) (c : Config) → Stands x.program x.room v [] begin w c
-    → DoesAt x (length (item_cells items)) w c (value (scene_at x) (with_turns x turns) e w) (λ y u t. With x.program x.room v [] (past begin items) y u t)
-value_at here {x} {turns} {v} b part l deep w c s = part.does x b.site b.same turns b.calls v b.fits l.lie l.starts [] deep w c s
+    → DoesAt x (length (item_cells items)) w c (value (scene_at x) (with_turns x turns) e w)
+    (λ y u t. With x.program x.room v [] (past begin items) y u t)
+value_at here {x} {turns} {v} b part l deep w c s =
+    part.does x b.site b.same turns b.calls v b.fits l.lie l.starts [] deep w c s
 
-else_grows : (x : Site) (turns : ℕ) (other : Else) → Grows (run_else (scene_at x) (with_turns x turns) other)
+else_grows : (x : Site) (turns : ℕ) (other : Else)
+    → Grows (run_else (scene_at x) (with_turns x turns) other)
 else_grows x turns no_else = give_grows Through
 else_grows x turns (otherwise s) = (nodes_of x turns).statements s
 
 module _ (here : Here) (begin : ℕ) where
   pub empty_does : StmtCode here Empty begin []
-  empty_does = record { fresh = tt; count = refl; does = λ x turns v o b l paid deep w c s. given x s s }
+  empty_does =
+      record { fresh = tt; count = refl; does = λ x turns v o b l paid deep w c s. given x s s }
 
-  pub do_does : (e : Expr) (items : List Item) → ValueCode here.scope e begin items → StmtCode here (Do e) begin items
+  pub do_does : (e : Expr) (items : List Item) → ValueCode here.scope e begin items
+      → StmtCode here (Do e) begin items
   do_does e items part = record {
     fresh = tt;
     count = refl;
     does = λ x turns v o b l paid deep w c s.
-        gives_of x (length (item_cells items)) w (value (scene_at x) (with_turns x turns) e w) (λ y. Through)
+        gives_of x (length (item_cells items)) w (value (scene_at x) (with_turns x turns) e w)
+        (λ y. Through)
         (λ y u t. With x.program x.room v [] (past begin items) y u t) (λ y u t k. k.stands)
         (value_at here b part l (omega (arith, deep)) w c s);
   }
 
-  pub local_node_does : (slot : ℕ) (e : Expr) (items : List Item) → here.scope.params ≤ slot → ¬ (IsMade here.scope slot)
+  pub local_node_does : (slot : ℕ) (e : Expr) (items : List Item) → here.scope.params ≤ slot
+      → ¬ (IsMade here.scope slot)
       → slice_get here.scope.slots slot ≡ Some ScalarSlot → ValueCode here.scope e begin items
       → StmtCode here (Local slot e) begin (local_code items)
   local_node_does slot e items above new is part = record {
@@ -77,28 +89,42 @@ module _ (here : Here) (begin : ℕ) where
         let p = past begin items in
         let size : slot_size (slice_get here.scope.slots slot) ≡ 1 = ap slot_size is in
         let own : own_sizes (slice_get here.scope.slots slot) ≡ 1 ∷ [] = ap own_sizes is in
-        then_items x begin items (alone op.PushPri ∷ []) (λ y u t. With x.program x.room v [] p y u t)
+        then_items x begin items (alone op.PushPri ∷ [])
+        (λ y u t. With x.program x.room v [] p y u t)
         (λ q. Left x here.exits o (made_view here.scope.slots (slot ∷ []) v) q) w l
-        (value (scene_at x) (with_turns x turns) e w) (λ y. change (made slot (one_cell y)) >>= (λ _. give Through))
-        (λ y u. (after_grows (change_grows (made slot (one_cell y))) (λ _. give_grows Through)).at u)
+        (value (scene_at x) (with_turns x turns) e w)
+        (λ y. change (made slot (one_cell y)) >>= (λ _. give Through))
+        (λ y u. (after_grows (change_grows (made slot (one_cell y))) (λ _. give_grows Through)).at
+        u)
         (λ j. value_at here b part j (omega (arith, deep, size)) w c s)
         (λ j y u t k. one_item x (with op.PushPri (pos 0)) [] u
         (gives_of x 1 u (change (made slot (one_cell y)) u) (λ d. Through)
         (λ d n i. Stands x.program x.room (with_local v slot (1 ∷ [])) [] (p + 4) n i)
-        (λ d n i m. subst (λ z. Stands x.program x.room (with_local v slot z) [] (p + 4) n i) (sym own) m)
-        (local_does x here.scope v b.fits slot above new y p u t k j.lie.0 (omega (arith, deep, size)))));
+        (λ d n i m. subst (λ z. Stands x.program x.room (with_local v slot z) [] (p + 4) n i)
+        (sym own) m)
+        (local_does x here.scope v b.fits slot above new y p u t k j.lie.0
+        (omega (arith, deep, size)))));
   }
 
   -- ---- lists
 
   pub no_stmts_does : StmtsCode here no_stmts begin []
-  no_stmts_does = record { fresh = tt; count = refl; does = λ x turns v o b l paid deep w c s. given x s s }
+  no_stmts_does =
+      record { fresh = tt; count = refl; does = λ x turns v o b l paid deep w c s. given x s s }
 
-  pub then_stmt_does : (s : Stmt) (stmts : Stmts) (first rest : List Item) → StmtCode here s begin first
-      → StmtsCode (behind (slots_made s) here) stmts (past begin first) rest → StmtsCode here (then_stmt s stmts) begin (first ++ rest)
+  pub then_stmt_does : (s : Stmt) (stmts : Stmts) (first rest : List Item)
+      → StmtCode here s begin first
+      → StmtsCode (behind (slots_made s) here) stmts (past begin first) rest
+      → StmtsCode here (then_stmt s stmts) begin (first ++ rest)
   then_stmt_does s stmts first rest one two = record {
     fresh = new_more here.scope (slots_made s) (slots_made_by stmts) one.fresh two.fresh;
-    count = omega (arith, count_more here.scope.slots (slots_made s) (slots_made_by stmts), one.count, two.count);
+    count =
+        omega (
+          arith,
+          count_more here.scope.slots (slots_made s) (slots_made_by stmts),
+          one.count,
+          two.count,
+        );
     does = λ x turns v o b l paid deep w c k.
         let slots = here.scope.slots in
         let made = slots_made s in
@@ -107,16 +133,26 @@ module _ (here : Here) (begin : ℕ) where
         let fewer = with_turns x turns in
         let long = count-append first rest in
         let upon = made_upon x slots made v k.laid in
-        subst (λ z. DoesAt x (length (item_cells (first ++ rest))) w c (run_all (scene_at x) fewer (then_stmt s stmts) w)
+        subst (λ z. DoesAt x (length (item_cells (first ++ rest))) w c
+        (run_all (scene_at x) fewer (then_stmt s stmts) w)
         (Left x here.exits o z (past begin (first ++ rest)))) (sym (made_more slots made more v))
-        (then_items x begin first rest (Left x here.exits o inner (past begin first)) (Left x here.exits o (made_view slots more inner)) w l
+        (then_items x begin first rest (Left x here.exits o inner (past begin first))
+        (Left x here.exits o (made_view slots more inner)) w l
         (run (scene_at x) fewer s w) (λ way. pass way (run_all (scene_at x) fewer stmts))
         (λ way u. (pass_grows way ((nodes_of x turns).lists stmts)).at u)
         (λ j. one.does x turns v o b j (omega (arith, paid, long)) (omega (arith, deep)) w c k)
-        (λ j way u t left. passes_left x here.exits o inner (made_view slots more inner) (past begin first) (past (past begin first) rest) way
+        (λ j way u t left. passes_left x here.exits o inner (made_view slots more inner)
+        (past begin first) (past (past begin first) rest) way
         (run_all (scene_at x) fewer stmts) u t left
-        (λ h. two.does x turns inner o (made_begins here x turns o made v one.fresh b) j (omega (arith, paid, long))
-        (omega (arith, deep, upon_used x slots made inner v upon, upon_needs x slots made inner v upon, one.count)) u t h)));
+        (λ h. two.does x turns inner o (made_begins here x turns o made v one.fresh b) j
+        (omega (arith, paid, long))
+        (omega (
+          arith,
+          deep,
+          upon_used x slots made inner v upon,
+          upon_needs x slots made inner v upon,
+          one.count,
+        )) u t h)));
   }
 
   -- ---- one of two
@@ -124,17 +160,22 @@ module _ (here : Here) (begin : ℕ) where
   pub no_else_does : ElseCode here no_else begin []
   no_else_does = record { does = λ x turns v o b l paid deep w c s. given x s s }
 
-  pub otherwise_does : (s : Stmt) (items : List Item) → slots_made s ≡ [] → StmtCode here s begin items → ElseCode here (otherwise s) begin items
+  pub otherwise_does : (s : Stmt) (items : List Item) → slots_made s ≡ []
+      → StmtCode here s begin items → ElseCode here (otherwise s) begin items
   otherwise_does s items none part = record {
     does = λ x turns v o b l paid deep w c k.
-        let count : made_by here.scope.slots s ≡ 0 = sym part.count ∙ ap (λ m. made_cells here.scope.slots m) none in
-        subst (λ m. DoesAt x (length (item_cells items)) w c (run (scene_at x) (with_turns x turns) s w)
+        let count : made_by here.scope.slots s ≡ 0 =
+        sym part.count ∙ ap (λ m. made_cells here.scope.slots m) none in
+        subst (λ m. DoesAt x (length (item_cells items)) w c
+        (run (scene_at x) (with_turns x turns) s w)
         (Left x here.exits o (made_view here.scope.slots m v) (past begin items))) none
         (part.does x turns v o b l paid (omega (arith, deep, count)) w c k);
   }
 
-  pub if_does : (e : Expr) (a : Stmt) (other : Else) (condition first second : List Item) → slots_made a ≡ [] → ValueCode here.scope e begin condition
-      → StmtCode here a (past begin condition + 8) first → ElseCode here other (other_at (past begin condition) first) second
+  pub if_does : (e : Expr) (a : Stmt) (other : Else) (condition first second : List Item)
+      → slots_made a ≡ [] → ValueCode here.scope e begin condition
+      → StmtCode here a (past begin condition + 8) first
+      → ElseCode here other (other_at (past begin condition) first) second
       → StmtCode here (If e a other) begin (if_code begin condition first second)
   if_does e a other condition first second none test one two = record {
     fresh = tt;
@@ -144,46 +185,62 @@ module _ (here : Here) (begin : ℕ) where
         let p = past begin condition in
         let ra = run (scene_at x) fewer a in
         let rb = run_else (scene_at x) fewer other in
-        let count : made_by here.scope.slots a ≡ 0 = sym one.count ∙ ap (λ m. made_cells here.scope.slots m) none in
+        let count : made_by here.scope.slots a ≡ 0 =
+        sym one.count ∙ ap (λ m. made_cells here.scope.slots m) none in
         let jump = jump_to op.Jump (past (other_at p first) second) in
         let long = count-append condition (choice_code p first second) in
         let longer = count-append first (jump ∷ second) in
-        then_items x begin condition (choice_code p first second) (λ y u t. With x.program x.room v [] p y u t) (Left x here.exits o v) w l
+        then_items x begin condition (choice_code p first second)
+        (λ y u t. With x.program x.room v [] p y u t) (Left x here.exits o v) w l
         (value (scene_at x) fewer e w) (λ y. at_zero y rb ra)
-        (λ y u. (choose_grows (is_zero y) rb ra (else_grows x turns other) ((nodes_of x turns).statements a)).at u)
+        (λ y u. (choose_grows (is_zero y) rb ra (else_grows x turns other)
+        ((nodes_of x turns).statements a)).at u)
         (λ j. value_at here b test j (omega (arith, deep)) w c s)
         (λ j y u t k. chooses x here.exits o p first second ra rb y u t k j
-        (λ i n h m. subst (λ z. DoesAt x (length (item_cells first)) n h (ra n) (Left x here.exits o (made_view here.scope.slots z v) (past (p + 8) first))) none
-        (one.does x turns v o b i (omega (arith, paid, long, longer)) (omega (arith, deep, count)) n h m))
-        (λ i n h m. two.does x turns v o b i (omega (arith, paid, long, longer)) (omega (arith, deep)) n h m));
+        (λ i n h m. subst (λ z. DoesAt x (length (item_cells first)) n h (ra n)
+        (Left x here.exits o (made_view here.scope.slots z v) (past (p + 8) first))) none
+        (one.does x turns v o b i (omega (arith, paid, long, longer))
+        (omega (arith, deep, count)) n h m))
+        (λ i n h m. two.does x turns v o b i (omega (arith, paid, long, longer))
+        (omega (arith, deep)) n h m));
   }
 
   -- ---- ends
 
-  pub exit_node_does : (e : Expr) (tag : ℕ) (items : List Item) → ValueCode here.scope e begin items → StmtCode here (Exit e tag) begin (exit_code tag items)
+  pub exit_node_does : (e : Expr) (tag : ℕ) (items : List Item) → ValueCode here.scope e begin items
+      → StmtCode here (Exit e tag) begin (exit_code tag items)
   exit_node_does e tag items part = record {
     fresh = tt;
     count = refl;
     does = λ x turns v o b l paid deep w c s.
         let p = past begin items in
         let last = taking op.ConstAlt (cell_of tag) ∷ taking op.Halt (pos 1) ∷ [] in
-        then_items x begin items last (λ y u t. With x.program x.room v [] p y u t) (Left x here.exits o v) w l
-        (value (scene_at x) (with_turns x turns) e w) (λ y. stop (end.Exit y (cell_of tag))) (λ y u. same_later u)
+        then_items x begin items last (λ y u t. With x.program x.room v [] p y u t)
+        (Left x here.exits o v) w l
+        (value (scene_at x) (with_turns x turns) e w) (λ y. stop (end.Exit y (cell_of tag)))
+        (λ y u. same_later u)
         (λ j. value_at here b part j (omega (arith, deep)) w c s)
-        (λ j y u t k. wider (move x.amx x.script) (length x.amx.code) x.room {d = length (item_cells last)} (omega arith)
-        (exit_does x y (cell_of tag) p u t k j.lie.0 (next_lies x p (taking op.ConstAlt (cell_of tag)) (taking op.Halt (pos 1) ∷ []) j).lie.0));
+        (λ j y u t k. wider (move x.amx x.script)
+        (length x.amx.code) x.room {d = length (item_cells last)} (omega arith)
+        (exit_does x y (cell_of tag) p u t k j.lie.0
+        (next_lies x p (taking op.ConstAlt (cell_of tag))
+        (taking op.Halt (pos 1) ∷ []) j).lie.0));
   }
 
-  halt_does : (x : Site) {v : View} {p : ℕ} {Q : Way → World → Config → Type 0} (w : World) (c : Config) → Stands x.program x.room v [] p w c
+  halt_does : (x : Site) {v : View} {p : ℕ} {Q : Way → World → Config → Type 0} (w : World)
+      (c : Config) → Stands x.program x.room v [] p w c
       → Lies x p (taking op.Halt (pos 2) ∷ [])
-      → DoesAt x (length (item_cells (taking op.Halt (pos 2) ∷ []))) w c (Stops (end.Error (pos 2)) w) Q
+      → DoesAt x (length (item_cells (taking op.Halt (pos 2) ∷ []))) w c
+      (Stops (end.Error (pos 2)) w) Q
   halt_does x {v} {p} w c s l =
       one_item x (with op.Halt (pos 2)) [] w
       (stops (move x.amx x.script) (length x.amx.code) x.room
-      (ends_one (move x.amx x.script) (length x.amx.code) x.room c (record c { state = record c.state { cip = p + 8 } }) w (end.Error (pos 2))
+      (ends_one (move x.amx x.script) (length x.amx.code) x.room c
+      (record c { state = record c.state { cip = p + 8 } }) w (end.Error (pos 2))
       (move_is x c p (with op.Halt (pos 2)) s.at l.lie.0) s.said))
 
-  pub assert_does : (e : Expr) (items : List Item) → ValueCode here.scope e begin items → StmtCode here (Assert e) begin (assert_code begin items)
+  pub assert_does : (e : Expr) (items : List Item) → ValueCode here.scope e begin items
+      → StmtCode here (Assert e) begin (assert_code begin items)
   assert_does e items part = record {
     fresh = tt;
     count = refl;
@@ -192,9 +249,11 @@ module _ (here : Here) (begin : ℕ) where
         let halt = taking op.Halt (pos 2) ∷ [] in
         let fail = stop (end.Error (pos 2)) in
         let good = give Through in
-        then_items x begin items (choice_code p [] halt) (λ y u t. With x.program x.room v [] p y u t) (Left x here.exits o v) w l
+        then_items x begin items (choice_code p [] halt)
+        (λ y u t. With x.program x.room v [] p y u t) (Left x here.exits o v) w l
         (value (scene_at x) (with_turns x turns) e w) (λ y. at_zero y fail good)
-        (λ y u. (choose_grows (is_zero y) fail good (stop_grows (end.Error (pos 2))) (give_grows Through)).at u)
+        (λ y u. (choose_grows (is_zero y) fail good (stop_grows (end.Error (pos 2)))
+        (give_grows Through)).at u)
         (λ j. value_at here b part j (omega (arith, deep)) w c s)
         (λ j y u t k. chooses x here.exits o p [] halt good fail y u t k j
         (λ i n h m. given x m m) (λ i n h m. halt_does x n h m i));

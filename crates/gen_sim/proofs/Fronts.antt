@@ -1,5 +1,6 @@
 -- Along a run of the machine the events shown only grow.
-use Rattle.std.proofs.Common.{◌≡◌, ℕ, zero, suc, ℤ, List, [], ◌∷◌, ◌++◌, Option, None, Some, Bool, true, false, refl, sym, ap, ◌∙◌, append_assoc, append-nil}
+use Rattle.std.proofs.Common.{◌≡◌, ℕ, zero, suc, ℤ, List, [], ◌∷◌, ◌++◌, Option, None, Some, Bool}
+use Rattle.std.proofs.Common.{true, false, refl, sym, ap, ◌∙◌, append_assoc, append-nil}
 use Rattle.host_script.specs.declared.script.Script.{Script}
 use Rattle.host_script.specs.declared.event.Event.{Event}
 use Rattle.host_script.specs.declared.event.Event.TheVariants as event
@@ -11,7 +12,8 @@ use Rattle.amx_ops.specs.State as state
 use Rattle.amx_ops.specs.State.{State, Turned}
 use Rattle.amx_ops.specs.Step.{step}
 use Rattle.amx_ops.specs.Runs.{Moved, Goes, Sleeps, Ends, Finish, Cut, Over, iterate}
-use Rattle.amx_ops.specs.Moves.{Config, look, answered, asked, arguments, name_of, halted_by, moved, move}
+use Rattle.amx_ops.specs.Moves.{Config, look, answered, asked, arguments, name_of, halted_by, moved}
+use Rattle.amx_ops.specs.Moves.{move}
 use Rattle.amx_ops.proofs.RunLaws.{iterate-zero, iterate-goes, iterate-sleeps, iterate-ends}
 use Rattle.gen_agrees.specs.AgreesOn.{IsPrefix}
 

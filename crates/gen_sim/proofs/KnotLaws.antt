@@ -1,5 +1,6 @@
 -- The knot: by the number of turns left.
-use Rattle.std.proofs.Common.{◌≡◌, ◌+◌, ◌<◌, ◌≤◌, ◌⊎◌, inl, inr, ℕ, zero, suc, ℤ, length, refl, sym, subst, arith}
+use Rattle.std.proofs.Common.{◌≡◌, ◌+◌, ◌<◌, ◌≤◌, ◌⊎◌, inl, inr, ℕ, zero, suc, ℤ, length, refl, sym}
+use Rattle.std.proofs.Common.{subst, arith}
 use Rattle.std.proofs.lemmas.Bool.{cases_lt}
 use Rattle.host_script.specs.declared.event.End.TheVariants as end
 use Rattle.pawn_program.specs.Program.{Function, Stmt}
@@ -22,12 +23,17 @@ module _ (x : Site) (turns : ℕ) (enters : EntersDo x (with_turns x turns)) whe
 
   calls_do : CallsDo x (with_turns x turns)
   calls_do f function v held cells waits p w c there suit hold small starts g few deep s =
-      let run : Function → Run ℤ = λ it. turn x.limit >>= (λ _. enter_function (with_turns x turns) f it held) in
-      subst (λ o. DoesAt x 1 w c (then_do (or_stop o end.Stray w) run) (With x.program x.room v waits (p + 8))) (sym there)
-      (call_does x (with_turns x turns) grows v f function held cells waits (p + 8) hold s.laid starts p (x.entry f) (length x.amx.code) w c refl small refl s g few
+      let run : Function → Run ℤ =
+      λ it. turn x.limit >>= (λ _. enter_function (with_turns x turns) f it held) in
+      subst (λ o. DoesAt x 1 w c (then_do (or_stop o end.Stray w) run)
+      (With x.program x.room v waits (p + 8))) (sym there)
+      (call_does x (with_turns x turns) grows v f function held cells waits
+      (p + 8) hold s.laid starts p (x.entry f) (length x.amx.code) w c refl small refl s g few
       (omega arith)
       (λ y t same k.
-      let r = enters f function there v held cells waits (p + 8) suit hold s.laid starts small deep y t k in
+      let r =
+      enters f function there v held cells waits
+      (p + 8) suit hold s.laid starts small deep y t k in
       wider (move x.amx x.script) (length x.amx.code) x.room r.paid r.does))
 
 -- by strong induction
@@ -37,7 +43,8 @@ one_more x functions turns before fewer h = by_order (cases_lt fewer turns)
     by_order : (fewer < turns) ⊎ (turns ≤ fewer) → CallsDo x (with_turns x fewer)
     by_order (inl l) = before fewer l
     by_order (inr l) =
-        let same : turns ≡ fewer = omega (arith, h, l) in subst (λ n. CallsDo x (with_turns x n)) same (calls_do x turns (functions turns before))
+        let same : turns ≡ fewer = omega (arith, h, l) in
+        subst (λ n. CallsDo x (with_turns x n)) same (calls_do x turns (functions turns before))
 
 below : (x : Site) → FunctionsDo x → (turns : ℕ) → CallsBelow x turns
 below x functions zero = λ fewer h. absurd (omega (arith, h))

@@ -1,5 +1,7 @@
 -- Instructions that lie in code: each is fetched at its address.
-use Rattle.std.proofs.Common.{◌≡◌, ◌+◌, ◌*◌, ◌<◌, ◌≤◌, ℕ, ℤ, List, [], ◌∷◌, ◌++◌, Some, true, false, ◌==◌, find, option_map, refl, sym, ap, ◌∙◌, arith, append_assoc, ne_eqb, eq-eqb}
+use Rattle.std.proofs.Common.{◌≡◌, ◌+◌, ◌*◌, ◌<◌, ◌≤◌, ℕ, ℤ, List, [], ◌∷◌, ◌++◌, Some, true, false}
+use Rattle.std.proofs.Common.{◌==◌, find, option_map, refl, sym, ap, ◌∙◌, arith, append_assoc}
+use Rattle.std.proofs.Common.{ne_eqb, eq-eqb}
 use Rattle.amx_ops.specs.Table.{operand_of}
 use Rattle.amx_ops.specs.Valid.{is_cases_kind}
 use Rattle.amx_ops.specs.Instructions.{Instruction, instr, Placed, placed_from, fetched}
@@ -28,10 +30,12 @@ ArePlain [] = Unit {0}
 ArePlain (i ∷ is) = (is_cases_kind (operand_of i.op) ≡ false) × ArePlain is
 
 -- reading the cells of instructions gives these
-pub placed_is : (p : ℕ) (is : List Instruction) → ArePlain is → placed_from p 0 (cells_of is) ≡ placed_all p is
+pub placed_is : (p : ℕ) (is : List Instruction) → ArePlain is
+    → placed_from p 0 (cells_of is) ≡ placed_all p is
 placed_is p [] h = refl
 placed_is p (i ∷ is) h =
-    placed_first p i (cells_of is) h.0 ∙ ap (λ others. placed_at p i ∷ others) (placed_is (next p i) is h.1)
+    placed_first p i (cells_of is) h.0
+    ∙ ap (λ others. placed_at p i ∷ others) (placed_is (next p i) is h.1)
 
 pub past_least : (p : ℕ) (is : List Instruction) → p ≤ past p is
 past_least p [] = omega arith
@@ -73,7 +77,8 @@ lies all before (i ∷ is) after h e = (
       (ap (λ o. option_map (λ (it : Placed). it.instr) o)
       (found 0 (past 0 before) before i (is ++ after) refl)),
   rw (sym (past-append 0 before (i ∷ [])))
-      (lies all (before ++ i ∷ []) is after h (e ∙ sym (append_assoc before (i ∷ []) (is ++ after)))),
+      (lies all (before ++ i ∷ []) is after h
+      (e ∙ sym (append_assoc before (i ∷ []) (is ++ after)))),
 )
 
 pub lies_first : (code : List ℤ) (p : ℕ) (is js : List Instruction) → Lies code p (is ++ js)

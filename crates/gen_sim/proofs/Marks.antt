@@ -1,5 +1,6 @@
 -- The marks of a meaning: its entries, and its outcome behind them.
-use Rattle.std.proofs.Common.{◌≡◌, ◌≤◌, ℕ, zero, suc, List, [], ◌∷◌, ◌++◌, Some, false, map, length, slice_get, refl, ap, arith}
+use Rattle.std.proofs.Common.{◌≡◌, ◌≤◌, ℕ, zero, suc, List, [], ◌∷◌, ◌++◌, Some, false, map, length}
+use Rattle.std.proofs.Common.{slice_get, refl, ap, arith}
 use Rattle.pawn_meaning.specs.World.{Entry}
 use Rattle.pawn_meaning.specs.Extends.{Rises}
 use Rattle.gen_agrees.specs.AgreesOn.{Mark}

@@ -1,5 +1,6 @@
 -- One call of a native with values, seen from the source and on the machine.
-use Rattle.std.proofs.Common.{◌≡◌, ℕ, zero, suc, ℤ, List, [], ◌∷◌, Option, None, Some, map, length, slice_get, refl, ap, sym}
+use Rattle.std.proofs.Common.{◌≡◌, ℕ, zero, suc, ℤ, List, [], ◌∷◌, Option, None, Some, map, length}
+use Rattle.std.proofs.Common.{slice_get, refl, ap, sym}
 use Rattle.std.proofs.lemmas.List.{length-map}
 use Rattle.host_script.specs.declared.script.Script.{Script}
 use Rattle.host_script.specs.declared.script.Form.{Form}
@@ -10,7 +11,9 @@ use Rattle.host_script.specs.declared.script.Write.{Write}
 use Rattle.host_script.specs.declared.event.Event.TheVariants as event
 use Rattle.host_script.specs.declared.event.Seen.TheVariants as seen
 use Rattle.host_script.specs.Script.{Turn, native_of, forms_of, turn_of}
-use Rattle.host_script.specs.NativeCall.{Lost, Fault, Sight, Sees, Blind, Sought, Put, Called, Ends_there, Answers, with_sight, see_all, put_for, puts_of, answered, called_by, called_with, called_on, native_call}
+use Rattle.host_script.specs.NativeCall.{Lost, Fault, Sight, Sees, Blind, Sought, Put, Called}
+use Rattle.host_script.specs.NativeCall.{Ends_there, Answers, with_sight, see_all, put_for, puts_of}
+use Rattle.host_script.specs.NativeCall.{answered, called_by, called_with, called_on, native_call}
 use Rattle.pawn_meaning.specs.World.{World}
 use Rattle.pawn_meaning.specs.Natives.{Held, Value, Spot, see}
 use Rattle.amx_ops.specs.State.{State}
@@ -116,7 +119,8 @@ on_near : (script : Script) (w : World) (s : State) (name : List ℕ) (vs : List
     (called_on (look s) name vs position turn forms)
 on_near script w s name vs position turn None = refl
 on_near script w s name vs position turn (Some forms) =
-    sighted_near name position turn (see_all (see w.memory) (values vs) forms) (see_all (look s) vs forms)
+    sighted_near name position turn (see_all (see w.memory) (values vs) forms)
+    (see_all (look s) vs forms)
     (sights_near script w s vs forms)
 
 -- the two sides of one call

@@ -1,5 +1,6 @@
 -- Two numbers stand in one order or the other.
-use Rattle.std.proofs.Common.{◌≡◌, ◌<◌, ◌≤◌, ◌⊎◌, inl, inr, ℕ, Bool, true, false, nat_le, refl, leb-true, leb-false}
+use Rattle.std.proofs.Common.{◌≡◌, ◌<◌, ◌≤◌, ◌⊎◌, inl, inr, ℕ, Bool, true, false, nat_le, refl}
+use Rattle.std.proofs.Common.{leb-true, leb-false}
 
 either_by : (m n : ℕ) (b : Bool) → nat_le m n ≡ b → (m ≤ n) ⊎ (n < m)
 either_by m n true e = inl (leb-true m n e)

@@ -1,5 +1,8 @@
 -- The live memory behind an address begins with the part of the piece that stands there.
-use Rattle.std.proofs.Common.{◌≡◌, ◌+◌, ◌*◌, ◌/◌, ◌%◌, ◌<◌, ◌≤◌, inl, inr, ℕ, zero, suc, ℤ, List, ◌∷◌, ◌++◌, true, false, ◌==◌, length, take, drop, nat_le, nat_lt, refl, sym, ap, ◌∙◌, arith, append_assoc, le-leb, lt-ltb, eq-eqb, length-append}
+use Rattle.std.proofs.Common.{◌≡◌, ◌+◌, ◌*◌, ◌/◌, ◌%◌, ◌<◌, ◌≤◌, inl, inr, ℕ, zero, suc, ℤ, List}
+use Rattle.std.proofs.Common.{◌∷◌, ◌++◌, true, false, ◌==◌, length, take, drop, nat_le, nat_lt}
+use Rattle.std.proofs.Common.{refl, sym, ap, ◌∙◌, arith, append_assoc, le-leb, lt-ltb, eq-eqb}
+use Rattle.std.proofs.Common.{length-append}
 use Rattle.std.proofs.lemmas.Bool.{le-ltb}
 use Rattle.std.proofs.lemmas.List.{drop-append-le}
 use Rattle.std.proofs.Math.Seq.{take-append_seam, drop-append-add}
@@ -19,15 +22,18 @@ pub record Part (xs part : List ℤ) : Type 0 where
   pub more : List ℤ
   pub is : xs ≡ part ++ more
 
-pub part_of_row : (m : Memory) (p : Piece) (ps : List Piece) (first : ℕ) → StandsIn p ps first → AreThere m ps → (i n : ℕ) → i + n ≤ length (cells_in m p)
+pub part_of_row : (m : Memory) (p : Piece) (ps : List Piece) (first : ℕ) → StandsIn p ps first
+    → AreThere m ps → (i n : ℕ) → i + n ≤ length (cells_in m p)
     → Part (drop (first + i) (image m ps)) (take n (drop i (cells_in m p)))
 part_of_row m p ps first at t i n h =
     let k = before_count m p ps first at t in
     let cells = cells_in m p in
     let rest = image m at.after in
-    let split : image m ps ≡ image m at.before ++ (cells ++ rest) = ap (λ l. image m l) at.split ∙ around m at.before at.after p in
+    let split : image m ps ≡ image m at.before ++ (cells ++ rest) =
+    ap (λ l. image m l) at.split ∙ around m at.before at.after p in
     let front : drop (first + i) (image m ps) ≡ drop i cells ++ rest =
-    rw (split, sym k) (drop-append-add (image m at.before) (cells ++ rest) i ∙ drop-append-le i cells rest (omega (arith, h))) in
+    rw (split, sym k) (drop-append-add (image m at.before) (cells ++ rest) i
+    ∙ drop-append-le i cells rest (omega (arith, h))) in
     record {
       more = drop n (drop i cells) ++ rest;
       is =
@@ -35,8 +41,10 @@ part_of_row m p ps first at t i n h =
           ∙ append_assoc (take n (drop i cells)) (drop n (drop i cells)) rest;
     }
 
-module _ {N : ℕ} {low : List Piece} {pending : List ℤ} {high : List Piece} {m : Memory} {s : State} (mem : Mem N low pending high m s) {piece : Piece} {first : ℕ} where
-  low_part : InLow N low high piece first → (i n : ℕ) → i + suc n ≤ length (cells_in m piece) → first + i < total low
+module _ {N : ℕ} {low : List Piece} {pending : List ℤ} {high : List Piece} {m : Memory} {s : State}
+    (mem : Mem N low pending high m s) {piece : Piece} {first : ℕ} where
+  low_part : InLow N low high piece first → (i n : ℕ) → i + suc n ≤ length (cells_in m piece)
+      → first + i < total low
       → Part (live_from s (4 * (first + i))) (take (suc n) (drop i (cells_in m piece)))
   low_part p i n h below =
       let a : ℕ = first + i in
@@ -52,7 +60,8 @@ module _ {N : ℕ} {low : List Piece} {pending : List ℤ} {high : List Piece} {
       record { more = q.more; is = rw (t1, t2, i1, i2, whole) q.is }
 
   high_part : InHigh N low high piece first → (i n : ℕ) → i + suc n ≤ length (cells_in m piece)
-      → total low + length (mem.free ++ pending) ≤ first + i → Part (live_from s (4 * (first + i))) (take (suc n) (drop i (cells_in m piece)))
+      → total low + length (mem.free ++ pending) ≤ first + i
+      → Part (live_from s (4 * (first + i))) (take (suc n) (drop i (cells_in m piece)))
   high_part p i n h above =
       let a : ℕ = first + i in
       let b = length-append mem.free pending in
@@ -60,10 +69,14 @@ module _ {N : ℕ} {low : List Piece} {pending : List ℤ} {high : List Piece} {
       let t2 : nat_lt (4 * a) s.hea ≡ false = le-ltb _ _ (omega (arith, mem.hea, above)) in
       let t3 : nat_le s.stk (4 * a) ≡ true = le-leb _ _ (omega (arith, mem.stk, above, b)) in
       let i1 : 4 * a / 4 ≡ a = omega arith in
-      let q = part_of_row m piece (row low (mem.free ++ pending) high) first (placed_at (record { where_it_is = inr p }) (mem.free ++ pending) mem.size) mem.there i (suc n) h in
+      let q =
+      part_of_row m piece (row low (mem.free ++ pending) high) first
+      (placed_at (record { where_it_is = inr p }) (mem.free ++ pending) mem.size)
+      mem.there i (suc n) h in
       record { more = q.more; is = rw (t1, t2, t3, i1, mem.cells) q.is }
 
-  pub live_part : (p : Placed N low high piece first) → (i n : ℕ) → i + n ≤ length (cells_in m piece)
+  pub live_part : (p : Placed N low high piece first) → (i n : ℕ)
+      → i + n ≤ length (cells_in m piece)
       → Part (live_from s (4 * (first + i))) (take n (drop i (cells_in m piece)))
   live_part p i zero h = record { more = live_from s (4 * (first + i)); is = refl }
   live_part p i (suc n) h =

@@ -40,7 +40,8 @@ module _ (mv : Config → Moved Config End) (cells room : ℕ) where
   }
 
   pub ends_one : (s t : Config) (w : World) (x : End) → mv s ≡ Ends x t
-      → t.events ≡ events_of w.entries → Reach mv cells room 1 w.turns s w (Closed x) (λ t. Unit {0})
+      → t.events ≡ events_of w.entries
+      → Reach mv cells room 1 w.turns s w (Closed x) (λ t. Unit {0})
   ends_one s t w x m e = record {
     steps = 1;
     config = t;
@@ -77,7 +78,8 @@ module _ (mv : Config → Moved Config End) (cells room : ℕ) where
     holds = r.holds;
   }
 
-  pub grown_short : {c d u : ℕ} {s : Config} {w x : World} → c ≤ d → Later w x → Short mv cells room c u s w
+  pub grown_short : {c d u : ℕ} {s : Config} {w x : World} → c ≤ d → Later w x
+      → Short mv cells room c u s w
       → Short mv cells room d u s x
   grown_short h l short =
       record {
@@ -107,7 +109,8 @@ module _ (mv : Config → Moved Config End) (cells room : ℕ) where
   short_then (More w) short = record { does = inl short }
 
   pub gives : {A : Type 0} {c u : ℕ} {s : Config} {Q : A → World → Config
-      → Type 0} {a : A} {w : World} → Reach mv cells room c u s w Running (Q a w) → Does mv cells room c u s (Gives a w) Q
+      → Type 0} {a : A} {w : World} → Reach mv cells room c u s w Running (Q a w)
+      → Does mv cells room c u s (Gives a w) Q
   gives r = record { does = inr r }
 
   pub stops : {A : Type 0} {c u : ℕ} {s : Config} {Q : A → World → Config
@@ -117,7 +120,8 @@ module _ (mv : Config → Moved Config End) (cells room : ℕ) where
 
   then_after : {A : Type 0} {P : Config → Type 0} (c d u : ℕ) (s : Config) (w : World)
       (o : Outcome A) (Q : A → World → Config → Type 0)
-      (r : Reach mv cells room c u s w Running P) → Then mv cells room d w.turns r.config o Q → Then mv cells room (c + d) u s o Q
+      (r : Reach mv cells room c u s w Running P) → Then mv cells room d w.turns r.config o Q
+      → Then mv cells room (c + d) u s o Q
   then_after c d u s w (Gives a x) Q r (inl short) = inl (short_after r short)
   then_after c d u s w (Gives a x) Q r (inr q) = inr (reach_after r q)
   then_after c d u s w (Stops e x) Q r (inl short) = inl (short_after r short)
@@ -128,7 +132,8 @@ module _ (mv : Config → Moved Config End) (cells room : ℕ) where
   pub reach_then : {A : Type 0} {P : Config
       → Type 0} {c d u : ℕ} {s : Config} {w : World} {o : Outcome A} {Q : A → World → Config
       → Type 0}
-      (r : Reach mv cells room c u s w Running P) → Does mv cells room d w.turns r.config o Q → Does mv cells room (c + d) u s o Q
+      (r : Reach mv cells room c u s w Running P) → Does mv cells room d w.turns r.config o Q
+      → Does mv cells room (c + d) u s o Q
   reach_then {c = c} {d = d} {u = u} {s = s} {w = w} {o = o} {Q = Q} r q =
       record { does = then_after c d u s w o Q r q.does }
 
@@ -189,7 +194,8 @@ module _ (mv : Config → Moved Config End) (cells room : ℕ) where
 
   -- what the machine does once the run has given its value
   pub after_it : {A : Type 0} {c d u : ℕ} {s : Config} (o : Outcome A)
-      (P : A → World → Config → Type 0) {Q : A → World → Config → Type 0} → Does mv cells room c u s o P
+      (P : A → World → Config → Type 0) {Q : A → World → Config → Type 0}
+      → Does mv cells room c u s o P
       → ((a : A) (w : World) (t : Config) → P a w t → Does mv cells room d w.turns t (Gives a w) Q)
       → Does mv cells room (c + d) u s o Q
   after_it {c = c} {d = d} {u = u} {s = s} o P {Q = Q} first next =
@@ -197,7 +203,8 @@ module _ (mv : Config → Moved Config End) (cells room : ℕ) where
       (in_turn o (λ a w. Gives a w) P (λ a w. runs_grow_lem.same w) first next)
 
   wider_by : {A : Type 0} (c d u : ℕ) (s : Config) (o : Outcome A)
-      (Q : A → World → Config → Type 0) → c ≤ d → Then mv cells room c u s o Q → Does mv cells room d u s o Q
+      (Q : A → World → Config → Type 0) → c ≤ d → Then mv cells room c u s o Q
+      → Does mv cells room d u s o Q
   wider_by c d u s (Gives a x) Q h (inl short) =
       short_then (Gives a x) (grown_short h (runs_grow_lem.same x) short)
   wider_by c d u s (Gives a x) Q h (inr r) = gives (grown h r)

@@ -1,5 +1,6 @@
 -- Constants, operators and commas: a node's code does what it means, where those of its parts do.
-use Rattle.std.proofs.Common.{◌≡◌, ◌+◌, ◌*◌, ℕ, ℤ, pos, List, [], ◌∷◌, length, ap, sym, subst, ◌∙◌, arith}
+use Rattle.std.proofs.Common.{◌≡◌, ◌+◌, ◌*◌, ℕ, ℤ, pos, List, [], ◌∷◌, length, ap, sym, subst, ◌∙◌}
+use Rattle.std.proofs.Common.{arith}
 use Rattle.pawn_cells.specs.declared.operator.Prefix.{Prefix}
 use Rattle.pawn_cells.specs.declared.operator.Operator.{Operator}
 use Rattle.pawn_cells.specs.Cells.{IsCell}
@@ -21,55 +22,75 @@ use Rattle.gen_sim.specs.Items.{Item, past, with}
 use Rattle.gen_sim.specs.Code.{with_turns}
 use Rattle.gen_sim.specs.Contract.{ValueCode}
 use Rattle.gen_sim.proofs.StepLaws.{given}
-use Rattle.gen_sim.specs.SimpleCode.{alone, prefix_op, operator_code, unary_code, binary_code, comma_code}
+use Rattle.gen_sim.specs.SimpleCode.{alone, prefix_op, operator_code, unary_code, binary_code}
+use Rattle.gen_sim.specs.SimpleCode.{comma_code}
 use Rattle.gen_sim.proofs.ItemSteps.{item_sets}
 use Rattle.gen_sim.proofs.NodesPartLaws.{nodes_of, then_items, Leaves, both_does}
 use Rattle.gen_sim.proofs.OperatorLaws.{prefix_act, prefix_cell, operator_does}
 
 -- a value as what a part leaves
-pub value_leaves : (x : Site) {v : View} {pending : List ℤ} {p : ℕ} {y : ℤ} {w : World} {c : Config} → With x.program x.room v pending p y w c
+pub value_leaves : (x : Site) {v : View} {pending : List ℤ} {p : ℕ} {y : ℤ} {w : World} {c : Config}
+    → With x.program x.room v pending p y w c
     → Leaves x v pending p (λ z. z ≡ y) w c
-value_leaves x a = record { stands = a.stands; is = a.value; fits = subst (λ z. IsCell z) (sym a.value) a.fits }
+value_leaves x a =
+    record { stands = a.stands; is = a.value; fits = subst (λ z. IsCell z) (sym a.value) a.fits }
 
 module _ (scope : Scope) (begin : ℕ) where
-  pub unary_does : (o : Prefix) (e : Expr) (items : List Item) → ValueCode scope e begin items → ValueCode scope (Unary o e) begin (unary_code o items)
+  pub unary_does : (o : Prefix) (e : Expr) (items : List Item) → ValueCode scope e begin items
+      → ValueCode scope (Unary o e) begin (unary_code o items)
   unary_does o e items part = record {
     does = λ x site same turns calls v fits lie starts pending deep w c s.
-        then_items x begin items (alone (prefix_op o) ∷ []) (λ y u t. With x.program x.room v pending (past begin items) y u t)
-        (λ q. With x.program x.room v pending q) w (record { lie = lie; starts = starts }) (value (scene_at x) (with_turns x turns) e w) (λ y. give (prefix o y))
-        (λ y u. same_later u) (λ l. part.does x site same turns calls v fits l.lie l.starts pending (omega (arith, deep)) w c s)
+        then_items x begin items (alone (prefix_op o) ∷ [])
+        (λ y u t. With x.program x.room v pending (past begin items) y u t)
+        (λ q. With x.program x.room v pending q) w (record { lie = lie; starts = starts })
+        (value (scene_at x) (with_turns x turns) e w) (λ y. give (prefix o y))
+        (λ y u. same_later u) (λ l. part.does x site same turns calls v fits l.lie l.starts pending
+        (omega (arith, deep)) w c s)
         (λ l y u t a.
         let q : ℕ = past begin items + 4 * length (cells_of (with (prefix_op o) (pos 0))) in
         item_sets x (with (prefix_op o) (pos 0)) a.stands l (prefix o y) t.state.alt
-        (prefix_act x.amx o q t.state ∙ ap (λ z. Goes (record t.state { pri = prefix o z; cip = q })) a.value)
+        (prefix_act x.amx o q t.state ∙ ap
+        (λ z. Goes (record t.state { pri = prefix o z; cip = q })) a.value)
         (λ k b m n. given x b (record { stands = b; value = m; fits = prefix_cell o y })));
   }
 
-  pub comma_does : (a b : Expr) (first second : List Item) → ValueCode scope a begin first → ValueCode scope b (past begin first) second
+  pub comma_does : (a b : Expr) (first second : List Item) → ValueCode scope a begin first
+      → ValueCode scope b (past begin first) second
       → ValueCode scope (Seq a b) begin (comma_code first second)
   comma_does a b first second one two = record {
     does = λ x site same turns calls v fits lie starts pending deep w c s.
-        then_items x begin first second (λ y u t. With x.program x.room v pending (past begin first) y u t)
-        (λ q. With x.program x.room v pending q) w (record { lie = lie; starts = starts }) (value (scene_at x) (with_turns x turns) a w)
+        then_items x begin first second
+        (λ y u t. With x.program x.room v pending (past begin first) y u t)
+        (λ q. With x.program x.room v pending q) w (record { lie = lie; starts = starts })
+        (value (scene_at x) (with_turns x turns) a w)
         (λ y. value (scene_at x) (with_turns x turns) b) (λ y u. ((nodes_of x turns).values b).at u)
-        (λ l. one.does x site same turns calls v fits l.lie l.starts pending (omega (arith, deep)) w c s)
-        (λ l y u t k. two.does x site same turns calls v fits l.lie l.starts pending (omega (arith, deep)) u t k.stands);
+        (λ l. one.does x site same turns calls v fits l.lie l.starts pending
+        (omega (arith, deep)) w c s)
+        (λ l y u t k. two.does x site same turns calls v fits l.lie l.starts pending
+        (omega (arith, deep)) u t k.stands);
   }
 
-  pub binary_does : (o : Operator) (l r : Expr) (left right : List Item) → ValueCode scope l begin left → ValueCode scope r (past begin left + 4) right
+  pub binary_does : (o : Operator) (l r : Expr) (left right : List Item)
+      → ValueCode scope l begin left → ValueCode scope r (past begin left + 4) right
       → ValueCode scope (Binary o l r) begin (binary_code o left right)
   binary_does o l r left right one two = record {
     does = λ x site same turns calls v fits lie starts pending deep w c s.
         let fewer = with_turns x turns in
-        both_does x begin left right (operator_code o) (value (scene_at x) fewer r) (λ y z. or_stop (binary o y z) (end.Error (pos 11)))
+        both_does x begin left right (operator_code o) (value (scene_at x) fewer r)
+        (λ y z. or_stop (binary o y z) (end.Error (pos 11)))
         (λ y u t. With x.program x.room v pending (past begin left) y u t) (λ y z. z ≡ y)
-        (λ first y u t. With x.program x.room v (first ∷ pending) (past (past begin left + 4) right) y u t) (λ y z. z ≡ y)
-        (λ q. With x.program x.room v pending q) w (record { lie = lie; starts = starts }) (value (scene_at x) fewer l w) (omega (arith, deep))
+        (λ first y u t. With x.program x.room v (first ∷ pending)
+        (past (past begin left + 4) right) y u t) (λ y z. z ≡ y)
+        (λ q. With x.program x.room v pending q) w (record { lie = lie; starts = starts })
+        (value (scene_at x) fewer l w) (omega (arith, deep))
         ((nodes_of x turns).values r) (λ y z. or_stop_grows (binary o y z) (end.Error (pos 11)))
-        (λ k. one.does x site same turns calls v fits k.lie k.starts pending (omega (arith, deep)) w c s)
+        (λ k. one.does x site same turns calls v fits k.lie k.starts pending
+        (omega (arith, deep)) w c s)
         (λ y u t a. value_leaves x a)
-        (λ k first u t a. two.does x site same turns calls v fits k.lie k.starts (first ∷ pending) (omega (arith, deep)) u t a)
+        (λ k first u t a. two.does x site same turns calls v fits k.lie k.starts (first ∷ pending)
+        (omega (arith, deep)) u t a)
         (λ first y u t a. value_leaves x a)
         (λ k y z a b a_is fa b_is fb u t j alt pri.
-        operator_does x y z o (subst (λ n. IsCell n) a_is fa) (subst (λ n. IsCell n) b_is fb) _ t j (pri ∙ b_is) (alt ∙ a_is) k);
+        operator_does x y z o (subst (λ n. IsCell n) a_is fa) (subst (λ n. IsCell n) b_is fb) _ t j
+        (pri ∙ b_is) (alt ∙ a_is) k);
   }

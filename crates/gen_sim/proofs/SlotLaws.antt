@@ -1,5 +1,8 @@
--- Where the slots of the frame that runs are: a local or a plain parameter, and what a parameter refers to.
-use Rattle.std.proofs.Common.{◌≡◌, ◌+◌, ◌-◌, ◌*◌, ◌<◌, ◌≤◌, inl, inr, ℕ, ℤ, pos, neg_ℤ, List, [], ◌∷◌, Option, None, Some, true, false, length, slice_get, refl, sym, ap, subst, ◌∙◌, arith, nat_lt, le-ltb, lt-ltb}
+-- Where the slots of the frame that runs are: a local or a plain parameter, and what a parameter
+-- refers to.
+use Rattle.std.proofs.Common.{◌≡◌, ◌+◌, ◌-◌, ◌*◌, ◌<◌, ◌≤◌, inl, inr, ℕ, ℤ, pos, neg_ℤ, List, []}
+use Rattle.std.proofs.Common.{◌∷◌, Option, None, Some, true, false, length, slice_get, refl, sym}
+use Rattle.std.proofs.Common.{ap, subst, ◌∙◌, arith, nat_lt, le-ltb, lt-ltb}
 use Rattle.pawn_cells.specs.Cells.{bits_of, cell_of, wrapped_sum}
 use Rattle.host_script.specs.declared.event.End.TheVariants as end
 use Rattle.pawn_program.specs.Program.{ScalarSlot}
@@ -36,7 +39,8 @@ each_piece : (P : Piece → Type 0) (ps : List Piece) → ((q : Piece) → P q) 
 each_piece P [] f = tt
 each_piece P (p ∷ ps) f = (f p, each_piece P ps f)
 
-module _ (x : Site) (v : View) {pending : List ℤ} {p : ℕ} {w : World} {c : Config} (s : Stands x.program x.room v pending p w c) where
+module _ (x : Site) (v : View) {pending : List ℤ} {p : ℕ} {w : World} {c : Config}
+    (s : Stands x.program x.room v pending p w c) where
   -- the frame that runs is the view's innermost
   pub running_is : running w.memory ≡ innermost v
   running_is = omega (arith, count_needs w.memory.frames, ap length s.needs)
@@ -50,17 +54,21 @@ module _ (x : Site) (v : View) {pending : List ℤ} {p : ℕ} {w : World} {c : C
       pub placed : PlacedIn x.program x.room v (Thing (Local (innermost v) slot) sizes) first
       pub address : wrapped_sum v.frm (bits_of (slot_offset scope slot)) ≡ 4 * first
 
-    pub local_at : (slot : ℕ) → IsMade scope slot → SlotAt slot (own_sizes (slice_get scope.slots slot))
+    pub local_at : (slot : ℕ) → IsMade scope slot
+        → SlotAt slot (own_sizes (slice_get scope.slots slot))
     local_at slot is =
         let above : scope.params ≤ slot = fits.behind_params slot is in
-        let l = local_stands (innermost v) scope.slots slot scope.made fits.rest is fits.once (fits.nowhere_else slot above).0 in
+        let l =
+        local_stands (innermost v) scope.slots slot scope.made fits.rest is fits.once
+        (fits.nowhere_else slot above).0 in
         let piece = Thing (Local (innermost v) slot) (own_sizes (slice_get scope.slots slot)) in
         let down : ℕ = cells_to scope.slots scope.made slot in
         let all = ap total fits.locals in
         let both = total-append (locals_of (innermost v) scope.slots scope.made) fits.rest in
         let first : ℕ = all_cells x.program x.room + l.behind - total v.high in
         let size = s.mem.size in
-        let offset_is : slot_offset scope slot ≡ neg_ℤ (pos (4 * down)) = let e : nat_lt slot scope.params ≡ false = le-ltb _ _ above in rw e refl in
+        let offset_is : slot_offset scope slot ≡ neg_ℤ (pos (4 * down)) =
+        let e : nat_lt slot scope.params ≡ false = le-ltb _ _ above in rw e refl in
         record {
           first = first;
           placed = record {
@@ -68,57 +76,73 @@ module _ (x : Site) (v : View) {pending : List ℤ} {p : ℕ} {w : World} {c : C
               behind = l.behind;
               stands = subst (λ ps. StandsIn piece ps l.behind) (sym fits.locals) l.stands;
               apart = each_gives (IsOf 0 v.temps) (Apart piece) (low x.program x.room v)
-                  (λ q h. local_apart 0 v.temps (innermost v) slot (own_sizes (slice_get scope.slots slot)) q (omega arith) h) (of_low x.program 0 v.temps);
+                  (λ q h. local_apart 0 v.temps (innermost v) slot
+                  (own_sizes (slice_get scope.slots slot)) q (omega arith) h)
+                  (of_low x.program 0 v.temps);
               place = omega (arith, size);
             });
           };
           address =
               ap (λ z. wrapped_sum v.frm (bits_of z)) offset_is
-              ∙ frame_down v.frm (4 * down) (omega (arith, l.down, fits.frame, all, both, size)) (omega (arith, s.laid.small, s.laid.frame_below))
+              ∙ frame_down v.frm (4 * down) (omega (arith, l.down, fits.frame, all, both, size))
+              (omega (arith, s.laid.small, s.laid.frame_below))
               ∙ omega (arith, l.down, fits.frame, all, both, size);
         }
 
-    pub param_at : (slot : ℕ) → slot < scope.params → slice_get scope.slots slot ≡ Some ScalarSlot → SlotAt slot (1 ∷ [])
+    pub param_at : (slot : ℕ) → slot < scope.params → slice_get scope.slots slot ≡ Some ScalarSlot
+        → SlotAt slot (1 ∷ [])
     param_at slot below kind =
         let h = fits.params slot ScalarSlot below kind in
         let top = below_all h.0 h.1 in
-        let offset_is : slot_offset scope slot ≡ pos (12 + 4 * slot) = let e : nat_lt slot scope.params ≡ true = lt-ltb _ _ below in rw e refl in
+        let offset_is : slot_offset scope slot ≡ pos (12 + 4 * slot) =
+        let e : nat_lt slot scope.params ≡ true = lt-ltb _ _ below in rw e refl in
         record {
           first = h.0;
           placed = h.1;
           address =
-              ap (λ z. wrapped_sum v.frm (bits_of z)) offset_is ∙ frame_up v.frm (12 + 4 * slot) (omega (arith, h.2, top, s.laid.small))
+              ap (λ z. wrapped_sum v.frm (bits_of z)) offset_is
+              ∙ frame_up v.frm (12 + 4 * slot) (omega (arith, h.2, top, s.laid.small))
               ∙ omega (arith, h.2);
         }
       where
-        below_all : (first : ℕ) → PlacedIn x.program x.room v (Thing (Local (innermost v) slot) (1 ∷ [])) first → first < all_cells x.program x.room
+        below_all : (first : ℕ) → PlacedIn x.program x.room v
+            (Thing (Local (innermost v) slot) (1 ∷ [])) first → first < all_cells x.program x.room
         below_all first placed = below_top s.mem placed first (omega arith)
 
-    pub cell_slot_at : (slot : ℕ) → slice_get scope.slots slot ≡ Some ScalarSlot → IsInSight scope slot → SlotAt slot (1 ∷ [])
+    pub cell_slot_at : (slot : ℕ) → slice_get scope.slots slot ≡ Some ScalarSlot
+        → IsInSight scope slot → SlotAt slot (1 ∷ [])
     cell_slot_at slot kind (inl below) = param_at slot below kind
-    cell_slot_at slot kind (inr made) = subst (λ o. SlotAt slot (own_sizes o)) kind (local_at slot made)
+    cell_slot_at slot kind (inr made) =
+        subst (λ o. SlotAt slot (own_sizes o)) kind (local_at slot made)
 
   -- a piece begins within the machine's cells
-  pub first_inside : {piece : Piece} {first : ℕ} → PlacedIn x.program x.room v piece first → first ≤ all_cells x.program x.room
+  pub first_inside : {piece : Piece} {first : ℕ} → PlacedIn x.program x.room v piece first
+      → first ≤ all_cells x.program x.room
   first_inside placed = elim (placed_inside placed) [
     | inl low_one ↦ omega (arith, low_one, s.mem.size)
     | inr high_one ↦ omega (arith, high_one.1)
   ]
 
   -- ADDR.pri gives its address
-  pub addr_is : (offset : ℤ) (first : ℕ) → first ≤ all_cells x.program x.room → wrapped_sum v.frm (bits_of offset) ≡ 4 * first
+  pub addr_is : (offset : ℤ) (first : ℕ) → first ≤ all_cells x.program x.room
+      → wrapped_sum v.frm (bits_of offset) ≡ 4 * first
       → cell_of (in_frame c.state offset) ≡ pos (4 * first)
   addr_is offset first below e =
-      ap (λ n. cell_of (wrapped_sum n (bits_of offset))) s.frame ∙ ap cell_of e ∙ small_cell (4 * first) (omega (arith, below, s.laid.small))
+      ap (λ n. cell_of (wrapped_sum n (bits_of offset))) s.frame ∙ ap cell_of e
+      ∙ small_cell (4 * first) (omega (arith, below, s.laid.small))
 
   -- ---- a parameter that refers
 
   module _ (slot : ℕ) {A : Type 0} {js : List Item} {Q : A → World → Config → Type 0} where
-    loads_param : (go : Reference → Run A) → Lies x p (Plain (with op.LoadSPri (pos (12 + 4 * slot))) ∷ js)
-        → ((r : Reference) → v.params (innermost v) slot ≡ Some r → (cell : ℕ) → RefersTo x.program x.room v r cell → (t : Config)
-        → Stands x.program x.room v pending (p + 8) w t → t.state.pri ≡ pos (4 * cell) → DoesAt x (length (item_cells js)) w t (go r w) Q)
+    loads_param : (go : Reference → Run A)
+        → Lies x p (Plain (with op.LoadSPri (pos (12 + 4 * slot))) ∷ js)
+        → ((r : Reference) → v.params (innermost v) slot ≡ Some r → (cell : ℕ)
+        → RefersTo x.program x.room v r cell → (t : Config)
+        → Stands x.program x.room v pending (p + 8) w t → t.state.pri ≡ pos (4 * cell)
+        → DoesAt x (length (item_cells js)) w t (go r w) Q)
         → (o : Option Reference) → v.params (innermost v) slot ≡ o
-        → DoesAt x (length (item_cells (Plain (with op.LoadSPri (pos (12 + 4 * slot))) ∷ js))) w c (then_do (or_stop o end.Stray w) go) Q
+        → DoesAt x (length (item_cells (Plain (with op.LoadSPri (pos (12 + 4 * slot))) ∷ js))) w c
+        (then_do (or_stop o end.Stray w) go) Q
     loads_param go l next None e = stray x s
     loads_param go l next (Some r) e =
         let at = s.laid.refs slot r e in
@@ -141,22 +165,33 @@ module _ (x : Site) (v : View) {pending : List ℤ} {p : ℕ} {w : World} {c : C
           });
         } in
         let r0 = mem_read s.mem placed 0 (pos (4 * at.cell)) refl in
-        let reads : Reads c.state first (pos (4 * at.cell)) = subst (λ n. Reads c.state n (pos (4 * at.cell))) (omega arith) r0 in
+        let reads : Reads c.state first (pos (4 * at.cell)) =
+        subst (λ n. Reads c.state n (pos (4 * at.cell))) (omega arith) r0 in
         let top = below_top s.mem placed first (omega arith) in
         let address : in_frame c.state (pos (12 + 4 * slot)) ≡ 4 * first =
         ap (λ n. wrapped_sum n (bits_of (pos (12 + 4 * slot)))) s.frame
-        ∙ frame_up v.frm (12 + 4 * slot) (omega (arith, at.place, size, top, s.laid.small)) ∙ omega (arith, at.place, size) in
+        ∙ frame_up v.frm (12 + 4 * slot) (omega (arith, at.place, size, top, s.laid.small))
+        ∙ omega (arith, at.place, size) in
         let t : State = record c.state { pri = pos (4 * at.cell); cip = p + 8 } in
         one_item x (with op.LoadSPri (pos (12 + 4 * slot))) js w
-        (goes x s (with op.LoadSPri (pos (12 + 4 * slot))) l.lie.0 t (rw (address, reads.live, reads.value) refl)
-        (next r e at.cell at.refers (record c { state = t }) (stands_on x.program x.room s (p + 8) t refl refl refl refl refl) refl))
+        (goes x s (with op.LoadSPri (pos (12 + 4 * slot))) l.lie.0 t
+        (rw (address, reads.live, reads.value) refl)
+        (next r e at.cell at.refers (record c { state = t })
+        (stands_on x.program x.room s (p + 8) t refl refl refl refl refl) refl))
 
     -- LOAD.S.pri gives the address of what it refers to
-    pub param_loads : (go : Reference → Run A) → Lies x p (Plain (with op.LoadSPri (pos (12 + 4 * slot))) ∷ js)
-        → ((r : Reference) → v.params (innermost v) slot ≡ Some r → (cell : ℕ) → RefersTo x.program x.room v r cell → (t : Config)
-        → Stands x.program x.room v pending (p + 8) w t → t.state.pri ≡ pos (4 * cell) → DoesAt x (length (item_cells js)) w t (go r w) Q)
-        → DoesAt x (length (item_cells (Plain (with op.LoadSPri (pos (12 + 4 * slot))) ∷ js))) w c (then_do (look (through slot) w) go) Q
+    pub param_loads : (go : Reference → Run A)
+        → Lies x p (Plain (with op.LoadSPri (pos (12 + 4 * slot))) ∷ js)
+        → ((r : Reference) → v.params (innermost v) slot ≡ Some r → (cell : ℕ)
+        → RefersTo x.program x.room v r cell → (t : Config)
+        → Stands x.program x.room v pending (p + 8) w t → t.state.pri ≡ pos (4 * cell)
+        → DoesAt x (length (item_cells js)) w t (go r w) Q)
+        → DoesAt x (length (item_cells (Plain (with op.LoadSPri (pos (12 + 4 * slot))) ∷ js))) w c
+        (then_do (look (through slot) w) go) Q
     param_loads go l next =
-        let same : through slot w.memory ≡ v.params (innermost v) slot = s.params (running w.memory) slot ∙ ap (λ k. v.params k slot) running_is in
-        subst (λ o. DoesAt x (length (item_cells (Plain (with op.LoadSPri (pos (12 + 4 * slot))) ∷ js))) w c (then_do (or_stop o end.Stray w) go) Q) (sym same)
+        let same : through slot w.memory ≡ v.params (innermost v) slot =
+        s.params (running w.memory) slot ∙ ap (λ k. v.params k slot) running_is in
+        subst (λ o. DoesAt x (length (item_cells
+        (Plain (with op.LoadSPri (pos (12 + 4 * slot))) ∷ js))) w c
+        (then_do (or_stop o end.Stray w) go) Q) (sym same)
         (loads_param go l next (v.params (innermost v) slot) refl)

@@ -1,5 +1,8 @@
 -- A machine that stands for a world, with a stack: what each instruction does to it.
-use Rattle.std.proofs.Common.{◌≡◌, ◌+◌, ◌-◌, ◌*◌, ◌/◌, ◌<◌, ◌≤◌, ℕ, suc, ℤ, pos, List, ◌∷◌, ◌++◌, true, false, Some, length, drop, sum, nat_le, nat_lt, slice_set, get_or, refl, sym, ap, ◌∙◌, arith, le-leb, lt-ltb, drop-cons, length-set, length-append, drop-drop}
+use Rattle.std.proofs.Common.{◌≡◌, ◌+◌, ◌-◌, ◌*◌, ◌/◌, ◌<◌, ◌≤◌, ℕ, suc, ℤ, pos, List, ◌∷◌, ◌++◌}
+use Rattle.std.proofs.Common.{true, false, Some, length, drop, sum, nat_le, nat_lt, slice_set}
+use Rattle.std.proofs.Common.{get_or, refl, sym, ap, ◌∙◌, arith, le-leb, lt-ltb, drop-cons}
+use Rattle.std.proofs.Common.{length-set, length-append, drop-drop}
 use Rattle.std.proofs.Math.Seq.{drop-append_seam}
 use Rattle.std.proofs.lemmas.Bool.{lt-leb}
 use Rattle.std.proofs.lemmas.Grind.{drop-set_at}
@@ -156,4 +159,5 @@ module _ (amx : Amx) (script : Script) where
       → mv c ≡ moved amx script c (act amx i.op (instr i).operand
       (p + 4 * (instr i).cells) c.state)
   move_is c p i e f =
-      ap (λ q. moved amx script c (act_on amx (fetched amx.code q) c.state)) e ∙ rw (f, acts_as i, e) refl
+      ap (λ q. moved amx script c (act_on amx (fetched amx.code q) c.state)) e
+      ∙ rw (f, acts_as i, e) refl

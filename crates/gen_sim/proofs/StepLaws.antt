@@ -1,11 +1,15 @@
 -- What single instructions do to a machine that stands for a world.
-use Rattle.std.proofs.Common.{◌≡◌, ◌+◌, ◌*◌, ◌-◌, ◌/◌, ◌^◌, ◌<◌, ◌≤◌, ℕ, zero, suc, ℤ, pos, negsuc, List, [], ◌∷◌, Option, None, Some, Bool, true, false, length, sum, slice_set, nat_lt, refl, ap, ◌∙◌, arith, length-append, le-ltb, lt-ltb}
+use Rattle.std.proofs.Common.{◌≡◌, ◌+◌, ◌*◌, ◌-◌, ◌/◌, ◌^◌, ◌<◌, ◌≤◌, ℕ, zero, suc, ℤ, pos, negsuc}
+use Rattle.std.proofs.Common.{List, [], ◌∷◌, Option, None, Some, Bool, true, false, length, sum}
+use Rattle.std.proofs.Common.{slice_set, nat_lt, refl, ap, ◌∙◌, arith, length-append, le-ltb}
+use Rattle.std.proofs.Common.{lt-ltb}
 use Rattle.std.proofs.lemmas.Bool.{ltb-true, ltb-false}
 use Rattle.pawn_cells.specs.Cells.{IsCell, bits_of}
 use Rattle.host_script.specs.declared.event.End.TheVariants as end
 use Rattle.pawn_meaning.specs.Memory.{Memory, Name, Cell, read, write, write_cells, read_cell}
 use Rattle.pawn_meaning.specs.World.{World}
-use Rattle.pawn_meaning.specs.Run.{Outcome, Gives, Stops, Run, Done, done, then_do, or_stop, changed}
+use Rattle.pawn_meaning.specs.Run.{Outcome, Gives, Stops, Run, Done, done, then_do, or_stop}
+use Rattle.pawn_meaning.specs.Run.{changed}
 use Rattle.pawn_meaning.specs.References.{index}
 use Rattle.pawn_meaning.specs.Later.{Later, world_of}
 use Rattle.amx_ops.specs.declared.op.Op.TheVariants as op
@@ -21,19 +25,24 @@ use Rattle.gen_sim.specs.Pieces.{Thing, extent}
 use Rattle.gen_sim.specs.View.{View, kept, used, CellAt}
 use Rattle.gen_sim.specs.Stands.{Stands, With}
 use Rattle.gen_sim.proofs.MemLaws.{live_in, below_top, same_mem}
-use Rattle.gen_sim.proofs.ChangeLaws.{pushed_on, push_goes, push_errs, pushed_mem, dropped_mem, pop_goes}
+use Rattle.gen_sim.proofs.ChangeLaws.{pushed_on, push_goes, push_errs, pushed_mem, dropped_mem}
+use Rattle.gen_sim.proofs.ChangeLaws.{pop_goes}
 use Rattle.gen_sim.proofs.WorldLaws.{stands_on, cell_reads, cell_written}
 use Rattle.gen_sim.specs.Site.{Site, DoesAt}
 use Rattle.gen_sim.specs.Items.{with}
 
 module _ (x : Site) where
   -- what one move is, where an instruction is fetched
-  pub move_is : (c : Config) (p : ℕ) (it : Written) → c.state.cip ≡ p → fetched x.amx.code p ≡ Some (read_as it)
-      → move x.amx x.script c ≡ moved x.amx x.script c (act x.amx it.op it.operand (p + 4 * length (cells_of it)) c.state)
+  pub move_is : (c : Config) (p : ℕ) (it : Written) → c.state.cip ≡ p
+      → fetched x.amx.code p ≡ Some (read_as it)
+      → move x.amx x.script c ≡ moved x.amx x.script c
+      (act x.amx it.op it.operand (p + 4 * length (cells_of it)) c.state)
   move_is c p it e f =
-      ap (λ q. moved x.amx x.script c (act_on x.amx (fetched x.amx.code q) c.state)) e ∙ rw (f, op_is it.op, e) refl
+      ap (λ q. moved x.amx x.script c (act_on x.amx (fetched x.amx.code q) c.state)) e
+      ∙ rw (f, op_is it.op, e) refl
 
-  module _ {A : Type 0} {d : ℕ} {o : Outcome A} {Q : A → World → Config → Type 0} {v : View} {pending : List ℤ} {p : ℕ} {w : World} {c : Config}
+  module _ {A : Type 0} {d : ℕ} {o : Outcome A} {Q : A → World → Config → Type 0} {v : View}
+      {pending : List ℤ} {p : ℕ} {w : World} {c : Config}
       (a : Stands x.program x.room v pending p w c) where
     -- an instruction that shows nothing goes before what follows
     pub goes : (it : Written) → fetched x.amx.code p ≡ Some (read_as it) → (t : State)
@@ -45,9 +54,12 @@ module _ (x : Site) where
 
     -- a push: where no cell is free, more is needed than there is
     pub pushes : (it : Written) → fetched x.amx.code p ≡ Some (read_as it) → (y : ℤ)
-        → act x.amx it.op it.operand (p + 4 * length (cells_of it)) c.state ≡ push c.state y (at_next (p + 4 * length (cells_of it)))
-        → IsCell y → used x.program x.room v pending ≤ kept x.program x.room + sum v.needs + 15 → Later w (world_of o)
-        → ((t : Config) → Stands x.program x.room v (y ∷ pending) (p + 4 * length (cells_of it)) w t → t.state.pri ≡ c.state.pri
+        → act x.amx it.op it.operand (p + 4 * length (cells_of it)) c.state
+        ≡ push c.state y (at_next (p + 4 * length (cells_of it)))
+        → IsCell y → used x.program x.room v pending ≤ kept x.program x.room + sum v.needs + 15
+        → Later w (world_of o)
+        → ((t : Config) → Stands x.program x.room v (y ∷ pending) (p + 4 * length (cells_of it)) w t
+        → t.state.pri ≡ c.state.pri
         → t.state.alt ≡ c.state.alt → DoesAt x d w t o Q)
         → DoesAt x (1 + d) w c o Q
     pushes it f y e fit deep l next = by_free (length a.mem.free) refl
@@ -56,11 +68,13 @@ module _ (x : Site) where
         by_free zero n =
             short_here (move x.amx x.script) (length x.amx.code) x.room d c c w o
             (move_is c p it a.at f
-            ∙ ap (λ z. moved x.amx x.script c z) (e ∙ push_errs a.mem y (at_next (p + 4 * length (cells_of it))) n)) a.said
+            ∙ ap (λ z. moved x.amx x.script c z)
+            (e ∙ push_errs a.mem y (at_next (p + 4 * length (cells_of it))) n)) a.said
             (omega (arith, a.mem.size, length-append a.mem.free pending, n, deep, a.most)) l
         by_free (suc k) n =
             let t : State = record (pushed_on c.state y) { cip = p + 4 * length (cells_of it) } in
-            goes it f t (e ∙ push_goes a.mem y (at_next (p + 4 * length (cells_of it))) (omega (arith, n)))
+            goes it f t (e ∙ push_goes a.mem y (at_next (p + 4 * length (cells_of it)))
+            (omega (arith, n)))
             (next (record c { state = t }) (record {
               mem = same_mem (pushed_mem a.mem y fit (omega (arith, n))) t refl refl refl;
               frame = a.frame;
@@ -76,7 +90,8 @@ module _ (x : Site) where
 
   -- ---- ends
 
-  module _ {A : Type 0} {Q : A → World → Config → Type 0} {v : View} {pending : List ℤ} {p : ℕ} {w : World} {c : Config}
+  module _ {A : Type 0} {Q : A → World → Config → Type 0} {v : View} {pending : List ℤ} {p : ℕ}
+      {w : World} {c : Config}
       (a : Stands x.program x.room v pending p w c) where
     -- nothing is claimed from a stray access on
     pub stray : {d : ℕ} → DoesAt x d w c (Stops end.Stray w) Q
@@ -104,8 +119,10 @@ module _ (x : Site) where
 
   -- ---- pops
 
-  pub popped_stands : {v : View} {y : ℤ} {pending : List ℤ} {p : ℕ} {w : World} {c : Config} → Stands x.program x.room v (y ∷ pending) p w c
-      → (q : ℕ) (t : State) → t.cells ≡ c.state.cells → t.hea ≡ c.state.hea → t.stk ≡ c.state.stk + 4 → t.frm ≡ c.state.frm → t.cip ≡ q
+  pub popped_stands : {v : View} {y : ℤ} {pending : List ℤ} {p : ℕ} {w : World} {c : Config}
+      → Stands x.program x.room v (y ∷ pending) p w c
+      → (q : ℕ) (t : State) → t.cells ≡ c.state.cells → t.hea ≡ c.state.hea
+      → t.stk ≡ c.state.stk + 4 → t.frm ≡ c.state.frm → t.cip ≡ q
       → Stands x.program x.room v pending q w (record c { state = t })
   popped_stands {y = y} a q t e f g h i = record {
     mem = dropped_mem (y ∷ []) a.mem t e f g;
@@ -120,35 +137,47 @@ module _ (x : Site) where
     temps = a.temps;
   }
 
-  module _ {A : Type 0} {d : ℕ} {o : Outcome A} {Q : A → World → Config → Type 0} {v : View} {y : ℤ} {pending : List ℤ} {p : ℕ} {w : World} {c : Config}
+  module _ {A : Type 0} {d : ℕ} {o : Outcome A} {Q : A → World → Config → Type 0} {v : View} {y : ℤ}
+      {pending : List ℤ} {p : ℕ} {w : World} {c : Config}
       (a : Stands x.program x.room v (y ∷ pending) p w c) where
     pub pop_alt_does : fetched x.amx.code p ≡ Some (read_as (with op.PopAlt (pos 0)))
-        → ((t : Config) → Stands x.program x.room v pending (p + 4) w t → t.state.alt ≡ y → t.state.pri ≡ c.state.pri → DoesAt x d w t o Q)
+        → ((t : Config) → Stands x.program x.room v pending (p + 4) w t → t.state.alt ≡ y
+        → t.state.pri ≡ c.state.pri → DoesAt x d w t o Q)
         → DoesAt x (1 + d) w c o Q
     pop_alt_does f next =
         let t : State = record c.state { stk = c.state.stk + 4; alt = y; cip = p + 4 } in
-        goes a (with op.PopAlt (pos 0)) f t (pop_goes a.mem (λ z u. at_next (p + 4) (record u { alt = z })))
-        (next (record c { state = t }) (popped_stands a (p + 4) t refl refl refl refl refl) refl refl)
+        goes a (with op.PopAlt (pos 0)) f t
+        (pop_goes a.mem (λ z u. at_next (p + 4) (record u { alt = z })))
+        (next (record c { state = t }) (popped_stands a (p + 4) t refl refl refl refl refl)
+        refl refl)
 
     pub pop_pri_does : fetched x.amx.code p ≡ Some (read_as (with op.PopPri (pos 0)))
-        → ((t : Config) → Stands x.program x.room v pending (p + 4) w t → t.state.pri ≡ y → t.state.alt ≡ c.state.alt → DoesAt x d w t o Q)
+        → ((t : Config) → Stands x.program x.room v pending (p + 4) w t → t.state.pri ≡ y
+        → t.state.alt ≡ c.state.alt → DoesAt x d w t o Q)
         → DoesAt x (1 + d) w c o Q
     pop_pri_does f next =
         let t : State = record c.state { stk = c.state.stk + 4; pri = y; cip = p + 4 } in
-        goes a (with op.PopPri (pos 0)) f t (pop_goes a.mem (λ z u. at_next (p + 4) (record u { pri = z })))
-        (next (record c { state = t }) (popped_stands a (p + 4) t refl refl refl refl refl) refl refl)
+        goes a (with op.PopPri (pos 0)) f t
+        (pop_goes a.mem (λ z u. at_next (p + 4) (record u { pri = z })))
+        (next (record c { state = t }) (popped_stands a (p + 4) t refl refl refl refl refl)
+        refl refl)
 
   -- ---- cells of objects
 
-  module _ {A : Type 0} {d : ℕ} {Q : A → World → Config → Type 0} {v : View} {pending : List ℤ} {p : ℕ} {w : World} {c : Config}
-      (a : Stands x.program x.room v pending p w c) {name : Name} {i cell : ℕ} (at : CellAt x.program x.room v name i cell) where
+  module _ {A : Type 0} {d : ℕ} {Q : A → World → Config → Type 0} {v : View} {pending : List ℤ}
+      {p : ℕ} {w : World} {c : Config}
+      (a : Stands x.program x.room v pending p w c) {name : Name} {i cell : ℕ}
+      (at : CellAt x.program x.room v name i cell) where
     -- LOAD.I: a cell is read at its address in PRI
-    pub load_does : c.state.pri ≡ pos (4 * cell) → fetched x.amx.code p ≡ Some (read_as (with op.LoadI (pos 0))) → (go : ℤ → Run A)
-        → ((y : ℤ) (t : Config) → With x.program x.room v pending (p + 4) y w t → t.state.alt ≡ c.state.alt → DoesAt x d w t (go y w) Q)
+    pub load_does : c.state.pri ≡ pos (4 * cell)
+        → fetched x.amx.code p ≡ Some (read_as (with op.LoadI (pos 0))) → (go : ℤ → Run A)
+        → ((y : ℤ) (t : Config) → With x.program x.room v pending (p + 4) y w t
+        → t.state.alt ≡ c.state.alt → DoesAt x d w t (go y w) Q)
         → DoesAt x (1 + d) w c (then_do (or_stop (read (Cell name i) w.memory) end.Stray w) go) Q
     load_does e f go next = by_value (read_cell name i w.memory) refl
       where
-        by_value : (o : Option ℤ) → read_cell name i w.memory ≡ o → DoesAt x (1 + d) w c (then_do (or_stop o end.Stray w) go) Q
+        by_value : (o : Option ℤ) → read_cell name i w.memory ≡ o
+            → DoesAt x (1 + d) w c (then_do (or_stop o end.Stray w) go) Q
         by_value None o = stray a
         by_value (Some y) o =
             let r = cell_reads x.program x.room a at y o in
@@ -163,22 +192,27 @@ module _ (x : Site) where
     -- STOR.I: PRI is written at the address in ALT
     pub store_does : (y : ℤ) → c.state.pri ≡ y → IsCell y → c.state.alt ≡ pos (4 * cell)
         → fetched x.amx.code p ≡ Some (read_as (with op.StorI (pos 0))) → (go : Done → Run A)
-        → ((n : Memory) (t : Config) → With x.program x.room v pending (p + 4) y (record w { memory = n }) t
+        → ((n : Memory) (t : Config) → With x.program x.room v pending (p + 4) y
+        (record w { memory = n }) t
         → DoesAt x d w t (go done (record w { memory = n })) Q)
         → DoesAt x (1 + d) w c (then_do (changed (write (Cell name i) y w.memory) w) go) Q
     store_does y k fit e f go next = by_memory (write_cells name i (y ∷ []) w.memory) refl
       where
-        by_memory : (o : Option Memory) → write_cells name i (y ∷ []) w.memory ≡ o → DoesAt x (1 + d) w c (then_do (changed o w) go) Q
+        by_memory : (o : Option Memory) → write_cells name i (y ∷ []) w.memory ≡ o
+            → DoesAt x (1 + d) w c (then_do (changed o w) go) Q
         by_memory None o = stray a
         by_memory (Some n) o =
-            let inside : cell < at.first + extent (Thing name at.sizes) = omega (arith, at.cell_is, at.inside) in
+            let inside : cell < at.first + extent (Thing name at.sizes) =
+            omega (arith, at.cell_is, at.inside) in
             let live = live_in a.mem at.placed cell (omega (arith, at.cell_is)) inside in
             let j : 4 * cell / 4 ≡ cell = omega arith in
-            let t : State = record c.state { cells = slice_set c.state.cells cell y; cip = p + 4 } in
+            let t : State =
+            record c.state { cells = slice_set c.state.cells cell y; cip = p + 4 } in
             goes a (with op.StorI (pos 0)) f t (rw (e, live, k, j) refl)
             (next n (record c { state = t }) (record {
               stands =
-                  cell_written x.program x.room a at y fit n o (below_top a.mem at.placed cell inside) (p + 4) t refl refl refl refl refl;
+                  cell_written x.program x.room a at y fit n o
+                  (below_top a.mem at.placed cell inside) (p + 4) t refl refl refl refl refl;
               value = k;
               fits = fit;
             }))
@@ -200,12 +234,16 @@ module _ (x : Site) where
   BoundsLie true n p = fetched x.amx.code p ≡ Some (read_as (with op.Bounds (pos (n - 1))))
   BoundsLie false n p = Unit {0}
 
-  -- an index in PRI, below a size that the world knows: error 4 outside where the code tests it, and outside the part
-  -- of an open array nothing is claimed
-  module _ {A : Type 0} (d : ℕ) {Q : A → World → Config → Type 0} {v : View} {pending : List ℤ} {p : ℕ} {w : World} {c : Config} (size : ℕ) (go : ℕ → Run A) where
-    known_by : (n i : ℕ) → size ≡ n → 1 ≤ n → With x.program x.room v pending p (pos i) w c → BoundsLie true n p
-        → ((j : ℕ) → j < size → (t : Config) → With x.program x.room v pending (p + 8) (pos j) w t → DoesAt x d w t (go j w) Q)
-        → (b : Bool) → nat_lt i size ≡ b → DoesAt x (1 + d) w c (then_do (index true size (pos i) w) go) Q
+  -- an index in PRI, below a size that the world knows: error 4 outside where the code tests it,
+  -- and outside the part of an open array nothing is claimed
+  module _ {A : Type 0} (d : ℕ) {Q : A → World → Config → Type 0} {v : View} {pending : List ℤ}
+      {p : ℕ} {w : World} {c : Config} (size : ℕ) (go : ℕ → Run A) where
+    known_by : (n i : ℕ) → size ≡ n → 1 ≤ n → With x.program x.room v pending p (pos i) w c
+        → BoundsLie true n p
+        → ((j : ℕ) → j < size → (t : Config) → With x.program x.room v pending (p + 8) (pos j) w t
+        → DoesAt x d w t (go j w) Q)
+        → (b : Bool) → nat_lt i size ≡ b
+        → DoesAt x (1 + d) w c (then_do (index true size (pos i) w) go) Q
     known_by n i k m a f next true e =
         let below : nat_lt (n - 1) i ≡ false = le-ltb _ _ (omega (arith, ltb-true _ _ e, k)) in
         let t : State = record c.state { cip = p + 8 } in
@@ -219,24 +257,32 @@ module _ (x : Site) where
         let above : nat_lt (n - 1) i ≡ true = lt-ltb _ _ (omega (arith, ltb-false _ _ e, k, m)) in
         rw e (errs a.stands d (with op.Bounds (pos (n - 1))) f (pos 4) (rw (a.value, above) refl))
 
-    known_below : (n i : ℕ) → 1 ≤ n → n ≤ 2 ^ 31 → With x.program x.room v pending p (negsuc i) w c → BoundsLie true n p
+    known_below : (n i : ℕ) → 1 ≤ n → n ≤ 2 ^ 31 → With x.program x.room v pending p (negsuc i) w c
+        → BoundsLie true n p
         → DoesAt x (1 + d) w c (then_do (index true size (negsuc i) w) go) Q
     known_below n i m top a f =
-        let above : nat_lt (n - 1) (bits_of (negsuc i)) ≡ true = lt-ltb _ _ (omega (arith, a.fits.sfits, m, top)) in
+        let above : nat_lt (n - 1) (bits_of (negsuc i)) ≡ true =
+        lt-ltb _ _ (omega (arith, a.fits.sfits, m, top)) in
         errs a.stands d (with op.Bounds (pos (n - 1))) f (pos 4) (rw (a.value, above) refl)
 
     open_by : (i : ℕ) → With x.program x.room v pending p (pos i) w c
-        → ((j : ℕ) → j < size → (t : Config) → With x.program x.room v pending p (pos j) w t → DoesAt x d w t (go j w) Q)
-        → (b : Bool) → nat_lt i size ≡ b → DoesAt x d w c (then_do (index false size (pos i) w) go) Q
+        → ((j : ℕ) → j < size → (t : Config) → With x.program x.room v pending p (pos j) w t
+        → DoesAt x d w t (go j w) Q)
+        → (b : Bool) → nat_lt i size ≡ b
+        → DoesAt x d w c (then_do (index false size (pos i) w) go) Q
     open_by i a next true e = rw e (next i (ltb-true _ _ e) c a)
     open_by i a next false e = rw e (stray a.stands)
 
-    pub index_does : (known : Bool) (n : ℕ) (y : ℤ) → (known ≡ true → (size ≡ n) × (1 ≤ n) × (n ≤ 2 ^ 31))
+    pub index_does : (known : Bool) (n : ℕ) (y : ℤ)
+        → (known ≡ true → (size ≡ n) × (1 ≤ n) × (n ≤ 2 ^ 31))
         → With x.program x.room v pending p y w c → BoundsLie known n p
-        → ((j : ℕ) → j < size → (t : Config) → With x.program x.room v pending (behind_bounds known p) (pos j) w t → DoesAt x d w t (go j w) Q)
+        → ((j : ℕ) → j < size → (t : Config)
+        → With x.program x.room v pending (behind_bounds known p) (pos j) w t
+        → DoesAt x d w t (go j w) Q)
         → DoesAt x (length (bounds known n) + d) w c (then_do (index known size y w) go) Q
     index_does true n (pos i) k a l next = known_by n i (k refl).0 (k refl).1 a l next _ refl
     index_does true n (negsuc i) k a l next = known_below n i (k refl).1 (k refl).2 a l
     index_does false n (pos i) k a l next =
-        size_is (move x.amx x.script) (length x.amx.code) x.room (omega arith) (open_by i a next _ refl)
+        size_is (move x.amx x.script) (length x.amx.code) x.room (omega arith)
+        (open_by i a next _ refl)
     index_does false n (negsuc i) k a l next = stray a.stands

@@ -1,5 +1,8 @@
 -- What each instruction does to a machine that stands for a world.
-use Rattle.std.proofs.Common.{◌≡◌, ◌+◌, ◌-◌, ◌*◌, ◌/◌, ◌%◌, ◌≤◌, inl, inr, ℕ, zero, suc, ℤ, pos, List, ◌∷◌, ◌++◌, true, ◌==◌, Some, length, drop, sum, nat_le, nat_lt, refl, ap, subst, ◌∙◌, arith, le-leb, lt-ltb, eq-eqb, length-append, length-set}
+use Rattle.std.proofs.Common.{◌≡◌, ◌+◌, ◌-◌, ◌*◌, ◌/◌, ◌%◌, ◌≤◌, inl, inr, ℕ, zero, suc, ℤ, pos}
+use Rattle.std.proofs.Common.{List, ◌∷◌, ◌++◌, true, ◌==◌, Some, length, drop, sum, nat_le, nat_lt}
+use Rattle.std.proofs.Common.{refl, ap, subst, ◌∙◌, arith, le-leb, lt-ltb, eq-eqb, length-append}
+use Rattle.std.proofs.Common.{length-set}
 use Rattle.std.proofs.Math.Seq.{take-append_seam}
 use Rattle.host_script.specs.declared.script.Script.{Script}
 use Rattle.host_script.specs.declared.event.End.TheVariants.{Done, Exit}
@@ -16,8 +19,11 @@ use Rattle.amx_ops.specs.Moves.{Config, moved, move, arguments}
 use Rattle.gen_sim.proofs.Orders.{either}
 use Rattle.gen_sim.specs.Does.{Running, Closed, Reach, Does}
 use Rattle.gen_sim.proofs.Sim.{goes_one, ends_one, reach_after, step_then, short_here}
-use Rattle.gen_sim.proofs.Stands.{Mem, mem_as, pushed_on, pushed_mem, push_goes, push_errs, popped, popped_mem, pop_goes, cell_is, rest_is, margin_goes, margin_errs, dropped_mem, At, With, move_is}
-use Rattle.gen_sim.specs.Cells.{begin_frame, clear_alt, clear_pri, end_frame, halt_with, load_const, move_stk, push_const}
+use Rattle.gen_sim.proofs.Stands.{Mem, mem_as, pushed_on, pushed_mem, push_goes, push_errs, popped}
+use Rattle.gen_sim.proofs.Stands.{popped_mem, pop_goes, cell_is, rest_is, margin_goes, margin_errs}
+use Rattle.gen_sim.proofs.Stands.{dropped_mem, At, With, move_is}
+use Rattle.gen_sim.specs.Cells.{begin_frame, clear_alt, clear_pri, end_frame, halt_with, load_const}
+use Rattle.gen_sim.specs.Cells.{move_stk, push_const}
 
 -- the arguments above their count of bytes
 pub arguments_are : (vs stack : List ℤ) (n : ℕ) (s : State) → Mem (pos n ∷ (vs ++ stack)) s

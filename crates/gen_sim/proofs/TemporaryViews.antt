@@ -1,6 +1,9 @@
 -- What holds of a view holds of it with temporary arguments more.
-use Rattle.std.proofs.Common.{◌≡◌, ◌+◌, ◌≤◌, ℕ, zero, suc, ℤ, List, [], ◌∷◌, length, sum, refl, sym, ap, subst, ◌∙◌, arith}
-use Rattle.pawn_program.specs.Program.{Slot, ScalarSlot, ReferenceSlot, ArraySlot, OpenSlot, Program, Arg, Value, Ref, Whole, Temp, Args, no_args, then_arg}
+use Rattle.std.proofs.Common.{◌≡◌, ◌+◌, ◌≤◌, ℕ, zero, suc, ℤ, List, [], ◌∷◌, length, sum, refl, sym}
+use Rattle.std.proofs.Common.{ap, subst, ◌∙◌, arith}
+use Rattle.pawn_program.specs.Program.{Slot, ScalarSlot, ReferenceSlot, ArraySlot, OpenSlot}
+use Rattle.pawn_program.specs.Program.{Program, Arg, Value, Ref, Whole, Temp, Args, no_args}
+use Rattle.pawn_program.specs.Program.{then_arg}
 use Rattle.pawn_program.specs.Scope.{Scope}
 use Rattle.pawn_program.specs.ValidExprs.{ArgsAgree}
 use Rattle.pawn_meaning.specs.Memory.{Local, Temporary}
@@ -21,18 +24,25 @@ use Rattle.gen_sim.proofs.TemporaryLaws.{with_temporaries_is}
 module _ (program : Program) (room : ℕ) where
   -- ---- fits
 
-  param_fits : (v : View) (s : ℕ) (kind : Slot) → 1 ≤ depth v → ParamFits program room v s kind → ParamFits program room (with_temporary v) s kind
+  param_fits : (v : View) (s : ℕ) (kind : Slot) → 1 ≤ depth v → ParamFits program room v s kind
+      → ParamFits program room (with_temporary v) s kind
   param_fits v s ScalarSlot deep h = (
     h.0,
-    subst (λ l. Placed (all_cells program room) l v.high (Thing (Local (innermost v) s) (1 ∷ [])) h.0) (sym (more_low program room v))
-        (placed_behind (Thing (Temporary v.temps) (1 ∷ []) ∷ []) (earlier_apart (depth v) v.temps (Local (innermost v) s) (1 ∷ []) (1 ∷ []) (omega (arith, deep)), tt) h.1),
+    subst (λ l. Placed (all_cells program room) l v.high
+        (Thing (Local (innermost v) s) (1 ∷ [])) h.0) (sym (more_low program room v))
+        (placed_behind (Thing (Temporary v.temps) (1 ∷ []) ∷ []) (
+          earlier_apart (depth v) v.temps (Local (innermost v) s) (1 ∷ []) (1 ∷ [])
+              (omega (arith, deep)),
+          tt,
+        ) h.1),
     h.2,
   )
   param_fits v s ReferenceSlot deep h = h
   param_fits v s (ArraySlot sizes) deep h = h
   param_fits v s (OpenSlot inner) deep h = h
 
-  temporary_fits : (scope : Scope) (v : View) → Fits program room scope v → Fits program room scope (with_temporary v)
+  temporary_fits : (scope : Scope) (v : View) → Fits program room scope v
+      → Fits program room scope (with_temporary v)
   temporary_fits scope v h = record {
     rest = h.rest;
     locals = h.locals;
@@ -44,20 +54,26 @@ module _ (program : Program) (room : ℕ) where
     deep = h.deep;
   }
 
-  pub temporaries_fit : (n : ℕ) (scope : Scope) (v : View) → Fits program room scope v → Fits program room scope (with_temporaries n v)
+  pub temporaries_fit : (n : ℕ) (scope : Scope) (v : View) → Fits program room scope v
+      → Fits program room scope (with_temporaries n v)
   temporaries_fit zero scope v h = h
-  temporaries_fit (suc n) scope v h = temporary_fits scope (with_temporaries n v) (temporaries_fit n scope v h)
+  temporaries_fit (suc n) scope v h =
+      temporary_fits scope (with_temporaries n v) (temporaries_fit n scope v h)
 
   -- ---- arguments that were evaluated
 
-  pub arguments_stay : (n : ℕ) (v : View) (held : List Held) (cells : List ℤ) → HoldArguments program room v held cells
+  pub arguments_stay : (n : ℕ) (v : View) (held : List Held) (cells : List ℤ)
+      → HoldArguments program room v held cells
       → HoldArguments program room (with_temporaries n v) held cells
   arguments_stay zero v held cells h = h
-  arguments_stay (suc n) v held cells h = temporary_arguments program room (with_temporaries n v) held cells (arguments_stay n v held cells h)
+  arguments_stay (suc n) v held cells h =
+      temporary_arguments program room (with_temporaries n v) held cells
+      (arguments_stay n v held cells h)
 
   -- ---- cells in use
 
-  pub used_more : (n : ℕ) (v : View) (pending : List ℤ) → used program room (with_temporaries n v) pending ≡ used program room v pending + n
+  pub used_more : (n : ℕ) (v : View) (pending : List ℤ)
+      → used program room (with_temporaries n v) pending ≡ used program room v pending + n
   used_more n v pending =
       ap (λ u. used program room u pending) (with_temporaries_is n v)
       ∙ omega (
@@ -71,14 +87,17 @@ module _ (program : Program) (room : ℕ) where
 pub needs_stay : (n : ℕ) (v : View) → sum (with_temporaries n v).needs ≡ sum v.needs
 needs_stay n v = ap (λ (u : View). sum u.needs) (with_temporaries_is n v)
 
-pub more_of : (n k : ℕ) (v : View) → with_temporaries n (with_temporaries k v) ≡ with_temporaries (n + k) v
+pub more_of : (n k : ℕ) (v : View)
+    → with_temporaries n (with_temporaries k v) ≡ with_temporaries (n + k) v
 more_of zero k v = let e : k ≡ 0 + k = omega arith in ap (λ m. with_temporaries m v) e
 more_of (suc n) k v =
-    let e : suc (n + k) ≡ suc n + k = omega arith in ap (λ u. with_temporary u) (more_of n k v) ∙ ap (λ m. with_temporaries m v) e
+    let e : suc (n + k) ≡ suc n + k = omega arith in
+    ap (λ u. with_temporary u) (more_of n k v) ∙ ap (λ m. with_temporaries m v) e
 
 -- ---- counts
 
-pub agree_count : (scope : Scope) (kinds : List Slot) (args : Args) → ArgsAgree scope kinds args → length kinds ≡ count_of args
+pub agree_count : (scope : Scope) (kinds : List Slot) (args : Args) → ArgsAgree scope kinds args
+    → length kinds ≡ count_of args
 agree_count scope [] no_args h = refl
 agree_count scope [] (then_arg a args) h = elim h [ ]
 agree_count scope (k ∷ kinds) no_args h = elim h [ ]

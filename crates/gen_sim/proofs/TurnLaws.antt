@@ -9,7 +9,8 @@ use Rattle.amx_ops.proofs.RunLaws.{iterate-goes}
 use Rattle.gen_sim.specs.Does.{How, Reach, Short, Then, Does}
 
 module _ (mv : Config → Moved Config End) (cells room : ℕ) where
-  turned_reach : {P : Config → Type 0} {c u : ℕ} {s t : Config} {w : World} {how : How} → mv s ≡ Goes t → c ≤ cells
+  turned_reach : {P : Config → Type 0} {c u : ℕ} {s t : Config} {w : World} {how : How}
+      → mv s ≡ Goes t → c ≤ cells
       → Reach mv cells room c (u + 1) t w how P → Reach mv cells room 1 u s w how P
   turned_reach {s = s} {t = t} e h r = record {
     steps = 1 + r.steps;
@@ -21,11 +22,19 @@ module _ (mv : Config → Moved Config End) (cells room : ℕ) where
     holds = r.holds;
   }
 
-  turned_short : {c u : ℕ} {s t : Config} {w : World} → mv s ≡ Goes t → c ≤ cells → Short mv cells room c (u + 1) t w
+  turned_short : {c u : ℕ} {s t : Config} {w : World} → mv s ≡ Goes t → c ≤ cells
+      → Short mv cells room c (u + 1) t w
       → Short mv cells room 1 u s w
-  turned_short e h short = record { at = short.at; later = short.later; deep = short.deep; reach = turned_reach e h short.reach }
+  turned_short e h short =
+      record {
+        at = short.at;
+        later = short.later;
+        deep = short.deep;
+        reach = turned_reach e h short.reach;
+      }
 
-  turned_by : {A : Type 0} (c u : ℕ) (s t : Config) (o : Outcome A) (Q : A → World → Config → Type 0) → mv s ≡ Goes t → c ≤ cells
+  turned_by : {A : Type 0} (c u : ℕ) (s t : Config) (o : Outcome A)
+      (Q : A → World → Config → Type 0) → mv s ≡ Goes t → c ≤ cells
       → Then mv cells room c (u + 1) t o Q → Then mv cells room 1 u s o Q
   turned_by c u s t (Gives a w) Q e h (inl short) = inl (turned_short e h short)
   turned_by c u s t (Gives a w) Q e h (inr r) = inr (turned_reach e h r)
@@ -34,7 +43,10 @@ module _ (mv : Config → Moved Config End) (cells room : ℕ) where
   turned_by c u s t (More w) Q e h (inl short) = inl (turned_short e h short)
   turned_by c u s t (More w) Q e h (inr r) = inr (turned_reach e h r)
 
-  -- code that takes at most as many steps as the file has cells, behind the instruction that begins its turn
-  pub turned : {A : Type 0} {c u : ℕ} {s t : Config} {o : Outcome A} {Q : A → World → Config → Type 0} → mv s ≡ Goes t → c ≤ cells
+  -- code that takes at most as many steps as the file has cells, behind the instruction that begins
+  -- its turn
+  pub turned : {A : Type 0} {c u : ℕ} {s t : Config} {o : Outcome A}
+      {Q : A → World → Config → Type 0} → mv s ≡ Goes t → c ≤ cells
       → Does mv cells room c (u + 1) t o Q → Does mv cells room 1 u s o Q
-  turned {c = c} {u = u} {s = s} {t = t} {o = o} {Q = Q} e h d = record { does = turned_by c u s t o Q e h d.does }
+  turned {c = c} {u = u} {s = s} {t = t} {o = o} {Q = Q} e h d =
+      record { does = turned_by c u s t o Q e h d.does }

@@ -1,5 +1,6 @@
 -- A way out of a statement stays as it is; where it is left through its end, what follows is done.
-use Rattle.std.proofs.Common.{◌≡◌, ◌+◌, ◌≤◌, ℕ, ℤ, List, [], ◌∷◌, ◌++◌, Bool, true, false, length, refl, sym, ap, subst, ◌∙◌, arith}
+use Rattle.std.proofs.Common.{◌≡◌, ◌+◌, ◌≤◌, ℕ, ℤ, List, [], ◌∷◌, ◌++◌, Bool, true, false, length}
+use Rattle.std.proofs.Common.{refl, sym, ap, subst, ◌∙◌, arith}
 use Rattle.pawn_cells.specs.Cells.{is_zero}
 use Rattle.pawn_meaning.specs.World.{World}
 use Rattle.pawn_meaning.specs.Run.{Outcome, Gives, Run, choose, at_zero, give}
@@ -24,7 +25,8 @@ use Rattle.gen_sim.specs.Here.{Exits}
 use Rattle.gen_sim.specs.Ways.{Outer, Left}
 
 module _ (x : Site) (e : Exits) (o : Outer) where
-  pub stays_left : {n : ℕ} (v : View) (q : ℕ) (way : Way) (w : World) (t : Config) → Left x e o v q way w t
+  pub stays_left : {n : ℕ} (v : View) (q : ℕ) (way : Way) (w : World) (t : Config)
+      → Left x e o v q way w t
       → DoesAt x n w t (Gives way w) (Left x e o v q)
   stays_left v q Through w t k = given x k k
   stays_left v q Broke w t k = given x k.1 k
@@ -58,30 +60,39 @@ pass_grows Continued h = give_grows Continued
 pass_grows (Returned y) h = give_grows (Returned y)
 
 -- items behind those that do a run, which leave what it gave
-module _ (x : Site) {A : Type 0} (p : ℕ) (is js : List Item) (P : A → World → Config → Type 0) (Q : ℕ → A → World → Config → Type 0) where
-  pub after_items : (w : World) {c : Config} → Lies x p (is ++ js) → (o : Outcome A) → (Lies x p is → DoesAt x (length (item_cells is)) w c o P)
+module _ (x : Site) {A : Type 0} (p : ℕ) (is js : List Item) (P : A → World → Config → Type 0)
+    (Q : ℕ → A → World → Config → Type 0) where
+  pub after_items : (w : World) {c : Config} → Lies x p (is ++ js) → (o : Outcome A)
+      → (Lies x p is → DoesAt x (length (item_cells is)) w c o P)
       → (Lies x (past p is) js → (a : A) (u : World) (t : Config) → P a u t
       → DoesAt x (length (item_cells js)) u t (Gives a u) (Q (past (past p is) js)))
       → DoesAt x (length (item_cells (is ++ js))) w c o (Q (past p (is ++ js)))
   after_items w {c} l o first next =
-      subst (λ z. DoesAt x (length (item_cells (is ++ js))) w c z (Q (past p (is ++ js)))) (then_nothing o)
+      subst (λ z. DoesAt x (length (item_cells (is ++ js))) w c z (Q (past p (is ++ js))))
+      (then_nothing o)
       (then_items x p is js P Q w l o (λ a. give a) (λ a u. same_later u) first next)
 
 -- one of two parts, by the value in PRI
-module _ (x : Site) (e : Exits) (o : Outer) {v : View} (p : ℕ) (first second : List Item) (one two : Run Way) where
-  sides : (y : ℤ) (u : World) (t : Config) → With x.program x.room v [] p y u t → Lies x p (choice_code p first second)
+module _ (x : Site) (e : Exits) (o : Outer) {v : View} (p : ℕ) (first second : List Item)
+    (one two : Run Way) where
+  sides : (y : ℤ) (u : World) (t : Config) → With x.program x.room v [] p y u t
+      → Lies x p (choice_code p first second)
       → (Lies x (p + 8) first → (n : World) (k : Config) → Stands x.program x.room v [] (p + 8) n k
       → DoesAt x (length (item_cells first)) n k (one n) (Left x e o v (past (p + 8) first)))
-      → (Lies x (other_at p first) second → (n : World) (k : Config) → Stands x.program x.room v [] (other_at p first) n k
+      → (Lies x (other_at p first) second → (n : World) (k : Config)
+      → Stands x.program x.room v [] (other_at p first) n k
       → DoesAt x (length (item_cells second)) n k (two n) (Left x e o v (end_at p first second)))
       → (b : Bool) → is_zero y ≡ b
-      → DoesAt x (length (item_cells (choice_code p first second))) u t (choose b two one u) (Left x e o v (end_at p first second))
+      → DoesAt x (length (item_cells (choice_code p first second))) u t (choose b two one u)
+      (Left x e o v (end_at p first second))
   sides y u t a l hone htwo true z =
       let jump = jump_to op.Jump (end_at p first second) in
       let l1 = next_lies x p (jump_to op.Jzer (other_at p first)) (first ++ (jump ∷ second)) l in
       let l2 = rest_lies x (p + 8) first (jump ∷ second) l1 in
-      let few : length (item_cells second) ≤ length (item_cells (first ++ (jump ∷ second))) = omega (arith, count-append first (jump ∷ second)) in
-      zero_jumps x a.stands (other_at p first) (length (item_cells second)) l2.lie.2 (ap is_zero a.value ∙ z) few l
+      let few : length (item_cells second) ≤ length (item_cells (first ++ (jump ∷ second))) =
+      omega (arith, count-append first (jump ∷ second)) in
+      zero_jumps x a.stands (other_at p first) (length (item_cells second)) l2.lie.2
+      (ap is_zero a.value ∙ z) few l
       (λ k s f. htwo (next_lies x (past (p + 8) first) jump second l2) u k s)
   sides y u t a l hone htwo false z =
       let jump = jump_to op.Jump (end_at p first second) in
@@ -89,21 +100,28 @@ module _ (x : Site) (e : Exits) (o : Outer) {v : View} (p : ℕ) (first second :
       let l2 = rest_lies x (p + 8) first (jump ∷ second) l1 in
       let l3 = next_lies x (past (p + 8) first) jump second l2 in
       zero_passes x a.stands (other_at p first) (ap is_zero a.value ∙ z) l
-      (λ k s f. size_is (move x.amx x.script) (length x.amx.code) x.room (sym (count-append first (jump ∷ second)))
-      (after_it (move x.amx x.script) (length x.amx.code) x.room (one u) (Left x e o v (past (p + 8) first))
+      (λ k s f. size_is (move x.amx x.script) (length x.amx.code) x.room
+      (sym (count-append first (jump ∷ second)))
+      (after_it (move x.amx x.script) (length x.amx.code) x.room (one u)
+      (Left x e o v (past (p + 8) first))
       (hone (first_lies x (p + 8) first (jump ∷ second) l1) u k s)
       (λ way n h m. ends_left x e o v v (past (p + 8) first) (end_at p first second) way n h m
-      (λ b. jump_does x b (end_at p first second) 0 (past_small x (other_at p first) second l3.lie l2.lie.2) (omega arith) l2
+      (λ b. jump_does x b (end_at p first second) 0
+      (past_small x (other_at p first) second l3.lie l2.lie.2) (omega arith) l2
       (λ g d q. given x d d)))))
 
-  pub chooses : (y : ℤ) (u : World) (t : Config) → With x.program x.room v [] p y u t → Lies x p (choice_code p first second)
+  pub chooses : (y : ℤ) (u : World) (t : Config) → With x.program x.room v [] p y u t
+      → Lies x p (choice_code p first second)
       → (Lies x (p + 8) first → (n : World) (k : Config) → Stands x.program x.room v [] (p + 8) n k
       → DoesAt x (length (item_cells first)) n k (one n) (Left x e o v (past (p + 8) first)))
-      → (Lies x (other_at p first) second → (n : World) (k : Config) → Stands x.program x.room v [] (other_at p first) n k
+      → (Lies x (other_at p first) second → (n : World) (k : Config)
+      → Stands x.program x.room v [] (other_at p first) n k
       → DoesAt x (length (item_cells second)) n k (two n) (Left x e o v (end_at p first second)))
-      → DoesAt x (length (item_cells (choice_code p first second))) u t (at_zero y two one u) (Left x e o v (past p (choice_code p first second)))
+      → DoesAt x (length (item_cells (choice_code p first second))) u t (at_zero y two one u)
+      (Left x e o v (past p (choice_code p first second)))
   chooses y u t a l hone htwo =
       let ends : end_at p first second ≡ past p (choice_code p first second)
       = sym (past-append (p + 8) first (jump_to op.Jump (end_at p first second) ∷ second)) in
-      subst (λ q. DoesAt x (length (item_cells (choice_code p first second))) u t (at_zero y two one u) (Left x e o v q)) ends
+      subst (λ q. DoesAt x (length (item_cells (choice_code p first second))) u t
+      (at_zero y two one u) (Left x e o v q)) ends
       (sides y u t a l hone htwo (is_zero y) refl)

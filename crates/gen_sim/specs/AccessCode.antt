@@ -1,5 +1,5 @@
--- The code of reads and writes: a place's address comes first, and then its cell or its character is loaded, or stored
--- behind the value.
+-- The code of reads and writes: a place's address comes first, and then its cell or its character
+-- is loaded, or stored behind the value.
 use Rattle.std.specs.Prelude.{ℤ, pos, Bool, true, false, List, [], ◌∷◌, ◌++◌}
 use Rattle.pawn_program.specs.Program.{Scalar, Global, Own, Through, Element, Char}
 use Rattle.amx_ops.specs.declared.op.Op.TheVariants as op
@@ -22,33 +22,44 @@ store_code (Through s) = alone op.StorI ∷ []
 store_code (Element a e) = alone op.StorI ∷ []
 store_code (Char a e) = taking op.StrbI (pos 1) ∷ []
 
+-- what stands at a place goes to PRI
 abbrev pub read_code : Scalar → List Item → List Item
 read_code p place = place ++ load_code p
 
+-- the address waits on the stack while the value is made
 abbrev pub assign_code : Scalar → (place value : List Item) → List Item
 assign_code p place value = both_code place value (store_code p)
 
--- what was there goes to ALT and the value to PRI, some items make one of both, and it is stored; the address waits
+-- what was there goes to ALT and the value to PRI, some items make one of both, and it is stored;
+-- the address waits
 abbrev pub changed_code : Scalar → List Item → List Item
 changed_code p change =
-    alone op.PushAlt ∷ alone op.Xchg ∷ (load_code p ++ (alone op.Xchg ∷ (change ++ (alone op.PopAlt ∷ store_code p))))
+    alone op.PushAlt ∷ alone op.Xchg
+    ∷ (load_code p ++ (alone op.Xchg ∷ (change ++ (alone op.PopAlt ∷ store_code p))))
 
+-- a compound assignment, by the items of its operator
 abbrev pub update_code : Scalar → (place value change : List Item) → List Item
 update_code p place value change = both_code place value (changed_code p change)
 
 -- a step's value is the new one, or the one that was there, which waits
 abbrev pub stepped_code : Scalar → ℤ → Bool → List Item
 stepped_code p delta true = taking op.AddC delta ∷ store_code p
-stepped_code p delta false = alone op.PushPri ∷ taking op.AddC delta ∷ (store_code p ++ alone op.PopPri ∷ [])
+stepped_code p delta false =
+    alone op.PushPri ∷ taking op.AddC delta ∷ (store_code p ++ alone op.PopPri ∷ [])
 
+-- `++` and `--`: ADD.C adds the delta to what is there
 abbrev pub step_code : Scalar → ℤ → Bool → List Item → List Item
-step_code p delta prefix place = place ++ (alone op.MoveAlt ∷ (load_code p ++ stepped_code p delta prefix))
+step_code p delta prefix place =
+    place ++ (alone op.MoveAlt ∷ (load_code p ++ stepped_code p delta prefix))
 
 -- the same by items that make the new value of the one in PRI, while the address waits
 abbrev pub turned_code : Scalar → List Item → Bool → List Item
 turned_code p change true = alone op.PushAlt ∷ (change ++ (alone op.PopAlt ∷ store_code p))
 turned_code p change false =
-    alone op.PushPri ∷ alone op.PushAlt ∷ (change ++ (alone op.PopAlt ∷ (store_code p ++ alone op.PopPri ∷ [])))
+    alone op.PushPri ∷ alone op.PushAlt
+    ∷ (change ++ (alone op.PopAlt ∷ (store_code p ++ alone op.PopPri ∷ [])))
 
+-- `++` and `--` by an operator of the user's own
 abbrev pub step_by_code : Scalar → Bool → (place change : List Item) → List Item
-step_by_code p prefix place change = place ++ (alone op.MoveAlt ∷ (load_code p ++ turned_code p change prefix))
+step_by_code p prefix place change =
+    place ++ (alone op.MoveAlt ∷ (load_code p ++ turned_code p change prefix))

@@ -11,9 +11,10 @@ use Rattle.gen_sim.specs.Stands.{With}
 abbrev pub without_frame : List Frame → World → World
 without_frame frames w = record w { memory = record w.memory { frames = frames } }
 
--- the machine is back in the caller's view, at the return address and with the value in PRI, for the world without
--- the callee's frame, which the meaning drops a step later
-pub record Back (program : Program) (room : ℕ) (v : View) (waits : List ℤ) (q : ℕ) (x : ℤ) (w : World) (c : Config) : Type 0 where
+-- the machine is back in the caller's view, at the return address and with the value in PRI, for
+-- the world without the callee's frame, which the meaning drops a step later
+pub record Back (program : Program) (room : ℕ) (v : View) (waits : List ℤ) (q : ℕ) (x : ℤ)
+    (w : World) (c : Config) : Type 0 where
   pub frame : Frame
   pub frames : List Frame
   pub frames_are : w.memory.frames ≡ frame ∷ frames

@@ -1,5 +1,7 @@
--- The code of calls: arguments are pushed from the last to the first, and then the count of their bytes.
-use Rattle.std.specs.Prelude.{◌+◌, ◌*◌, ℕ, zero, suc, pos, neg_ℤ, Bool, true, false, List, [], ◌∷◌, ◌++◌, Option, None, Some}
+-- The code of calls: arguments are pushed from the last to the first, and then the count of their
+-- bytes.
+use Rattle.std.specs.Prelude.{◌+◌, ◌*◌, ℕ, zero, suc, pos, neg_ℤ, Bool, true, false, List, [], ◌∷◌}
+use Rattle.std.specs.Prelude.{◌++◌, Option, None, Some}
 use Rattle.amx_ops.specs.declared.op.Op.TheVariants as op
 use Rattle.gen_sim.specs.Items.{Item, CallOf}
 use Rattle.gen_sim.specs.SimpleCode.{alone, taking, both_code}
@@ -20,9 +22,11 @@ abbrev pub convert_code : Option ℕ → List Item
 convert_code None = []
 convert_code (Some f) = one_code f
 
+-- a prefix operator of the user's own, behind its operand
 abbrev pub operate_one_code : ℕ → List Item → List Item
 operate_one_code f value = value ++ one_code f
 
+-- a binary one, behind its operands
 abbrev pub operate_code : ℕ → Bool → (left right : List Item) → List Item
 operate_code f swapped left right = both_code left right (two_code f swapped)
 
@@ -45,9 +49,12 @@ give_back_code (suc n) = taking op.Heap (neg_ℤ (pos (4 * suc n))) ∷ []
 
 -- with so many arguments, some of which have cells on the heap
 abbrev pub call_code : ℕ → (count temporaries : ℕ) → List Item → List Item
-call_code f count temporaries arguments = (arguments ++ taking op.PushC (pos (4 * count)) ∷ CallOf f ∷ []) ++ give_back_code temporaries
+call_code f count temporaries arguments =
+    (arguments ++ taking op.PushC (pos (4 * count)) ∷ CallOf f ∷ []) ++ give_back_code temporaries
 
+-- the same by SYSREQ.C: the caller drops the arguments and the count of their bytes
 abbrev pub native_code : ℕ → (count temporaries : ℕ) → List Item → List Item
 native_code n count temporaries arguments =
-    (arguments ++ taking op.PushC (pos (4 * count)) ∷ taking op.SysreqC (pos n) ∷ taking op.Stack (pos (4 * (count + 1))) ∷ [])
+    (arguments ++ taking op.PushC (pos (4 * count)) ∷ taking op.SysreqC (pos n)
+    ∷ taking op.Stack (pos (4 * (count + 1))) ∷ [])
     ++ give_back_code temporaries

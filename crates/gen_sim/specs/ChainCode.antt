@@ -1,4 +1,5 @@
--- The code of chains of comparisons: each operand in the middle is evaluated once, and waits while its link is tested.
+-- The code of chains of comparisons: each operand in the middle is evaluated once, and waits while
+-- its link is tested.
 use Rattle.std.specs.Prelude.{◌+◌, ℕ, Bool, List, [], ◌∷◌, ◌++◌, Option, None, Some}
 use Rattle.pawn_cells.specs.declared.operator.Comparison.{Comparison}
 use Rattle.pawn_cells.specs.declared.operator.Comparison.TheVariants as comparison
@@ -28,7 +29,9 @@ last_link_code operand link = alone op.PushPri ∷ (operand ++ (alone op.PopAlt 
 -- a link with others behind it: its right operand waits, and is the left one of the next
 abbrev pub middle_link_code : (fail : ℕ) → (operand link others : List Item) → List Item
 middle_link_code fail operand link others =
-    alone op.PushPri ∷ (operand ++ (alone op.PopAlt ∷ alone op.PushPri ∷ (link ++ (jump_to op.Jzer fail ∷ alone op.PopPri ∷ others))))
+    alone op.PushPri ∷ (operand ++
+    (alone op.PopAlt ∷ alone op.PushPri
+    ∷ (link ++ (jump_to op.Jzer fail ∷ alone op.PopPri ∷ others))))
 
 -- where a link that doesn't hold leads to, behind links that end at an address
 abbrev pub fail_at : ℕ → ℕ
@@ -36,4 +39,5 @@ fail_at q = q + 4 + 4 + 8
 
 -- behind several links: 1 or 0, and 0 where one didn't hold, whose right operand waits
 abbrev pub chain_end_code : ℕ → List Item
-chain_end_code q = alone op.Not ∷ alone op.Not ∷ jump_to op.Jump (fail_at q + 4) ∷ alone op.PopAlt ∷ []
+chain_end_code q =
+    alone op.Not ∷ alone op.Not ∷ jump_to op.Jump (fail_at q + 4) ∷ alone op.PopAlt ∷ []

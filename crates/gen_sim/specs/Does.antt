@@ -27,6 +27,7 @@ abbrev pub nothing : ⊥ → World → Config → Type 0
 nothing a w t = Unit {0}
 
 module _ (mv : Config → Moved Config End) (cells room : ℕ) where
+  -- where a machine is after so many steps more: one that is over stays as it is
   abbrev pub iterated : How → Config → ℕ → Finish Config End
   iterated Running t k = iterate mv k t
   iterated (Closed e) t k = Over e t
@@ -50,12 +51,14 @@ module _ (mv : Config → Moved Config End) (cells room : ℕ) where
     pub deep : room < at.peak + 16
     pub reach : Reach c u s at (Closed (Error (pos 3))) (λ t. Unit {0})
 
+  -- what an outcome asks of the machine, unless the stack was short on the way
   abbrev pub Then : {A : Type 0} → ℕ → ℕ → Config → Outcome A → (A → World → Config → Type 0)
       → Type 0
   Then c u s (Gives a w) Q = Short c u s w ⊎ Reach c u s w Running (Q a w)
   Then c u s (Stops e w) Q = Short c u s w ⊎ Reach c u s w (how_of e) (λ t. Unit {0})
   Then c u s (More w) Q = Short c u s w ⊎ Reach c u s w Running (λ t. Unit {0})
 
+  -- the machine does what gives this outcome, as a record of its own
   pub record Does {A : Type 0} (c u : ℕ) (s : Config) (o : Outcome A)
       (Q : A → World → Config → Type 0) : Type 0 where
     pub does : Then c u s o Q

@@ -7,7 +7,8 @@ use Rattle.pawn_meaning.specs.World.{World}
 use Rattle.pawn_meaning.specs.Run.{Run}
 use Rattle.pawn_meaning.specs.Calls.{Way}
 use Rattle.pawn_meaning.specs.Meaning.{Fewer, run, run_all, run_else, condition, perhaps}
-use Rattle.pawn_meaning.specs.Need.{perhaps_load, stmt_load, stmts_load, else_load, locals, own_locals, inner_locals, else_locals, made_by}
+use Rattle.pawn_meaning.specs.Need.{perhaps_load, stmt_load, stmts_load, else_load, locals}
+use Rattle.pawn_meaning.specs.Need.{own_locals, inner_locals, else_locals, made_by}
 use Rattle.amx_ops.specs.Moves.{Config}
 use Rattle.gen_sim.specs.View.{View, kept, used}
 use Rattle.gen_sim.specs.Stands.{Stands, With}
@@ -28,7 +29,8 @@ pub record Begins (here : Here) (x : Site) (turns : ℕ) (v : View) (o : Outer) 
   pub fits : Fits x.program x.room here.scope v
   pub inside : Inside x here o v
 
--- some items at an address do what a run does, and are left as it is, with these slots made where it comes to its end.
+-- some items at an address do what a run does, and are left as it is, with these slots made where
+-- it comes to its end.
 -- A pass of a loop is paid by its turn: the items are no more cells than the file has
 abbrev pub Flow : Here → ((x : Site) → Fewer → Run Way) → ℕ → List ℕ → ℕ → List Item → Type 0
 Flow here run need made begin items =
@@ -41,24 +43,30 @@ Flow here run need made begin items =
 
 -- ---- each sort of node
 
+-- the items do a statement, and leave the slots that it makes in force
 pub record StmtCode (here : Here) (s : Stmt) (begin : ℕ) (items : List Item) : Type 0 where
   pub fresh : AreNew here.scope (slots_made s)
   pub count : made_cells here.scope.slots (slots_made s) ≡ made_by here.scope.slots s
   pub does : Flow here (λ x fewer. run (scene_at x) fewer s)
-      (made_by here.scope.slots s + locals here.scope.slots s + stmt_load s) (slots_made s) begin items
+      (made_by here.scope.slots s + locals here.scope.slots s + stmt_load s)
+      (slots_made s) begin items
 
+-- the items do one statement after another, with all the slots that these make
 pub record StmtsCode (here : Here) (stmts : Stmts) (begin : ℕ) (items : List Item) : Type 0 where
   pub fresh : AreNew here.scope (slots_made_by stmts)
   pub count : made_cells here.scope.slots (slots_made_by stmts) ≡ own_locals here.scope.slots stmts
   pub does : Flow here (λ x fewer. run_all (scene_at x) fewer stmts)
-      (own_locals here.scope.slots stmts + inner_locals here.scope.slots stmts + stmts_load stmts) (slots_made_by stmts) begin items
+      (own_locals here.scope.slots stmts + inner_locals here.scope.slots stmts + stmts_load stmts)
+      (slots_made_by stmts) begin items
 
+-- the items do what stands behind `else`, if anything; no slot is left in force
 pub record ElseCode (here : Here) (other : Else) (begin : ℕ) (items : List Item) : Type 0 where
   pub does : Flow here (λ x fewer. run_else (scene_at x) fewer other)
       (else_locals here.scope.slots other + else_load other) [] begin items
 
 -- a condition that may be absent has its value in PRI
-pub record ConditionCode (scope : Scope) (e : Perhaps) (begin : ℕ) (items : List Item) : Type 0 where
+pub record ConditionCode (scope : Scope) (e : Perhaps) (begin : ℕ)
+    (items : List Item) : Type 0 where
   pub does : Code scope (λ x fewer. condition (scene_at x) fewer e) (perhaps_load e) items begin
       (λ x v pending q. With x.program x.room v pending q)
 

@@ -1,4 +1,5 @@
--- The code of statements without a loop. Locals are made where they stand, and dropped where they are left.
+-- The code of statements without a loop. Locals are made where they stand, and dropped where they
+-- are left.
 use Rattle.std.specs.Prelude.{◌*◌, ℕ, pos, List, [], ◌∷◌, ◌++◌}
 use Rattle.pawn_cells.specs.Cells.{cell_of}
 use Rattle.pawn_program.specs.Program.{Slot}
@@ -19,22 +20,29 @@ abbrev pub leave_code : List Slot → List ℕ → List Item
 leave_code slots [] = []
 leave_code slots (s ∷ made) = taking op.Stack (pos (4 * made_cells slots (s ∷ made))) ∷ []
 
+-- a plain local is its first value, pushed
 abbrev pub local_code : List Item → List Item
 local_code value = value ++ alone op.PushPri ∷ []
 
+-- what a block made is dropped at its end
 abbrev pub block_code : List Slot → List ℕ → List Item → List Item
 block_code slots made stmts = stmts ++ leave_code slots made
 
+-- the locals that were made inside the loop are dropped before the jump
 abbrev pub break_code : Here → List Item
 break_code here = leave_code here.scope.slots here.since ++ jump_to op.Jump here.exits.broke ∷ []
 
+-- so they are before a further pass
 abbrev pub continue_code : Here → List Item
-continue_code here = leave_code here.scope.slots here.since ++ jump_to op.Jump here.exits.continued ∷ []
+continue_code here =
+    leave_code here.scope.slots here.since ++ jump_to op.Jump here.exits.continued ∷ []
 
 -- all locals of the body are dropped, and RETN drops the frame
 abbrev pub return_code : Here → List Item → List Item
-return_code here value = value ++ (leave_code here.scope.slots here.scope.made ++ alone op.Retn ∷ [])
+return_code here value =
+    value ++ (leave_code here.scope.slots here.scope.made ++ alone op.Retn ∷ [])
 
+-- HALT 1 ends the run with the value in PRI and its tag in ALT
 abbrev pub exit_code : ℕ → List Item → List Item
 exit_code tag value = value ++ (taking op.ConstAlt (cell_of tag) ∷ taking op.Halt (pos 1) ∷ [])
 

@@ -25,4 +25,5 @@ within exits here = record here { since = []; exits = exits }
 -- slots that no parameter is, and that weren't made before, each of them once
 abbrev pub AreNew : Scope → List ℕ → Type 0
 AreNew scope [] = Unit {0}
-AreNew scope (s ∷ made) = (scope.params ≤ s) × ¬ (IsMade scope s) × AreNew (with_made (s ∷ []) scope) made
+AreNew scope (s ∷ made) =
+    (scope.params ≤ s) × ¬ (IsMade scope s) × AreNew (with_made (s ∷ []) scope) made

@@ -1,11 +1,14 @@
--- Code as a list of items: whole instructions, and calls whose operand waits for a function's address.
-use Rattle.std.specs.Prelude.{◌≡◌, ◌≢◌, ◌+◌, ◌*◌, ◌/◌, ◌^◌, ◌<◌, ℕ, ℤ, pos, List, [], ◌∷◌, ◌++◌, Some, length, take, drop}
+-- Code as a list of items: whole instructions, and calls whose operand waits for a function's
+-- address.
+use Rattle.std.specs.Prelude.{◌≡◌, ◌≢◌, ◌+◌, ◌*◌, ◌/◌, ◌^◌, ◌<◌, ℕ, ℤ, pos, List, [], ◌∷◌, ◌++◌}
+use Rattle.std.specs.Prelude.{Some, length, take, drop}
 use Rattle.amx_ops.specs.declared.op.Op.{Op}
 use Rattle.amx_ops.specs.declared.op.Op.TheVariants as op
 use Rattle.amx_ops.specs.Instructions.{fetched}
 use Rattle.amx_ops.specs.Written.{Written, IsWritten, cells_of, read_as}
 use Rattle.gen_sim.specs.Site.{Site}
 
+-- a part of the code: an instruction that is known whole, or a call that isn't yet
 pub data Item : Type 0 where
   Plain : Written → Item
   -- a call of the function with this number

@@ -1,5 +1,5 @@
--- A machine's cells that stand for a memory of the world: low pieces up to HEA, cells that are free, from STK
--- on the values that wait, and high pieces up to the top.
+-- A machine's cells that stand for a memory of the world: low pieces up to HEA, cells that are
+-- free, from STK on the values that wait, and high pieces up to the top.
 use Rattle.std.specs.Prelude.{◌≡◌, ◌+◌, ◌*◌, ℕ, ℤ, List, ◌∷◌, ◌++◌, All, length}
 use Rattle.pawn_cells.specs.Cells.{IsCell}
 use Rattle.pawn_meaning.specs.Memory.{Memory}
@@ -11,7 +11,8 @@ abbrev pub row : List Piece → List ℤ → List Piece → List Piece
 row low between high = low ++ Fixed between ∷ high
 
 -- the machine has N cells. What the free ones hold doesn't matter
-pub record Mem (N : ℕ) (low : List Piece) (pending : List ℤ) (high : List Piece) (m : Memory) (s : State) : Type 0 where
+pub record Mem (N : ℕ) (low : List Piece) (pending : List ℤ) (high : List Piece) (m : Memory)
+    (s : State) : Type 0 where
   pub free : List ℤ
   pub cells : s.cells ≡ image m (row low (free ++ pending) high)
   pub hea : s.hea ≡ 4 * total low

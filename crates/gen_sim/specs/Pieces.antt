@@ -1,12 +1,15 @@
--- A machine's memory as a row of pieces. A piece is an object of the world with the offsets of its rows, an
--- automaton's cell, or cells of which the world knows nothing.
-use Rattle.std.specs.Prelude.{◌≡◌, ◌+◌, ◌*◌, ℕ, zero, suc, ℤ, pos, List, [], ◌∷◌, ◌++◌, Option, None, Some, length, slice_get}
+-- A machine's memory as a row of pieces. A piece is an object of the world with the offsets of its
+-- rows, an automaton's cell, or cells of which the world knows nothing.
+use Rattle.std.specs.Prelude.{◌≡◌, ◌+◌, ◌*◌, ℕ, zero, suc, ℤ, pos, List, [], ◌∷◌, ◌++◌, Option}
+use Rattle.std.specs.Prelude.{None, Some, length, slice_get}
 use Rattle.pawn_arrays.specs.Sizes.{elements_in}
 use Rattle.pawn_program.specs.Program.{StaticObject, Program}
 use Rattle.pawn_meaning.specs.Memory.{Object, Name, Static, Temporary, Memory, object_at}
 
+-- a part of the memory that stands for one thing
 pub data Piece : Type 0 where
-  -- what the machine keeps for itself: what a frame saves, addresses that were handed over, values that wait
+  -- what the machine keeps for itself: what a frame saves, addresses that were handed over, values
+  -- that wait
   Fixed : List ℤ → Piece
   -- an object, by its name and its sizes
   Thing : Name → List ℕ → Piece
@@ -15,13 +18,14 @@ pub data Piece : Type 0 where
 
 -- ---- offsets
 
--- the offsets of so many parts, from one on, in cells each of a size: an offset counts in bytes from its own
--- cell, and the parts stand behind the vector
+-- the offsets of so many parts, from one on, in cells each of a size: an offset counts in bytes
+-- from its own cell, and the parts stand behind the vector
 abbrev pub offsets : (from left size : ℕ) → List ℤ
 offsets from zero size = []
 offsets from (suc left) size = pos (4 * (suc left + from * size)) ∷ offsets (from + 1) left size
 
--- of so many parts with further sizes: a vector for the parts of each level, one level behind another
+-- of so many parts with further sizes: a vector for the parts of each level, one level behind
+-- another
 abbrev pub vectors_of : ℕ → List ℕ → List ℤ
 vectors_of parts [] = []
 vectors_of parts (size ∷ inner) = offsets 0 parts size ++ vectors_of (parts * size) inner

@@ -25,8 +25,8 @@ Apart (Automaton a) (Fixed cells) = Unit {0}
 Apart (Automaton a) (Thing other inner) = Unit {0}
 Apart (Automaton a) (Automaton b) = a ≢ b
 
--- a piece stands in a row of pieces, so many cells behind its beginning, and what it stands for is nowhere
--- else in it
+-- a piece stands in a row of pieces, so many cells behind its beginning, and what it stands for is
+-- nowhere else in it
 pub record StandsIn (piece : Piece) (pieces : List Piece) (first : ℕ) : Type 0 where
   pub before : List Piece
   pub after : List Piece
@@ -35,8 +35,8 @@ pub record StandsIn (piece : Piece) (pieces : List Piece) (first : ℕ) : Type 0
   pub not_before : Each (Apart piece) before
   pub not_after : Each (Apart piece) after
 
--- of N cells the low pieces are the first ones and the high pieces the last ones. Among the low pieces a place
--- is counted from the first cell
+-- of N cells the low pieces are the first ones and the high pieces the last ones. Among the low
+-- pieces a place is counted from the first cell
 pub record InLow (N : ℕ) (low high : List Piece) (piece : Piece) (first : ℕ) : Type 0 where
   pub stands : StandsIn piece low first
   pub apart : Each (Apart piece) high

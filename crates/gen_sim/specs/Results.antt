@@ -1,6 +1,9 @@
--- What holds behind the code of a place, an array and arguments. Behind that of an expression it is `With`.
-use Rattle.std.specs.Prelude.{◌≡◌, ◌+◌, ◌*◌, ◌-◌, ◌<◌, ℕ, zero, suc, ℤ, pos, List, [], ◌∷◌, ◌++◌, Option, None, Some}
-use Rattle.pawn_program.specs.Program.{Slot, ScalarSlot, Arg, Value, Ref, Whole, Temp, Args, no_args, then_arg, Program}
+-- What holds behind the code of a place, an array and arguments. Behind that of an expression it is
+-- `With`.
+use Rattle.std.specs.Prelude.{◌≡◌, ◌+◌, ◌*◌, ◌-◌, ◌<◌, ℕ, zero, suc, ℤ, pos, List, [], ◌∷◌, ◌++◌}
+use Rattle.std.specs.Prelude.{Option, None, Some}
+use Rattle.pawn_program.specs.Program.{Slot, ScalarSlot, Arg, Value, Ref, Whole, Temp, Args}
+use Rattle.pawn_program.specs.Program.{no_args, then_arg, Program}
 use Rattle.pawn_program.specs.Scope.{Extent}
 use Rattle.pawn_meaning.specs.Memory.{Reference, Place, Cell, Character}
 use Rattle.pawn_meaning.specs.World.{World}
@@ -38,6 +41,7 @@ is_temporary (Ref p) = 0
 is_temporary (Whole a) = 0
 is_temporary (Temp e) = 1
 
+-- of all arguments of a call
 abbrev pub temporaries_in : Args → ℕ
 temporaries_in no_args = 0
 temporaries_in (then_arg a args) = is_temporary a + temporaries_in args
@@ -48,19 +52,24 @@ with_temporaries zero v = v
 with_temporaries (suc n) v = with_temporary (with_temporaries n v)
 
 module _ (program : Program) (room : ℕ) where
-  -- PRI is the address of a place: of a cell, which a reference may name, or of a character's byte in memory
+  -- PRI is the address of a place: of a cell, which a reference may name, or of a character's byte
+  -- in memory
   abbrev pub IsAddress : View → Place → ℤ → Type 0
   IsAddress v (Cell name i) x =
-      (cell : ℕ) × CellAt program room v name i cell × (x ≡ pos (4 * cell)) × RefersTo program room v (to_cell name i) cell
+      (cell : ℕ) × CellAt program room v name i cell × (x ≡ pos (4 * cell))
+      × RefersTo program room v (to_cell name i) cell
   IsAddress v (Character name i k) x =
       (cell : ℕ) × CellAt program room v name i cell × (k < 4) × (x ≡ pos (4 * cell + (3 - k)))
 
-  pub record PlaceAt (v : View) (pending : List ℤ) (p : ℕ) (at : Place) (w : World) (c : Config) : Type 0 where
+  -- behind a place's code, which found this place
+  pub record PlaceAt (v : View) (pending : List ℤ) (p : ℕ) (at : Place) (w : World)
+      (c : Config) : Type 0 where
     pub stands : Stands program room v pending p w c
     pub address : IsAddress v at c.state.pri
 
   -- PRI is the address of an array that reaches as far as is said
-  pub record ArrayAt (v : View) (reach : Extent) (pending : List ℤ) (p : ℕ) (r : Reference) (w : World) (c : Config) : Type 0 where
+  pub record ArrayAt (v : View) (reach : Extent) (pending : List ℤ) (p : ℕ) (r : Reference)
+      (w : World) (c : Config) : Type 0 where
     pub stands : Stands program room v pending p w c
     pub cell : ℕ
     pub refers : RefersTo program room v r cell
@@ -68,7 +77,8 @@ module _ (program : Program) (room : ℕ) where
     pub reaches : Reaches reach.first reach.inner r
 
   -- the arguments stand in their order from STK on, with their temporary cells on the heap
-  pub record ArgumentsAt (v : View) (kinds : List Slot) (count : ℕ) (pending : List ℤ) (p : ℕ) (held : List Held) (w : World) (c : Config) : Type 0 where
+  pub record ArgumentsAt (v : View) (kinds : List Slot) (count : ℕ) (pending : List ℤ) (p : ℕ)
+      (held : List Held) (w : World) (c : Config) : Type 0 where
     pub cells : List ℤ
     pub stands : Stands program room (with_temporaries count v) (cells ++ pending) p w c
     pub hold : HoldArguments program room (with_temporaries count v) held cells

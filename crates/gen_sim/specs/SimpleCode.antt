@@ -1,5 +1,6 @@
--- The code of nodes without a jump, of which each is its own step between the codes of its parts. A value comes in
--- PRI; while a second part runs, what the first one gave waits on the stack, and then goes to ALT.
+-- The code of nodes without a jump, of which each is its own step between the codes of its parts. A
+-- value comes in PRI; while a second part runs, what the first one gave waits on the stack, and
+-- then goes to ALT.
 use Rattle.std.specs.Prelude.{ℤ, pos, List, [], ◌∷◌, ◌++◌}
 use Rattle.pawn_cells.specs.declared.operator.Prefix.{Prefix}
 use Rattle.pawn_cells.specs.declared.operator.Prefix.TheVariants as before
@@ -13,11 +14,13 @@ use Rattle.gen_sim.specs.Items.{Item, Plain, with}
 abbrev pub alone : Op → Item
 alone operation = Plain (with operation (pos 0))
 
+-- an instruction with its operand
 abbrev pub taking : Op → ℤ → Item
 taking operation v = Plain (with operation v)
 
 -- ---- operators
 
+-- the instruction that changes PRI as a prefix operator does
 abbrev pub prefix_op : Prefix → Op
 prefix_op before.Not = op.Not
 prefix_op before.Invert = op.Invert
@@ -41,13 +44,16 @@ operator_code between.NotEqual = alone op.Neq ∷ []
 
 -- ---- expressions
 
+-- a cell that is known
 abbrev pub const_code : ℤ → List Item
 const_code v = taking op.ConstPri v ∷ []
 
+-- a prefix operator, on its operand's value
 abbrev pub unary_code : Prefix → List Item → List Item
 unary_code o e = e ++ alone (prefix_op o) ∷ []
 
--- two parts, and what is done while the cell that the first one gave waits, with the second one's in PRI
+-- two parts, and what is done while the cell that the first one gave waits, with the second one's
+-- in PRI
 abbrev pub waiting_code : (first second tail : List Item) → List Item
 waiting_code first second tail = first ++ (alone op.PushPri ∷ (second ++ tail))
 
@@ -55,8 +61,10 @@ waiting_code first second tail = first ++ (alone op.PushPri ∷ (second ++ tail)
 abbrev pub both_code : (first second last : List Item) → List Item
 both_code first second last = waiting_code first second (alone op.PopAlt ∷ last)
 
+-- a binary operator, on the values of both operands
 abbrev pub binary_code : Operator → (left right : List Item) → List Item
 binary_code o left right = both_code left right (operator_code o)
 
+-- the first value isn't used
 abbrev pub comma_code : (first second : List Item) → List Item
 comma_code first second = first ++ second

@@ -15,8 +15,8 @@ use Rattle.amx_ops.specs.Moves.{Config, move}
 use Rattle.gen_sim.specs.Does.{Does}
 use Rattle.gen_sim.specs.View.{kept}
 
--- the file, its script and its program, the room for heap and stack, the bound on turns, and the address of
--- each function
+-- the file, its script and its program, the room for heap and stack, the bound on turns, and the
+-- address of each function
 pub record Site : Type 0 where
   pub amx : Amx
   pub script : Script
@@ -25,8 +25,9 @@ pub record Site : Type 0 where
   pub limit : ℕ
   pub entry : ℕ → ℕ
 
--- the program is valid, and the file has as many cells of data as the program's objects and automata, its natives,
--- which cells can number, and code that a cell can address; the script keeps its ranges
+-- the program is valid, and the file has as many cells of data as the program's objects and
+-- automata, its natives, which cells can number, and code that a cell can address; the script keeps
+-- its ranges
 pub record IsSite (x : Site) : Type 0 where
   pub valid : IsValid x.program
   pub data_is : length x.amx.store ≡ kept x.program x.room
@@ -43,6 +44,8 @@ Starts x p = is_start x.amx.code p ≡ true
 abbrev pub scene_at : Site → Scene
 scene_at x = scene_of x.program x.script x.limit
 
--- from a world, what the machine does for a run there, in at most so many steps beside those of each turn
-abbrev pub DoesAt : {A : Type 0} → Site → ℕ → World → Config → Outcome A → (A → World → Config → Type 0) → Type 0
+-- from a world, what the machine does for a run there, in at most so many steps beside those of
+-- each turn
+abbrev pub DoesAt : {A : Type 0} → Site → ℕ → World → Config → Outcome A
+    → (A → World → Config → Type 0) → Type 0
 DoesAt x count w c o Q = Does (move x.amx x.script) (length x.amx.code) x.room count w.turns c o Q

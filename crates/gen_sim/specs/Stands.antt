@@ -1,5 +1,5 @@
--- A machine that stands for a world. It is said at the start of a node's code and at each of its exits, and not
--- of the instructions between them.
+-- A machine that stands for a world. It is said at the start of a node's code and at each of its
+-- exits, and not of the instructions between them.
 use Rattle.std.specs.Prelude.{◌≡◌, ◌≤◌, ℕ, ℤ, List, Option, length, sum}
 use Rattle.pawn_cells.specs.Cells.{IsCell}
 use Rattle.pawn_program.specs.Program.{Program}
@@ -16,8 +16,9 @@ refers_at k slot m = pointed (slot_in (frame_at m.frames k) slot)
 
 -- a program that runs with a room of so many cells for heap and stack
 module _ (program : Program) (room : ℕ) where
-  -- the machine is at the address p with these values waiting, the last one pushed first; the host was shown
-  -- the same, the script stands at the same place, and the calls that are alive have the same needs
+  -- the machine is at the address p with these values waiting, the last one pushed first; the host
+  -- was shown the same, the script stands at the same place, and the calls that are alive have the
+  -- same needs
   pub record Stands (v : View) (pending : List ℤ) (p : ℕ) (w : World) (c : Config) : Type 0 where
     pub mem : Mem (all_cells program room) (low program room v) pending v.high w.memory c.state
     pub frame : c.state.frm ≡ v.frm
@@ -31,7 +32,8 @@ module _ (program : Program) (room : ℕ) where
     pub temps : length w.memory.heap ≡ v.temps
 
   -- and has a value in PRI
-  pub record With (v : View) (pending : List ℤ) (p : ℕ) (x : ℤ) (w : World) (c : Config) : Type 0 where
+  pub record With (v : View) (pending : List ℤ) (p : ℕ) (x : ℤ) (w : World)
+      (c : Config) : Type 0 where
     pub stands : Stands v pending p w c
     pub value : c.state.pri ≡ x
     pub fits : IsCell x

@@ -1,13 +1,16 @@
--- What stays while a piece of code runs: the pieces in use, and what a frame's parameters refer to. All that
--- changes from step to step is in `Stands`.
-use Rattle.std.specs.Prelude.{◌≡◌, ◌+◌, ◌-◌, ◌*◌, ◌^◌, ◌<◌, ◌≤◌, ℕ, ℤ, pos, List, [], ◌∷◌, ◌++◌, Option, None, Some, length}
+-- What stays while a piece of code runs: the pieces in use, and what a frame's parameters refer to.
+-- All that changes from step to step is in `Stands`.
+use Rattle.std.specs.Prelude.{◌≡◌, ◌+◌, ◌-◌, ◌*◌, ◌^◌, ◌<◌, ◌≤◌, ℕ, ℤ, pos, List, [], ◌∷◌, ◌++◌}
+use Rattle.std.specs.Prelude.{Option, None, Some, length}
 use Rattle.pawn_arrays.specs.Sizes.{elements_in}
 use Rattle.pawn_program.specs.Program.{Program}
 use Rattle.pawn_meaning.specs.Memory.{Name, Static, Local, Temporary, Reference}
-use Rattle.gen_sim.specs.Pieces.{Piece, Fixed, Thing, Automaton, Each, total, vectors, data_pieces, temporaries}
+use Rattle.gen_sim.specs.Pieces.{Piece, Fixed, Thing, Automaton, Each, total, vectors, data_pieces}
+use Rattle.gen_sim.specs.Pieces.{temporaries}
 use Rattle.gen_sim.specs.Places.{Placed}
 use Rattle.gen_sim.specs.Leads.{Leads}
 
+-- where the pieces in use stand, and what is alive
 pub record View : Type 0 where
   -- FRM
   pub frm : ℕ
@@ -41,8 +44,8 @@ IsOf calls temps (Fixed cells) = Unit {0}
 IsOf calls temps (Thing name sizes) = IsAlive calls temps name
 IsOf calls temps (Automaton a) = Unit {0}
 
--- a high piece is what the machine keeps, or a local or a plain parameter of such a call: data and temporary arguments
--- lie below
+-- a high piece is what the machine keeps, or a local or a plain parameter of such a call: data and
+-- temporary arguments lie below
 abbrev pub IsOfCall : (calls : ℕ) → Piece → Type 0
 IsOfCall calls (Fixed cells) = Unit {0}
 IsOfCall calls (Thing (Static o) sizes) = ⊥
@@ -88,8 +91,8 @@ module _ (program : Program) (room : ℕ) where
     pub cell_is : cell ≡ first + length (vectors sizes) + i
     pub inside : i < elements_in sizes
 
-  -- a slot of the frame that runs has the address of a reference in its cell, three cells and those of the
-  -- slots before it above FRM. What it refers to was there before the call
+  -- a slot of the frame that runs has the address of a reference in its cell, three cells and those
+  -- of the slots before it above FRM. What it refers to was there before the call
   pub record ParamAt (v : View) (slot : ℕ) (r : Reference) : Type 0 where
     pub cell : ℕ
     pub refers : RefersTo v r cell

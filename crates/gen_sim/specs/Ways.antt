@@ -17,8 +17,8 @@ use Rattle.gen_sim.specs.Back.{Back}
 use Rattle.gen_sim.specs.Fits.{own_sizes, locals_of}
 use Rattle.gen_sim.specs.Here.{Exits, Here}
 
--- the views in which the loop's body and the function's body began, and the caller's, in which some cells wait and to
--- which a RETN returns
+-- the views in which the loop's body and the function's body began, and the caller's, in which some
+-- cells wait and to which a RETN returns
 pub record Outer : Type 0 where
   pub loop : View
   pub body : View
@@ -31,8 +31,8 @@ abbrev pub made_view : List Slot → List ℕ → View → View
 made_view slots [] v = v
 made_view slots (s ∷ made) v = made_view slots made (with_local v s (own_sizes (slice_get slots s)))
 
--- at the statement's end; at the loop's exits without the locals made since its body began; and at the caller without
--- the frame
+-- at the statement's end; at the loop's exits without the locals made since its body began; and at
+-- the caller without the frame
 abbrev pub Left : Site → Exits → Outer → View → ℕ → Way → World → Config → Type 0
 Left x e o v q Through w c = Stands x.program x.room v [] q w c
 Left x e o v q Broke w c = (e.looped ≡ true) × Stands x.program x.room o.loop [] e.broke w c
@@ -50,7 +50,8 @@ pub record InLoop (x : Site) (here : Here) (o : Outer) (v : View) : Type 0 where
   pub continued : here.exits.continued < 2 ^ 31
   pub upon : Upon x here.scope.slots here.since v o.loop
 
--- a view belongs to where a statement stands, and a RETN in the body's own view goes back to the caller
+-- a view belongs to where a statement stands, and a RETN in the body's own view goes back to the
+-- caller
 pub record Inside (x : Site) (here : Here) (o : Outer) (v : View) : Type 0 where
   pub loop : here.exits.looped ≡ true → InLoop x here o v
   pub body : Upon x here.scope.slots here.scope.made v o.body

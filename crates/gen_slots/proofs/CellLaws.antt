@@ -11,5 +11,6 @@ use Rattle.gen_emit.proofs.ViewedLaws as viewed
 pub shape_cells : (shape : Shape) → cell_count shape ≡ cells_by (sizes shape)
 shape_cells shape = sym (extent_is shape.first (inner_sizes shape.second shape.third))
 
-pub slots_seen : (slots : List Slot) (s : ℕ) → slice_get (map slot_view slots) s ≡ option_map slot_view (slice_get slots s)
+pub slots_seen : (slots : List Slot) (s : ℕ)
+    → slice_get (map slot_view slots) s ≡ option_map slot_view (slice_get slots s)
 slots_seen slots s = viewed.slots_seen slots s

@@ -1,10 +1,13 @@
 -- The table of offsets without the newest slot.
-use Rattle.std.proofs.Common.{◌≡◌, ◌+◌, ◌-◌, ◌<◌, ◌≤◌, ◌⊎◌, inl, inr, ℕ, zero, suc, ℤ, List, [], ◌∷◌, ◌++◌, Option, None, Some, length, slice_get, slice_set, refl, sym, ap, subst, ◌∙◌, arith}
+use Rattle.std.proofs.Common.{◌≡◌, ◌+◌, ◌-◌, ◌<◌, ◌≤◌, ◌⊎◌, inl, inr, ℕ, zero, suc, ℤ, List, []}
+use Rattle.std.proofs.Common.{◌∷◌, ◌++◌, Option, None, Some, length, slice_get, slice_set, refl}
+use Rattle.std.proofs.Common.{sym, ap, subst, ◌∙◌, arith}
 use Rattle.std.proofs.lemmas.Bool.{cases_eq}
 use Rattle.std.specs.Prelude.{Any}
 use Rattle.pawn_program.specs.Program.{Slot}
 use Rattle.gen_slots.specs.Keeps.{offset_in, AreOffsets, Without}
-use Rattle.gen_slots.proofs.ListLaws.{none_some, get_set_other, get_set_is, any_both, any_left, any_one, once_before, once_new}
+use Rattle.gen_slots.proofs.ListLaws.{none_some, get_set_other, get_set_is, any_both, any_left}
+use Rattle.gen_slots.proofs.ListLaws.{any_one, once_before, once_new}
 use Rattle.gen_slots.proofs.OffsetLaws.{offset_old}
 
 pub cleared : (offsets : List (Option ℤ)) (s : ℕ) → Without s offsets (slice_set offsets s None)
@@ -19,9 +22,11 @@ get_past (x ∷ l) zero v h e = omega (arith, h)
 get_past (x ∷ l) (suc s) v h e = get_past l s v (omega (arith, h)) e
 
 pub past_end : (offsets : List (Option ℤ)) (s : ℕ) → length offsets ≤ s → Without s offsets offsets
-past_end offsets s h = record { others = λ t other. refl; none = λ x e. get_past offsets s (Some x) h e }
+past_end offsets s h =
+    record { others = λ t other. refl; none = λ x e. get_past offsets s (Some x) h e }
 
-pub less_offsets : (slots : List Slot) (params : ℕ) (made : List ℕ) (s : ℕ) (offsets less : List (Option ℤ)) → Without s offsets less
+pub less_offsets : (slots : List Slot) (params : ℕ) (made : List ℕ) (s : ℕ)
+    (offsets less : List (Option ℤ)) → Without s offsets less
     → AreOffsets slots params (made ++ s ∷ []) offsets → AreOffsets slots params made less
 less_offsets slots params made s offsets less w o = record {
   once = once_before made s o.once;
@@ -34,11 +39,13 @@ less_offsets slots params made s offsets less w o = record {
     new : ¬ (Any (λ m. m ≡ s) made)
     new a = once_new made s o.once a
 
-    narrow : (t : ℕ) → ¬ (s ≡ t) → (t < params) ⊎ Any (λ m. m ≡ t) (made ++ s ∷ []) → (t < params) ⊎ Any (λ m. m ≡ t) made
+    narrow : (t : ℕ) → ¬ (s ≡ t) → (t < params) ⊎ Any (λ m. m ≡ t) (made ++ s ∷ [])
+        → (t < params) ⊎ Any (λ m. m ≡ t) made
     narrow t other (inl h) = inl h
     narrow t other (inr a) = pick (any_both (λ m. m ≡ t) made (s ∷ []) a)
       where
-        pick : Any (λ m. m ≡ t) made ⊎ Any (λ m. m ≡ t) (s ∷ []) → (t < params) ⊎ Any (λ m. m ≡ t) made
+        pick : Any (λ m. m ≡ t) made ⊎ Any (λ m. m ≡ t) (s ∷ [])
+            → (t < params) ⊎ Any (λ m. m ≡ t) made
         pick (inl b) = inr b
         pick (inr b) = absurd (other (any_one s t b))
 
@@ -51,7 +58,10 @@ less_offsets slots params made s offsets less w o = record {
         (at, old.1 ∙ offset_old slots params made (s ∷ []) t at)
 
 -- the newest one is out of force
-pub popped_offsets : (slots : List Slot) (params : ℕ) (made rest : List ℕ) (s : ℕ) (offsets less : List (Option ℤ)) → made ≡ rest ++ s ∷ []
-    → Without s offsets less → AreOffsets slots params made offsets → AreOffsets slots params rest less
+pub popped_offsets : (slots : List Slot) (params : ℕ) (made rest : List ℕ) (s : ℕ)
+    (offsets less : List (Option ℤ)) → made ≡ rest ++ s ∷ []
+    → Without s offsets less → AreOffsets slots params made offsets
+    → AreOffsets slots params rest less
 popped_offsets slots params made rest s offsets less e w o =
-    less_offsets slots params rest s offsets less w (subst (λ l. AreOffsets slots params l offsets) e o)
+    less_offsets slots params rest s offsets less w
+    (subst (λ l. AreOffsets slots params l offsets) e o)

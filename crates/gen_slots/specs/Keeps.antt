@@ -1,5 +1,7 @@
--- What the locals of a body are said to be: where each slot in force lies, and how many cells they take.
-use Rattle.std.specs.Prelude.{◌≡◌, ◌+◌, ◌*◌, ◌<◌, ◌⊎◌, ℕ, ℤ, pos, neg_ℤ, List, Option, None, Some, Any, map, nat_lt, slice_get, if◌then◌else◌}
+-- What the locals of a body are said to be: where each slot in force lies, and how many cells they
+-- take.
+use Rattle.std.specs.Prelude.{◌≡◌, ◌+◌, ◌*◌, ◌<◌, ◌⊎◌, ℕ, ℤ, pos, neg_ℤ, List, Option, None, Some}
+use Rattle.std.specs.Prelude.{Any, map, nat_lt, slice_get, if◌then◌else◌}
 use Rattle.pawn_program.specs.Program.{Slot}
 use Rattle.pawn_program.specs.Scope.{Scope}
 use Rattle.pawn_program.specs.View.{program_view, slot_view}
@@ -12,16 +14,23 @@ use Rattle.gen_slots.specs.declared.place.Place.{Place}
 -- the scope of what stands there, behind these slots
 abbrev pub scope_in : Place → List ℕ → Scope
 scope_in place made =
-    record { program = program_view place.program.now; slots = map slot_view place.slots.now; params = place.params; made = made }
+    record {
+      program = program_view place.program.now;
+      slots = map slot_view place.slots.now;
+      params = place.params;
+      made = made;
+    }
 
 -- the table is of the objects' addresses
 abbrev pub AreObjects : Place → Type 0
 AreObjects place =
-    (o : ℕ) (x : ℤ) → slice_get place.objects.now o ≡ Some x → x ≡ object_address (program_view place.program.now) o
+    (o : ℕ) (x : ℤ) → slice_get place.objects.now o ≡ Some x
+    → x ≡ object_address (program_view place.program.now) o
 
 -- from FRM to a slot's own cells
 abbrev pub offset_in : List Slot → ℕ → List ℕ → ℕ → ℤ
-offset_in slots params made s = if nat_lt s params then pos (12 + 4 * s) else neg_ℤ (pos (4 * cells_to slots made s))
+offset_in slots params made s =
+    if nat_lt s params then pos (12 + 4 * s) else neg_ℤ (pos (4 * cells_to slots made s))
 
 -- before any slot is made
 abbrev pub HasFirst : ℕ → ℕ → Option ℤ → Type 0
@@ -29,7 +38,8 @@ HasFirst params s None = Unit {0}
 HasFirst params s (Some x) = (s < params) × (x ≡ pos (12 + 4 * s))
 
 -- the table is of the offsets of slots in force: a slot that it has without one isn't in force
-pub record AreOffsets (slots : List Slot) (params : ℕ) (made : List ℕ) (offsets : List (Option ℤ)) : Type 0 where
+pub record AreOffsets (slots : List Slot) (params : ℕ) (made : List ℕ)
+    (offsets : List (Option ℤ)) : Type 0 where
   pub once : AreOnce made
   pub known : (s : ℕ) → Any (λ m. m ≡ s) made → ¬ (slice_get offsets s ≡ Some None)
   pub tell : (s : ℕ) (x : ℤ) → slice_get offsets s ≡ Some (Some x)

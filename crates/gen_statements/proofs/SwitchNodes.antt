@@ -1,5 +1,6 @@
 -- A switch, by what its parts appended.
-use Rattle.std.proofs.Common.{◌≡◌, ◌+◌, ◌*◌, ℕ, ℤ, List, [], ◌∷◌, ◌++◌, length, refl, ap, arith, length-append, Result, Ok, Err, IfOk}
+use Rattle.std.proofs.Common.{◌≡◌, ◌+◌, ◌*◌, ℕ, ℤ, List, [], ◌∷◌, ◌++◌, length, refl, ap, arith}
+use Rattle.std.proofs.Common.{length-append, Result, Ok, Err, IfOk}
 use Rattle.pawn_program.specs.Program.{Cases, no_cases, then_case, Else}
 use Rattle.gen_sim.specs.Items.{Item, past}
 use Rattle.gen_sim.specs.Here.{Exits, Here}
@@ -18,7 +19,8 @@ use Rattle.gen_statements.specs.declared.cases.Cased.{Cased}
 use Rattle.gen_statements.specs.Cased.{count_of, tabled, closed_cases, IsCased}
 use Rattle.gen_statements.specs.Standing.{here_in}
 
-length_cases_pairs : (cases : Cases) (tos : List ℤ) → length tos ≡ count_of cases → length (cases_pairs cases tos) ≡ 2 * cases_values cases
+length_cases_pairs : (cases : Cases) (tos : List ℤ) → length tos ≡ count_of cases
+    → length (cases_pairs cases tos) ≡ 2 * cases_values cases
 length_cases_pairs no_cases tos e = refl
 length_cases_pairs (then_case ranges s cases) [] e = absurd (omega (arith, e))
 length_cases_pairs (then_case ranges s cases) (to ∷ tos) e =
@@ -29,14 +31,17 @@ length_cases_pairs (then_case ranges s cases) (to ∷ tos) e =
       length_cases_pairs cases tos (omega (arith, e)),
     )
 
-pub switch_done : {E : Type 0} (place : Place) (made : List ℕ) (since : ℕ) (b c g d : Draft) (it : Cased) (r : Result Draft E) (cases : Cases)
-    (last : Else) (value : List Item) → Grown b c (λ exits. value) → IsCased place made since cases c g it
+pub switch_done : {E : Type 0} (place : Place) (made : List ℕ) (since : ℕ) (b c g d : Draft)
+    (it : Cased) (r : Result Draft E) (cases : Cases)
+    (last : Else) (value : List Item) → Grown b c (λ exits. value)
+    → IsCased place made since cases c g it
     → Grown g d (λ exits. else_items (here_in place made since exits) (4 * length g.code.code) last)
     → IfOk r (λ x. x ≡ closed_cases it cases d)
     → IfOk r (λ x. Grown b x (λ exits.
     let here = here_in place made since exits in
     let p = past (4 * length b.code.code) value in
-    closed_switch p cases value (cases_table here (cases_at p cases) cases) (λ end. cases_items here (cases_at p cases) end cases) (λ q. else_items here q last)))
+    closed_switch p cases value (cases_table here (cases_at p cases) cases)
+    (λ end. cases_items here (cases_at p cases) end cases) (λ q. else_items here q last)))
 switch_done place made since b c g d it (Err fault) cases last value gc gi gd er = er
 switch_done place made since b c g d it (Ok x) cases last value gc gi gd er =
     let here : Exits → Here = λ exits. here_in place made since exits in
@@ -46,14 +51,19 @@ switch_done place made since b c g d it (Ok x) cases last value gc gi gd er =
     let from : ℕ → Exits → ℕ → List Item = λ first exits q.
     let items : ℕ → List Item = λ end. cases_items (here exits) first end cases in
     let default_at = past (cases_at q cases) (items 0) in
-    table_code q cases default_at (cases_table (here exits) first cases) (items (past default_at (other exits default_at)) ++ other exits default_at) in
-    let begins : 4 * length o.code.code ≡ cases_at p cases = omega (arith, cells_of_table c o cases refl) in
+    table_code q cases default_at (cases_table (here exits) first cases)
+    (items (past default_at (other exits default_at)) ++ other exits default_at) in
+    let begins : 4 * length o.code.code ≡ cases_at p cases =
+    omega (arith, cells_of_table c o cases refl) in
     let whole : Grown c x (λ exits. from (4 * length o.code.code) exits p) =
-    switch_grown c o g d x cases it.ends (λ exits end. cases_items (here exits) (4 * length o.code.code) end cases) other
-    (λ exits. cases_table (here exits) (4 * length o.code.code) cases) (cases_pairs cases it.begins) it.at it.default
+    switch_grown c o g d x cases it.ends
+    (λ exits end. cases_items (here exits) (4 * length o.code.code) end cases) other
+    (λ exits. cases_table (here exits) (4 * length o.code.code) cases)
+    (cases_pairs cases it.begins) it.at it.default
     refl gi.code gd gi.at gi.default (length_cases_pairs cases it.begins gi.count)
     (λ h exits. gi.table ((plain_grown c o (unled_table p cases) refl).inside h) exits) er in
     let there : Grown c x (λ exits. from (cases_at p cases) exits p) =
-    grown_as c x (λ exits. from (4 * length o.code.code) exits p) (λ exits. from (cases_at p cases) exits p)
+    grown_as c x (λ exits. from (4 * length o.code.code) exits p)
+    (λ exits. from (cases_at p cases) exits p)
     (λ h exits. ap (λ first. from first exits p) begins) whole in
     part_grown b c x (λ exits. value) (λ exits q. from (cases_at q cases) exits q) gc there

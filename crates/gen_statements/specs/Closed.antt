@@ -16,4 +16,5 @@ closed_by hole top more holes b =
 -- behind a test at the end: the jump out of the loop, and the jump back to the top
 abbrev pub ended_by : (top more : ℤ) → List Hole → Built → Built
 ended_by top more holes b =
-    let end = pos (4 * length b.code + 16) in all_led end more holes (with_items (taking op.Jzer end ∷ taking op.Jump top ∷ []) b)
+    let end = pos (4 * length b.code + 16) in
+    all_led end more holes (with_items (taking op.Jzer end ∷ taking op.Jump top ∷ []) b)

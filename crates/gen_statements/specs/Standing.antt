@@ -1,4 +1,5 @@
--- Where the code of a statement is appended, and what is known there of the locals that were made before.
+-- Where the code of a statement is appended, and what is known there of the locals that were made
+-- before.
 use Rattle.std.specs.Prelude.{◌≡◌, ◌≤◌, ℕ, List, [], drop, length, map, take}
 use Rattle.pawn_program.specs.Program.{Slot}
 use Rattle.pawn_program.specs.View.{program_view, slot_view}
@@ -12,7 +13,8 @@ use Rattle.gen_slots.specs.declared.place.Place.{Place}
 
 -- behind these slots, of which so many were made before the loop's body began
 abbrev pub here_in : Place → List ℕ → ℕ → Exits → Here
-here_in place made since exits = record { scope = scope_in place made; since = drop since made; exits = exits }
+here_in place made since exits =
+    record { scope = scope_in place made; since = drop since made; exits = exits }
 
 -- in the body of a loop that begins there
 abbrev pub within_in : Place → List ℕ → Exits → Here
@@ -20,7 +22,8 @@ within_in place made exits = record { scope = scope_in place made; since = []; e
 
 -- a mark of what was in force, in what is
 abbrev pub IsMark : List Slot → Mark → List ℕ → Type 0
-IsMark slots mark made = (mark.made ≤ length made) × (mark.cells ≡ made_cells slots (take mark.made made))
+IsMark slots mark made =
+    (mark.made ≤ length made) × (mark.cells ≡ made_cells slots (take mark.made made))
 
 -- the locals are said as they are, and so are the program's objects and all their cells
 pub record Stands (place : Place) (locals : Locals) : Type 0 where

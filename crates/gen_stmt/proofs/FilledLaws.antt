@@ -1,5 +1,7 @@
 -- MOVS fills the cells that wait with those of an object.
-use Rattle.std.proofs.Common.{◌≡◌, ◌+◌, ◌*◌, ◌≤◌, inl, inr, ℕ, ℤ, pos, List, [], ◌++◌, Some, Bool, true, false, ◌==◌, ◌&&◌, ◌||◌, length, take, drop, nat_le, refl, sym, ap, subst, ◌∙◌, arith, append-nil, length-append, le-leb}
+use Rattle.std.proofs.Common.{◌≡◌, ◌+◌, ◌*◌, ◌≤◌, inl, inr, ℕ, ℤ, pos, List, [], ◌++◌, Some, Bool}
+use Rattle.std.proofs.Common.{true, false, ◌==◌, ◌&&◌, ◌||◌, length, take, drop, nat_le, refl, sym}
+use Rattle.std.proofs.Common.{ap, subst, ◌∙◌, arith, append-nil, length-append, le-leb}
 use Rattle.std.proofs.lemmas.List.Elements.{All-take, All-drop}
 use Rattle.std.specs.Prelude.{All}
 use Rattle.pawn_cells.specs.Cells.{IsCell}
@@ -35,26 +37,33 @@ third_of false false false d e = cc
 both : (a b : Bool) → a ≡ true → b ≡ true → (a && b) ≡ true
 both a b e f = rw (e, f) refl
 
-all_put : (free pending vs : List ℤ) → length vs ≡ length pending → put vs (length free) (free ++ pending) ≡ free ++ vs
+all_put : (free pending vs : List ℤ) → length vs ≡ length pending
+    → put vs (length free) (free ++ pending) ≡ free ++ vs
 all_put free pending vs e =
-    let none : drop (0 + length vs) pending ≡ [] = all_dropped pending (0 + length vs) (omega (arith, e)) in
+    let none : drop (0 + length vs) pending ≡ [] =
+    all_dropped pending (0 + length vs) (omega (arith, e)) in
     let k : length free ≡ length free + 0 = omega arith in
     ap (λ n. put vs n (free ++ pending)) k ∙ put-after free pending vs 0
     ∙ ap (λ (l : List ℤ). free ++ (vs ++ l)) none ∙ ap (λ (l : List ℤ). free ++ l) (append-nil vs)
 
-module _ {N : ℕ} {lows : List Piece} {pending : List ℤ} {high : List Piece} {m : Memory} {s : State} (mem : Mem N lows pending high m s) where
+module _ {N : ℕ} {lows : List Piece} {pending : List ℤ} {high : List Piece} {m : Memory} {s : State}
+    (mem : Mem N lows pending high m s) where
   -- other cells wait
-  filled_mem : (vs : List ℤ) → length vs ≡ length pending → All IsCell vs → (t : State) → t.cells ≡ put vs (total lows + length mem.free) s.cells
+  filled_mem : (vs : List ℤ) → length vs ≡ length pending → All IsCell vs → (t : State)
+      → t.cells ≡ put vs (total lows + length mem.free) s.cells
       → t.hea ≡ s.hea → t.stk ≡ s.stk → Mem N lows vs high m t
   filled_mem vs e vf t c f g =
       let between = mem.free ++ pending in
       let z = there_low m lows between high mem.there in
       let count = length-append mem.free pending in
-      let moved : put vs (total lows + length mem.free) (image m (row lows between high)) ≡ image m (row lows (mem.free ++ vs) high) =
+      let moved : put vs (total lows + length mem.free) (image m (row lows between high))
+      ≡ image m (row lows (mem.free ++ vs) high) =
       ap (λ (l : List ℤ). put vs (total lows + length mem.free) l) (image_row m lows between high)
-      ∙ ap (λ n. put vs (n + length mem.free) (image m lows ++ (between ++ image m high))) (sym (length_image m lows z))
+      ∙ ap (λ n. put vs (n + length mem.free) (image m lows ++ (between ++ image m high)))
+      (sym (length_image m lows z))
       ∙ put-after (image m lows) (between ++ image m high) vs (length mem.free)
-      ∙ ap (λ (l : List ℤ). image m lows ++ l) (put-before between (image m high) vs (length mem.free) (omega (arith, e, count)))
+      ∙ ap (λ (l : List ℤ). image m lows ++ l)
+      (put-before between (image m high) vs (length mem.free) (omega (arith, e, count)))
       ∙ ap (λ (l : List ℤ). image m lows ++ (l ++ image m high)) (all_put mem.free pending vs e)
       ∙ sym (image_row m lows (mem.free ++ vs) high) in
       record {
@@ -71,12 +80,16 @@ module _ {N : ℕ} {lows : List Piece} {pending : List ℤ} {high : List Piece} 
   waiting_live =
       let a : ℕ = 4 * (total lows + length mem.free) in
       let n : ℕ = length pending in
-      third_of (4 * n == 0) (nat_le (a + 4 * n) s.hea) (nat_le s.stk a && nat_le (a + 4 * n) (stp s)) ((s.hea == s.stk) && nat_le (a + 4 * n) (stp s))
+      third_of (4 * n == 0) (nat_le (a + 4 * n) s.hea)
+      (nat_le s.stk a && nat_le (a + 4 * n) (stp s))
+      ((s.hea == s.stk) && nat_le (a + 4 * n) (stp s))
       (both (nat_le s.stk a) (nat_le (a + 4 * n) (stp s)) (le-leb _ _ (omega (arith, mem.stk)))
       (le-leb _ _ (omega (arith, count_cells mem, mem.size, length-append mem.free pending))))
 
-module _ (x : Site) {v : View} {pending : List ℤ} {p : ℕ} {w : World} {c : Config} (a : Stands x.program x.room v pending p w c)
-    (name : Name) (sizes : List ℕ) (from : ℕ) (placed : PlacedIn x.program x.room v (Thing name sizes) from) where
+module _ (x : Site) {v : View} {pending : List ℤ} {p : ℕ} {w : World} {c : Config}
+    (a : Stands x.program x.room v pending p w c)
+    (name : Name) (sizes : List ℕ) (from : ℕ)
+    (placed : PlacedIn x.program x.room v (Thing name sizes) from) where
   all_inside : from + extent (Thing name sizes) ≤ all_cells x.program x.room
   all_inside = elim (placed_inside placed) [
     | inl l ↦ omega (arith, l, a.mem.size)
@@ -84,10 +97,13 @@ module _ (x : Site) {v : View} {pending : List ℤ} {p : ℕ} {w : World} {c : C
   ]
 
   -- ALT is the address of the cells that wait, and PRI the object's
-  pub fills : {A : Type 0} {d : ℕ} {o : Outcome A} {Q : A → World → Config → Type 0} (n : ℕ) → length pending ≡ n → extent (Thing name sizes) ≡ n
-      → c.state.pri ≡ pos (4 * from) → c.state.alt ≡ pos (4 * (total (low x.program x.room v) + length a.mem.free))
+  pub fills : {A : Type 0} {d : ℕ} {o : Outcome A} {Q : A → World → Config → Type 0} (n : ℕ)
+      → length pending ≡ n → extent (Thing name sizes) ≡ n
+      → c.state.pri ≡ pos (4 * from)
+      → c.state.alt ≡ pos (4 * (total (low x.program x.room v) + length a.mem.free))
       → fetched x.amx.code p ≡ Some (read_as (with op.Movs (pos (4 * n))))
-      → ((t : Config) → Stands x.program x.room v (cells_in w.memory (Thing name sizes)) (p + 8) w t → DoesAt x d w t o Q)
+      → ((t : Config) → Stands x.program x.room v (cells_in w.memory (Thing name sizes)) (p + 8) w t
+      → DoesAt x d w t o Q)
       → DoesAt x (1 + d) w c o Q
   fills n waits own g e f next =
       let cells = c.state.cells in
@@ -96,16 +112,28 @@ module _ (x : Site) {v : View} {pending : List ℤ} {p : ℕ} {w : World} {c : C
       ap (λ k. take k (drop from cells)) (sym own) ∙ mem_holds a.mem placed in
       let zero_more : from ≡ from + 0 = omega arith in
       let live_from : are_live c.state (4 * from) (4 * n) ≡ true =
-      ap (λ k. are_live c.state (4 * k) (4 * n)) zero_more ∙ part_live a.mem placed 0 n (omega (arith, own)) in
+      ap (λ k. are_live c.state (4 * k) (4 * n)) zero_more
+      ∙ part_live a.mem placed 0 n (omega (arith, own)) in
       let live_to : are_live c.state (4 * to) (4 * n) ≡ true =
       ap (λ k. are_live c.state (4 * to) (4 * k)) (sym waits) ∙ waiting_live a.mem in
       let count = count_cells a.mem in
       let inside : from + n ≤ length cells = omega (arith, all_inside, own, count) in
-      let is = moved_cells cells a.mem.fits from to n inside (omega (arith, count, a.mem.size, length-append a.mem.free pending, waits)) in
-      let t : State = record c.state { cells = put (take n (drop from cells)) to cells; cip = p + 8 } in
+      let is =
+      moved_cells cells a.mem.fits from to n inside
+      (omega (arith, count, a.mem.size, length-append a.mem.free pending, waits)) in
+      let t : State =
+      record c.state { cells = put (take n (drop from cells)) to cells; cip = p + 8 } in
       let vs = cells_in w.memory (Thing name sizes) in
-      let long : length vs ≡ length pending = omega (arith, length_cells w.memory (Thing name sizes) (mem_there a.mem placed), own, waits) in
-      let fit : All IsCell vs = subst (λ (l : List ℤ). All IsCell l) held (All-take IsCell n (drop from cells) (All-drop IsCell from cells a.mem.fits)) in
+      let long : length vs ≡ length pending =
+      omega (
+        arith,
+        length_cells w.memory (Thing name sizes) (mem_there a.mem placed),
+        own,
+        waits,
+      ) in
+      let fit : All IsCell vs =
+      subst (λ (l : List ℤ). All IsCell l) held
+      (All-take IsCell n (drop from cells) (All-drop IsCell from cells a.mem.fits)) in
       goes x a (with op.Movs (pos (4 * n))) f t (rw (e, g, live_from, live_to, is) refl)
       (next (record c { state = t }) (record {
         mem = filled_mem a.mem vs long fit t (ap (λ (l : List ℤ). put l to cells) held) refl refl;

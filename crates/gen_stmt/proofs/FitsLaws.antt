@@ -12,12 +12,16 @@ use Rattle.gen_stmt.specs.Well.{AreWell, TableAt}
 use Rattle.gen_stmt.proofs.StmtWeights.{stmt_light}
 use Rattle.gen_stmt.proofs.StmtWells.{stmt_well}
 
-pub stmt_fits : (here : Here) (s : Stmt) (in_list : Bool) → IsValidStmt here.scope here.exits.looped in_list s → (begin : ℕ)
-    → AreWell (length here.scope.program.natives) (λ at. StartsAt begin (stmt_items here begin s) at ⊎ IsExit here.exits at)
+pub stmt_fits : (here : Here) (s : Stmt) (in_list : Bool)
+    → IsValidStmt here.scope here.exits.looped in_list s → (begin : ℕ)
+    → AreWell (length here.scope.program.natives)
+    (λ at. StartsAt begin (stmt_items here begin s) at ⊎ IsExit here.exits at)
     (TableAt begin (stmt_items here begin s)) (stmt_items here begin s)
     × (length (item_cells (stmt_items here begin s)) + 20 ≤ stmt_weight never s)
 stmt_fits here s in_list h begin = (
-  stmt_well (λ at. StartsAt begin (stmt_items here begin s) at ⊎ IsExit here.exits at) (TableAt begin (stmt_items here begin s)) s here in_list h
-      (λ e. (inr (e, inl refl), inr (e, inr refl))) begin (record { starts = λ at z. inl z; tables = λ at z. z }),
+  stmt_well (λ at. StartsAt begin (stmt_items here begin s) at ⊎ IsExit here.exits at)
+      (TableAt begin (stmt_items here begin s)) s here in_list h
+      (λ e. (inr (e, inl refl), inr (e, inr refl))) begin
+      (record { starts = λ at z. inl z; tables = λ at z. z }),
   stmt_light s here begin,
 )

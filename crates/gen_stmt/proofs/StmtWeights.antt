@@ -1,11 +1,17 @@
--- The code of each statement is within its weight, with twenty cells to spare for what stands around it.
-use Rattle.std.proofs.Common.{◌≡◌, ◌+◌, ◌*◌, ◌≤◌, ℕ, ℤ, pos, List, [], ◌∷◌, ◌++◌, Option, None, Some, length, refl, arith, length-append}
+-- The code of each statement is within its weight, with twenty cells to spare for what stands
+-- around it.
+use Rattle.std.proofs.Common.{◌≡◌, ◌+◌, ◌*◌, ◌≤◌, ℕ, ℤ, pos, List, [], ◌∷◌, ◌++◌, Option, None}
+use Rattle.std.proofs.Common.{Some, length, refl, arith, length-append}
 use Rattle.std.proofs.lemmas.List.Sums.{sum_by-cons}
 use Rattle.pawn_cells.specs.Cells.{cell_of}
-use Rattle.pawn_program.specs.Program.{Perhaps, Absent, Present, Stmt, Block, Local, LocalArray, Do, If, While, DoWhile, For, Switch, Return, Break, Continue, Exit, Sleep, Assert, State, Empty, Else, no_else, otherwise, Cases, no_cases, then_case, Stmts, no_stmts, then_stmt, Slot}
+use Rattle.pawn_program.specs.Program.{Perhaps, Absent, Present, Stmt, Block, Local, LocalArray, Do}
+use Rattle.pawn_program.specs.Program.{If, While, DoWhile, For, Switch, Return, Break, Continue}
+use Rattle.pawn_program.specs.Program.{Exit, Sleep, Assert, State, Empty, Else, no_else, otherwise}
+use Rattle.pawn_program.specs.Program.{Cases, no_cases, then_case, Stmts, no_stmts, then_stmt, Slot}
 use Rattle.pawn_program.specs.Scope.{Scope}
 use Rattle.pawn_program.specs.ValidStmts.{slots_made, slots_made_by}
-use Rattle.pawn_meaning.specs.Weight.{perhaps_weight, stmt_weight, else_weight, cases_weight, stmts_weight, ranges_weight, values_in, never}
+use Rattle.pawn_meaning.specs.Weight.{perhaps_weight, stmt_weight, else_weight, cases_weight}
+use Rattle.pawn_meaning.specs.Weight.{stmts_weight, ranges_weight, values_in, never}
 use Rattle.amx_ops.specs.declared.op.Op.TheVariants as op
 use Rattle.amx_ops.specs.Written.{cells_of}
 use Rattle.gen_sim.specs.Items.{Item, appended, item_cells, past}
@@ -15,13 +21,15 @@ use Rattle.gen_sim.specs.JumpCode.{jump_to, other_at, choice_code}
 use Rattle.gen_expr.specs.ExprCode.{value_items}
 use Rattle.gen_sim.specs.Here.{Here, behind, within}
 use Rattle.gen_sim.specs.FlowCode.{leave_code}
-use Rattle.gen_sim.specs.LoopCode.{body_at, step_at, loop_end, loop_exits, loop_code, test_at, until_end, until_exits, until_code}
+use Rattle.gen_sim.specs.LoopCode.{body_at, step_at, loop_end, loop_exits, loop_code, test_at}
+use Rattle.gen_sim.specs.LoopCode.{until_end, until_exits, until_code}
 use Rattle.gen_sim.specs.StateCode.{entry_of, enter_code, switched_code}
 use Rattle.gen_stmt.specs.SwitchCode.{values_of, cases_values, table_item, cases_at, table_code}
 use Rattle.gen_expr.proofs.Counts.{count, choice_count}
 use Rattle.gen_expr.proofs.WeightLaws.{value_light}
 use Rattle.gen_stmt.specs.ClosedCode.{unknown}
-use Rattle.gen_stmt.specs.StmtCode.{condition_items, step_items, stmt_items, for_items, else_items, cases_items, cases_table, stmts_items}
+use Rattle.gen_stmt.specs.StmtCode.{condition_items, step_items, stmt_items, for_items, else_items}
+use Rattle.gen_stmt.specs.StmtCode.{cases_items, cases_table, stmts_items}
 use Rattle.gen_stmt.proofs.EndLaws.{length_table}
 
 -- ---- own items
@@ -34,7 +42,8 @@ enter_count : (f : Option ℕ) → count (enter_code f) ≤ 4
 enter_count None = omega arith
 enter_count (Some f) = omega arith
 
-loop_count : (top : ℕ) (test body step : List Item) → count (loop_code top test body step) ≡ count test + count body + count step + 4
+loop_count : (top : ℕ) (test body step : List Item)
+    → count (loop_code top test body step) ≡ count test + count body + count step + 4
 loop_count top test body step =
     let back = jump_to op.Jump top ∷ [] in
     omega (
@@ -44,41 +53,58 @@ loop_count top test body step =
       count-append step back,
     )
 
-until_count : (top : ℕ) (body test : List Item) → count (until_code top body test) ≡ count body + count test + 5
+until_count : (top : ℕ) (body test : List Item)
+    → count (until_code top body test) ≡ count body + count test + 5
 until_count top body test =
     let last = jump_to op.Jzer (until_end top body test) ∷ jump_to op.Jump top ∷ [] in
     omega (arith, count-append body (test ++ last), count-append test last)
 
 ranges_weigh : (ranges : List (ℤ × ℤ)) → ranges_weight ranges ≡ 2 * values_of ranges
 ranges_weigh [] = refl
-ranges_weigh (range ∷ ranges) = omega (arith, sum_by-cons (λ (it : ℤ × ℤ). 2 * values_in it) range ranges, ranges_weigh ranges)
+ranges_weigh (range ∷ ranges) =
+    omega (arith, sum_by-cons (λ (it : ℤ × ℤ). 2 * values_in it) range ranges, ranges_weigh ranges)
 
 table_count : (here : Here) (p : ℕ) (cases : Cases) (other begin : ℕ) (items : List Item)
-    → count (table_code p cases other (cases_table here begin cases) items) ≡ 5 + 2 * cases_values cases + count items
+    → count (table_code p cases other (cases_table here begin cases) items)
+    ≡ 5 + 2 * cases_values cases + count items
 table_count here p cases other begin items =
     omega (
       arith,
       length_table here cases begin,
-      length-append (cells_of (appended (table_item (cases_values cases) other (cases_table here begin cases)))) (item_cells items),
+      length-append (cells_of (appended
+          (table_item (cases_values cases) other (cases_table here begin cases))))
+          (item_cells items),
     )
 
-condition_light : (scope : Scope) (e : Perhaps) (begin : ℕ) → count (condition_items scope begin e) ≤ perhaps_weight never e + 2
+condition_light : (scope : Scope) (e : Perhaps) (begin : ℕ)
+    → count (condition_items scope begin e) ≤ perhaps_weight never e + 2
 condition_light scope Absent begin = omega arith
 condition_light scope (Present e) begin = omega (arith, value_light scope e begin)
 
-step_light : (scope : Scope) (e : Perhaps) (begin : ℕ) → count (step_items scope begin e) ≤ perhaps_weight never e
+step_light : (scope : Scope) (e : Perhaps) (begin : ℕ)
+    → count (step_items scope begin e) ≤ perhaps_weight never e
 step_light scope Absent begin = omega arith
 step_light scope (Present e) begin = omega (arith, value_light scope e begin)
 
 -- ---- each statement
 
 mutual
-  pub stmt_light : (s : Stmt) (here : Here) (begin : ℕ) → count (stmt_items here begin s) + 20 ≤ stmt_weight never s
+  pub stmt_light : (s : Stmt) (here : Here) (begin : ℕ)
+      → count (stmt_items here begin s) + 20 ≤ stmt_weight never s
   stmt_light (Block stmts) here begin =
       let leave = leave_code here.scope.slots (slots_made_by stmts) in
-      omega (arith, count-append (stmts_items here begin stmts) leave, leave_count here.scope.slots (slots_made_by stmts), stmts_light stmts here begin)
+      omega (
+        arith,
+        count-append (stmts_items here begin stmts) leave,
+        leave_count here.scope.slots (slots_made_by stmts),
+        stmts_light stmts here begin,
+      )
   stmt_light (Local s e) here begin =
-      omega (arith, count-append (value_items here.scope begin e) (alone op.PushPri ∷ []), value_light here.scope e begin)
+      omega (
+        arith,
+        count-append (value_items here.scope begin e) (alone op.PushPri ∷ []),
+        value_light here.scope e begin,
+      )
   stmt_light (LocalArray s o) here begin = omega arith
   stmt_light (Do e) here begin = omega (arith, value_light here.scope e begin)
   stmt_light (If c a b) here begin =
@@ -98,7 +124,12 @@ mutual
       let test = value_items here.scope begin c in
       let at = body_at begin test in
       let exits = loop_exits begin test (stmt_items (within unknown here) at s) [] in
-      omega (arith, loop_count begin test (stmt_items (within exits here) at s) [], value_light here.scope c begin, stmt_light s (within exits here) at)
+      omega (
+        arith,
+        loop_count begin test (stmt_items (within exits here) at s) [],
+        value_light here.scope c begin,
+        stmt_light s (within exits here) at,
+      )
   stmt_light (DoWhile s c) here begin =
       let first = stmt_items (within unknown here) (begin + 4) s in
       let test = value_items here.scope (test_at begin first) c in
@@ -161,41 +192,64 @@ mutual
       )
   stmt_light Break here begin =
       let leave = leave_code here.scope.slots here.since in
-      omega (arith, count-append leave (jump_to op.Jump here.exits.broke ∷ []), leave_count here.scope.slots here.since)
+      omega (
+        arith,
+        count-append leave (jump_to op.Jump here.exits.broke ∷ []),
+        leave_count here.scope.slots here.since,
+      )
   stmt_light Continue here begin =
       let leave = leave_code here.scope.slots here.since in
-      omega (arith, count-append leave (jump_to op.Jump here.exits.continued ∷ []), leave_count here.scope.slots here.since)
+      omega (
+        arith,
+        count-append leave (jump_to op.Jump here.exits.continued ∷ []),
+        leave_count here.scope.slots here.since,
+      )
   stmt_light (Exit e tag) here begin =
       omega (
         arith,
-        count-append (value_items here.scope begin e) (taking op.ConstAlt (cell_of tag) ∷ taking op.Halt (pos 1) ∷ []),
+        count-append (value_items here.scope begin e)
+            (taking op.ConstAlt (cell_of tag) ∷ taking op.Halt (pos 1) ∷ []),
         value_light here.scope e begin,
       )
   stmt_light (Sleep e tag) here begin =
       omega (
         arith,
-        count-append (value_items here.scope begin e) (taking op.ConstAlt (cell_of tag) ∷ taking op.Halt (pos 12) ∷ []),
+        count-append (value_items here.scope begin e)
+            (taking op.ConstAlt (cell_of tag) ∷ taking op.Halt (pos 12) ∷ []),
         value_light here.scope e begin,
       )
   stmt_light (Assert e) here begin =
       let value = value_items here.scope begin e in
       let p = past begin value in
       let halt = taking op.Halt (pos 2) ∷ [] in
-      omega (arith, count-append value (choice_code p [] halt), choice_count p [] halt, value_light here.scope e begin)
+      omega (
+        arith,
+        count-append value (choice_code p [] halt),
+        choice_count p [] halt,
+        value_light here.scope e begin,
+      )
   stmt_light (State automaton state c) here begin =
       let test = condition_items here.scope begin c in
       let p = past begin test in
       let entry = entry_of here.scope.program automaton state in
       let first = switched_code here.scope.program automaton state in
-      omega (arith, count-append test (choice_code p first []), choice_count p first [], enter_count entry, condition_light here.scope c begin)
+      omega (
+        arith,
+        count-append test (choice_code p first []),
+        choice_count p first [],
+        enter_count entry,
+        condition_light here.scope c begin,
+      )
   stmt_light Empty here begin = omega arith
 
-  pub else_light : (other : Else) (here : Here) (begin : ℕ) → count (else_items here begin other) ≤ else_weight never other
+  pub else_light : (other : Else) (here : Here) (begin : ℕ)
+      → count (else_items here begin other) ≤ else_weight never other
   else_light no_else here begin = omega arith
   else_light (otherwise s) here begin = omega (arith, stmt_light s here begin)
 
   -- with the pairs of their table
-  pub cases_light : (cases : Cases) (here : Here) (begin end : ℕ) → count (cases_items here begin end cases) + 2 * cases_values cases ≤ cases_weight never cases
+  pub cases_light : (cases : Cases) (here : Here) (begin end : ℕ)
+      → count (cases_items here begin end cases) + 2 * cases_values cases ≤ cases_weight never cases
   cases_light no_cases here begin end = omega arith
   cases_light (then_case ranges s cases) here begin end =
       let one = stmt_items here begin s in
@@ -208,7 +262,8 @@ mutual
         cases_light cases here next end,
       )
 
-  pub stmts_light : (stmts : Stmts) (here : Here) (begin : ℕ) → count (stmts_items here begin stmts) ≤ stmts_weight never stmts
+  pub stmts_light : (stmts : Stmts) (here : Here) (begin : ℕ)
+      → count (stmts_items here begin stmts) ≤ stmts_weight never stmts
   stmts_light no_stmts here begin = omega arith
   stmts_light (then_stmt s stmts) here begin =
       let first = stmt_items here begin s in

@@ -1,4 +1,5 @@
--- What is known of a statement beside its own validity: the slots that it makes are new, and the program is valid.
+-- What is known of a statement beside its own validity: the slots that it makes are new, and the
+-- program is valid.
 use Rattle.std.specs.Prelude.{◌≡◌, ◌+◌, ◌^◌, ◌<◌, ℕ, List, All, Any, length}
 use Rattle.pawn_program.specs.Program.{Slot, Automaton, Program}
 use Rattle.pawn_program.specs.Scope.{Scope, IsMade}

@@ -13,10 +13,13 @@ use Rattle.gen_stmt.specs.Well.{AreWell, TableAt}
 abbrev pub IsExit : Exits → ℕ → Type 0
 IsExit exits at = (exits.looped ≡ true) × ((at ≡ exits.broke) ⊎ (at ≡ exits.continued))
 
--- it leads to its own starts, to its end and to its exits, and its switches to its own case tables; it is within the weight
--- with twenty cells to spare
+-- it leads to its own starts, to its end and to its exits, and its switches to its own case tables;
+-- it is within the weight with twenty cells to spare
 abbrev pub StmtFits : Type 0
-StmtFits = (here : Here) (s : Stmt) (in_list : Bool) → IsValidStmt here.scope here.exits.looped in_list s → (begin : ℕ)
-    → AreWell (length here.scope.program.natives) (λ at. StartsAt begin (stmt_items here begin s) at ⊎ IsExit here.exits at)
+StmtFits =
+    (here : Here) (s : Stmt) (in_list : Bool) → IsValidStmt here.scope here.exits.looped in_list s
+    → (begin : ℕ)
+    → AreWell (length here.scope.program.natives)
+    (λ at. StartsAt begin (stmt_items here begin s) at ⊎ IsExit here.exits at)
     (TableAt begin (stmt_items here begin s)) (stmt_items here begin s)
     × (length (item_cells (stmt_items here begin s)) + 20 ≤ stmt_weight never s)

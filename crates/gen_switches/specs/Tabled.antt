@@ -6,6 +6,8 @@ use Rattle.gen_sim.specs.Items.{Item}
 use Rattle.gen_sim.specs.SimpleCode.{taking}
 use Rattle.gen_stmt.specs.SwitchCode.{cases_values, table_item}
 
+-- its size is known: a record for each value, all of whose cells are 0 so far
 abbrev pub unled_table : ℕ → Cases → List Item
 unled_table p cases =
-    taking op.Switch (pos (p + 8)) ∷ table_item (cases_values cases) 0 (replicate (2 * cases_values cases) (pos 0)) ∷ []
+    taking op.Switch (pos (p + 8))
+    ∷ table_item (cases_values cases) 0 (replicate (2 * cases_values cases) (pos 0)) ∷ []

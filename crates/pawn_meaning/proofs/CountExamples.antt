@@ -6,7 +6,8 @@ use Rattle.host_script.specs.declared.event.End.TheVariants as end
 use Rattle.pawn_cells.specs.declared.operator.Operator.TheVariants as operator
 use Rattle.pawn_cells.specs.Operators.{binary}
 use Rattle.pawn_program.specs.Program as node
-use Rattle.pawn_program.specs.Program.{Expr, Const, Stmt, Function, Program, ScalarSlot, ArraySlot, no_else}
+use Rattle.pawn_program.specs.Program.{Expr, Const, Stmt, Function, Program, ScalarSlot, ArraySlot}
+use Rattle.pawn_program.specs.Program.{no_else}
 use Rattle.pawn_meaning.specs.Need.{need, locals}
 use Rattle.pawn_meaning.specs.Weight.{weight, lean}
 use Rattle.pawn_meaning.specs.Fold.{fold}
@@ -16,11 +17,14 @@ use Rattle.pawn_meaning.proofs.Programs.{block, args, function, program_of, n, o
 -- f(n) { if (n) return f(n - 1); return 0; } main() { return f(100); }, here with 2
 abbrev f : Function
 f = function (ScalarSlot ∷ []) (ScalarSlot ∷ []) (
-    node.If (own 0) (node.Return (node.Call 1 (args (node.Value (node.Binary operator.Subtract (own 0) (n 1)) ∷ [])))) no_else
+    node.If (own 0) (node.Return (node.Call 1
+    (args (node.Value (node.Binary operator.Subtract (own 0) (n 1)) ∷ [])))) no_else
     ∷ node.Return (n 0) ∷ [])
 
 abbrev counted : Program
-counted = program_of [] (function [] [] (node.Return (node.Call 1 (args (node.Value (n 2) ∷ []))) ∷ []) ∷ f ∷ []) []
+counted =
+    program_of [] (function [] [] (node.Return (node.Call 1 (args (node.Value (n 2) ∷ []))) ∷ [])
+    ∷ f ∷ []) []
 
 need_of_f : need f ≡ 8
 need_of_f = refl
@@ -48,21 +52,27 @@ unfolding int_wrap binary
 cut = refl
 
 -- a main with a parameter is a stray access at once, and so is a function that isn't there
-with_parameter : meaning counted plain 1 5 ≡ record { entries = []; last = Ended end.Stray; turns = 0; peak = 0; chains = [] }
+with_parameter : meaning counted plain 1 5
+    ≡ record { entries = []; last = Ended end.Stray; turns = 0; peak = 0; chains = [] }
 with_parameter = refl
 
-no_function : meaning counted plain 2 5 ≡ record { entries = []; last = Ended end.Stray; turns = 0; peak = 0; chains = [] }
+no_function : meaning counted plain 2 5
+    ≡ record { entries = []; last = Ended end.Stray; turns = 0; peak = 0; chains = [] }
 no_function = refl
 
 -- f(p(1)): the call's turn begins behind its argument
 abbrev argument_first : Program
-argument_first = program_of [] (function [] [] (node.Do (node.Call 1 (args (node.Value (node.Native 0 (args (node.Value (n 1) ∷ []))) ∷ []))) ∷ []) ∷ f ∷ []) []
+argument_first =
+    program_of [] (function [] [] (node.Do
+    (node.Call 1 (args (node.Value (node.Native 0 (args (node.Value (n 1) ∷ []))) ∷ []))) ∷ [])
+    ∷ f ∷ []) []
 
 shows_then_cut : shown argument_first 0 ≡ record { events = p_shows (pos 1) ∷ []; last = Cut }
 shows_then_cut = refl
 
 -- { { new a[10]; } new b[10]; }, and a[2][3] with its offsets
-path : locals (ArraySlot (10 ∷ []) ∷ ArraySlot (10 ∷ []) ∷ []) (block (block (node.LocalArray 0 0 ∷ []) ∷ node.LocalArray 1 0 ∷ [])) ≡ 20
+path : locals (ArraySlot (10 ∷ []) ∷ ArraySlot (10 ∷ []) ∷ [])
+    (block (block (node.LocalArray 0 0 ∷ []) ∷ node.LocalArray 1 0 ∷ [])) ≡ 20
 path = refl
 
 offsets : locals (ArraySlot (2 ∷ 3 ∷ []) ∷ []) (block (node.LocalArray 0 0 ∷ [])) ≡ 8
@@ -71,7 +81,8 @@ offsets = refl
 -- main() return 1 + 1 + 1 weighs two statements and five expressions; lean counts the sum as one
 abbrev sum : Program
 sum = program_of [] (function [] [] (
-    node.Return (node.Binary operator.Add (node.Binary operator.Add (n 1) (n 1)) (n 1)) ∷ []) ∷ []) []
+    node.Return (node.Binary operator.Add (node.Binary operator.Add (n 1) (n 1)) (n 1)) ∷ []) ∷ [])
+    []
 
 weight_of_sum : weight sum ≡ 280
 weight_of_sum = refl

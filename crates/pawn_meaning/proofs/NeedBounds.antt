@@ -1,14 +1,30 @@
 -- What an expression keeps is no more than it weighs, node by node.
-use Rattle.std.proofs.Common.{◌≡◌, ◌+◌, ◌*◌, ◌≤◌, ℕ, zero, suc, max, List, [], ◌∷◌, map, Some, length, slice_get, arith}
+use Rattle.std.proofs.Common.{◌≡◌, ◌+◌, ◌*◌, ◌≤◌, ℕ, zero, suc, max, List, [], ◌∷◌, map, Some}
+use Rattle.std.proofs.Common.{length, slice_get, arith}
 use Rattle.std.specs.List.{All, sum_by}
 use Rattle.std.proofs.lemmas.List.Elements.{All-head, All-tail}
 use Rattle.std.proofs.lemmas.List.Sums.{sum_by-cons}
-use Rattle.pawn_program.specs.Program.{Scalar, Global, Own, Through, Element, Char, Array, Object, SlotArray, ParamArray, Row, From, Expr, Const, Read, Unary, Binary, Chain, And, Or, Cond, Assign, Update, UpdateBy, Step, StepBy, Copy, Operate, OperateOne, Call, Native, Seq, Links, no_links, then_link, Arg, Value, Ref, Whole, Temp, Args, no_args, then_arg, Perhaps, Absent, Present, Stmt, Block, Local, LocalArray, Do, If, While, DoWhile, For, Switch, Return, Break, Continue, Exit, Sleep, Assert, State, Empty, Else, no_else, otherwise, Cases, no_cases, then_case, Stmts, no_stmts, then_stmt, Body, Function, Program}
+use Rattle.pawn_program.specs.Program.{Scalar, Global, Own, Through, Element, Char, Array, Object}
+use Rattle.pawn_program.specs.Program.{SlotArray, ParamArray, Row, From, Expr, Const, Read, Unary}
+use Rattle.pawn_program.specs.Program.{Binary, Chain, And, Or, Cond, Assign, Update, UpdateBy, Step}
+use Rattle.pawn_program.specs.Program.{StepBy, Copy, Operate, OperateOne, Call, Native, Seq, Links}
+use Rattle.pawn_program.specs.Program.{no_links, then_link, Arg, Value, Ref, Whole, Temp, Args}
+use Rattle.pawn_program.specs.Program.{no_args, then_arg, Perhaps, Absent, Present, Stmt, Block}
+use Rattle.pawn_program.specs.Program.{Local, LocalArray, Do, If, While, DoWhile, For, Switch}
+use Rattle.pawn_program.specs.Program.{Return, Break, Continue, Exit, Sleep, Assert, State, Empty}
+use Rattle.pawn_program.specs.Program.{Else, no_else, otherwise, Cases, no_cases, then_case, Stmts}
+use Rattle.pawn_program.specs.Program.{no_stmts, then_stmt, Body, Function, Program}
 use Rattle.pawn_meaning.specs.Limits.{IsWithinLimits, IsWithinFunction, IsWithinBody}
 use Rattle.pawn_meaning.specs.declared.limits.TheConstants.{LOCALS_LIMIT}
-use Rattle.pawn_meaning.specs.Need.{greatest, count_of, place_load, array_load, load, links_load, arg_load, args_load, perhaps_load, stmt_load, else_load, cases_load, stmts_load, locals, greatest_locals, greatest_load, need}
+use Rattle.pawn_meaning.specs.Need.{greatest, count_of, place_load, array_load, load, links_load}
+use Rattle.pawn_meaning.specs.Need.{arg_load, args_load, perhaps_load, stmt_load, else_load}
+use Rattle.pawn_meaning.specs.Need.{cases_load, stmts_load, locals, greatest_locals, greatest_load}
+use Rattle.pawn_meaning.specs.Need.{need}
 use Rattle.pawn_meaning.specs.NeedIsSmall.{NeedIsSmall}
-use Rattle.pawn_meaning.specs.Weight.{never, scalar_weight, array_weight, expr_weight, links_weight, arg_weight, args_weight, perhaps_weight, stmt_weight, else_weight, cases_weight, stmts_weight, ranges_weight, function_weight}
+use Rattle.pawn_meaning.specs.Weight.{never, scalar_weight, array_weight, expr_weight, links_weight}
+use Rattle.pawn_meaning.specs.Weight.{arg_weight, args_weight, perhaps_weight, stmt_weight}
+use Rattle.pawn_meaning.specs.Weight.{else_weight, cases_weight, stmts_weight, ranges_weight}
+use Rattle.pawn_meaning.specs.Weight.{function_weight}
 
 mutual
   place_low : (p : Scalar) → place_load p ≤ scalar_weight never p
@@ -73,7 +89,8 @@ mutual
   stmt_low (If c a b) = omega (arith, load_low c, stmt_low a, else_low b)
   stmt_low (While c s) = omega (arith, load_low c, stmt_low s)
   stmt_low (DoWhile s c) = omega (arith, load_low c, stmt_low s)
-  stmt_low (For first c step s) = omega (arith, stmts_low first, perhaps_low c, perhaps_low step, stmt_low s)
+  stmt_low (For first c step s) =
+      omega (arith, stmts_low first, perhaps_low c, perhaps_low step, stmt_low s)
   stmt_low (Switch e cases d) = omega (arith, load_low e, cases_low cases, else_low d)
   stmt_low (Return e) = omega (arith, load_low e)
   stmt_low Break = omega arith
@@ -96,24 +113,38 @@ mutual
   stmts_low no_stmts = omega arith
   stmts_low (then_stmt s stmts) = omega (arith, stmt_low s, stmts_low stmts)
 
-bodies_low : (bodies : List Body) → greatest_load bodies ≤ sum_by (λ (body : Body). stmt_weight never body.stmt) bodies
+bodies_low : (bodies : List Body)
+    → greatest_load bodies ≤ sum_by (λ (body : Body). stmt_weight never body.stmt) bodies
 bodies_low [] = omega arith
 bodies_low (body ∷ bodies) =
-    omega (arith, stmt_low body.stmt, bodies_low bodies, sum_by-cons (λ (it : Body). stmt_weight never it.stmt) body bodies)
+    omega (
+      arith,
+      stmt_low body.stmt,
+      bodies_low bodies,
+      sum_by-cons (λ (it : Body). stmt_weight never it.stmt) body bodies,
+    )
 
-function_low : (fs : List Function) (i : ℕ) (f : Function) → slice_get fs i ≡ Some f → greatest_load f.bodies ≤ sum_by (function_weight never) fs
+function_low : (fs : List Function) (i : ℕ) (f : Function) → slice_get fs i ≡ Some f
+    → greatest_load f.bodies ≤ sum_by (function_weight never) fs
 function_low [] i f e = absurd (cc)
 function_low (g ∷ fs) zero f e =
     let same : g ≡ f = cc in
     rw (← same) (omega (arith, bodies_low g.bodies, sum_by-cons (function_weight never) g fs))
-function_low (g ∷ fs) (suc i) f e = omega (arith, function_low fs i f e, sum_by-cons (function_weight never) g fs)
+function_low (g ∷ fs) (suc i) f e =
+    omega (arith, function_low fs i f e, sum_by-cons (function_weight never) g fs)
 
-bodies_within : (bodies : List Body) → All IsWithinBody bodies → greatest_locals bodies ≤ LOCALS_LIMIT
+bodies_within : (bodies : List Body) → All IsWithinBody bodies
+    → greatest_locals bodies ≤ LOCALS_LIMIT
 bodies_within [] h = omega arith
 bodies_within (body ∷ bodies) h =
-    omega (arith, (All-head IsWithinBody body bodies h).locals, bodies_within bodies (All-tail IsWithinBody body bodies h))
+    omega (
+      arith,
+      (All-head IsWithinBody body bodies h).locals,
+      bodies_within bodies (All-tail IsWithinBody body bodies h),
+    )
 
-function_within : (fs : List Function) (i : ℕ) (f : Function) → All IsWithinFunction fs → slice_get fs i ≡ Some f → greatest_locals f.bodies ≤ LOCALS_LIMIT
+function_within : (fs : List Function) (i : ℕ) (f : Function) → All IsWithinFunction fs
+    → slice_get fs i ≡ Some f → greatest_locals f.bodies ≤ LOCALS_LIMIT
 function_within [] i f h e = absurd (cc)
 function_within (g ∷ fs) zero f h e =
     let same : g ≡ f = cc in
@@ -122,4 +153,9 @@ function_within (g ∷ fs) (suc i) f h e = function_within fs i f (All-tail IsWi
 
 pub need_is_small_lem : NeedIsSmall
 need_is_small_lem program f function within there =
-    omega (arith, within.weight, function_low program.functions f function there, function_within program.functions f function within.functions there)
+    omega (
+      arith,
+      within.weight,
+      function_low program.functions f function there,
+      function_within program.functions f function within.functions there,
+    )

@@ -1,15 +1,18 @@
 -- User operators, conversions and automata, computed.
-use Rattle.std.proofs.Common.{◌≡◌, ℕ, pos, List, [], ◌∷◌, Some, None, Option, false, true, codes, refl}
+use Rattle.std.proofs.Common.{◌≡◌, ℕ, pos, List, [], ◌∷◌, Some, None, Option, false, true, codes}
+use Rattle.std.proofs.Common.{refl}
 use Rattle.std.specs.Int.{int_wrap}
 use Rattle.host_script.specs.declared.event.End.TheVariants as end
 use Rattle.pawn_cells.specs.declared.operator.Operator.TheVariants as operator
 use Rattle.pawn_cells.specs.declared.operator.Comparison.TheVariants as comparison
 use Rattle.pawn_cells.specs.Operators.{binary}
 use Rattle.pawn_program.specs.Program as node
-use Rattle.pawn_program.specs.Program.{Expr, Const, Perhaps, Absent, Present, Stmt, Body, Function, Automaton, Program, ScalarSlot, no_links, then_link}
+use Rattle.pawn_program.specs.Program.{Expr, Const, Perhaps, Absent, Present, Stmt, Body, Function}
+use Rattle.pawn_program.specs.Program.{Automaton, Program, ScalarSlot, no_links, then_link}
 use Rattle.pawn_meaning.specs.Told.{Ended, meaning}
 use Rattle.host_script.specs.Script.{plain}
-use Rattle.pawn_meaning.proofs.Programs.{block, args, function, program_of, cell, n, own, global, p, p_shows, shown, done}
+use Rattle.pawn_meaning.proofs.Programs.{block, args, function, program_of, cell, n, own, global, p}
+use Rattle.pawn_meaning.proofs.Programs.{p_shows, shown, done}
 
 -- ---- user operators
 
@@ -19,31 +22,37 @@ f_and_g =
     function [] [] (p (n 1) ∷ node.Return (n 3) ∷ [])
     ∷ function [] [] (p (n 2) ∷ node.Return (n 4) ∷ [])
     ∷ function (ScalarSlot ∷ ScalarSlot ∷ []) (ScalarSlot ∷ ScalarSlot ∷ []) (
-    node.Return (node.Binary operator.Add (node.Binary operator.Multiply (own 0) (n 10)) (own 1)) ∷ []) ∷ []
+    node.Return (node.Binary operator.Add (node.Binary operator.Multiply (own 0) (n 10)) (own 1))
+    ∷ []) ∷ []
 
 -- p(g() + f()): evaluated from left to right, and handed over exchanged
 abbrev exchanged : Program
 exchanged = program_of [] (function [] [] (
     p (node.Operate 3 (node.Call 2 (args [])) (node.Call 1 (args [])) true) ∷ []) ∷ f_and_g) []
 
-evaluated_in_order : shown exchanged 3 ≡ done (p_shows (pos 2) ∷ p_shows (pos 1) ∷ p_shows (pos 34) ∷ []) (pos 0)
+evaluated_in_order : shown exchanged 3
+    ≡ done (p_shows (pos 2) ∷ p_shows (pos 1) ∷ p_shows (pos 34) ∷ []) (pos 0)
 unfolding int_wrap binary
 evaluated_in_order = refl
 
--- x op= e by that operator, whose value a second function converts to its double; one link gives what
--- its operator gave, and of two links 1 or 0 comes
+-- x op= e by that operator, whose value a second function converts to its double; one link gives
+-- what its operator gave, and of two links 1 or 0 comes
 abbrev updated : Program
 updated = program_of (cell (pos 2) ∷ []) (function [] [] (
     p (node.UpdateBy (node.Global 0) 1 false (n 5) (Some 2)) ∷ p (global 0)
     ∷ p (node.StepBy (node.Global 0) 2 false) ∷ p (global 0)
     ∷ p (node.Chain (n 1) (then_link comparison.Less (n 2) (Some 1) false no_links))
-    ∷ p (node.Chain (n 1) (then_link comparison.Less (n 2) (Some 1) false (then_link comparison.Less (n 3) None false no_links))) ∷ [])
+    ∷ p (node.Chain (n 1) (then_link comparison.Less (n 2) (Some 1) false
+    (then_link comparison.Less (n 3) None false no_links))) ∷ [])
     ∷ function (ScalarSlot ∷ ScalarSlot ∷ []) (ScalarSlot ∷ ScalarSlot ∷ []) (
-    node.Return (node.Binary operator.Add (node.Binary operator.Multiply (own 0) (n 10)) (own 1)) ∷ [])
-    ∷ function (ScalarSlot ∷ []) (ScalarSlot ∷ []) (node.Return (node.Binary operator.Add (own 0) (own 0)) ∷ []) ∷ []) []
+    node.Return (node.Binary operator.Add (node.Binary operator.Multiply (own 0) (n 10)) (own 1))
+    ∷ [])
+    ∷ function (ScalarSlot ∷ []) (ScalarSlot ∷ [])
+    (node.Return (node.Binary operator.Add (own 0) (own 0)) ∷ []) ∷ []) []
 
 converted : shown updated 9 ≡ done (
-    p_shows (pos 50) ∷ p_shows (pos 50) ∷ p_shows (pos 50) ∷ p_shows (pos 100) ∷ p_shows (pos 12) ∷ p_shows (pos 1) ∷ []) (pos 0)
+    p_shows (pos 50) ∷ p_shows (pos 50) ∷ p_shows (pos 50) ∷ p_shows (pos 100) ∷ p_shows (pos 12)
+    ∷ p_shows (pos 1) ∷ []) (pos 0)
 unfolding int_wrap binary
 converted = refl
 
@@ -101,8 +110,10 @@ no_body = refl
 abbrev fallback : Program
 fallback = program_of [] (function [] (ScalarSlot ∷ []) (
     node.Local 0 (node.Call 1 (args [])) ∷ node.State 0 0 Absent
-    ∷ node.Return (node.Binary operator.Add (node.Binary operator.Multiply (n 10) (own 0)) (node.Call 1 (args []))) ∷ [])
-    ∷ routed ((0, 0) ∷ []) (Some 1) ((node.Return (n 1) ∷ []) ∷ (node.Return (n 2) ∷ []) ∷ []) ∷ []) (automaton None ∷ [])
+    ∷ node.Return (node.Binary operator.Add (node.Binary operator.Multiply (n 10) (own 0))
+    (node.Call 1 (args []))) ∷ [])
+    ∷ routed ((0, 0) ∷ []) (Some 1) ((node.Return (n 1) ∷ []) ∷ (node.Return (n 2) ∷ []) ∷ []) ∷ [])
+    (automaton None ∷ [])
 
 falls_back : shown fallback 2 ≡ done [] (pos 21)
 unfolding int_wrap binary

@@ -12,7 +12,9 @@ use Rattle.host_script.specs.declared.event.Seen.TheVariants as seen
 use Rattle.host_script.specs.declared.event.End.{End}
 use Rattle.host_script.specs.declared.event.End.TheVariants as end
 use Rattle.pawn_program.specs.Program as node
-use Rattle.pawn_program.specs.Program.{Scalar, Expr, Const, Read, Arg, Args, no_args, then_arg, Stmt, Stmts, no_stmts, then_stmt, Slot, StaticObject, Function, Automaton, Program}
+use Rattle.pawn_program.specs.Program.{Scalar, Expr, Const, Read, Arg, Args, no_args, then_arg}
+use Rattle.pawn_program.specs.Program.{Stmt, Stmts, no_stmts, then_stmt, Slot, StaticObject}
+use Rattle.pawn_program.specs.Program.{Function, Automaton, Program}
 use Rattle.pawn_meaning.specs.Told.{Last, Ended, Told, meaning, events_of}
 
 -- ---- programs
@@ -31,7 +33,12 @@ args (a ∷ others) = then_arg a (args others)
 -- parameters, all slots, and the statements of the block
 abbrev pub function : List Slot → List Slot → List Stmt → Function
 function params slots ss =
-    record { params = params; tag = 0; dispatch = None; bodies = record { slots = slots; stmt = block ss } ∷ [] }
+    record {
+      params = params;
+      tag = 0;
+      dispatch = None;
+      bodies = record { slots = slots; stmt = block ss } ∷ [];
+    }
 
 -- the first function is main
 abbrev pub program_of : List StaticObject → List Function → List Automaton → Program

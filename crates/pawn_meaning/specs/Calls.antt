@@ -1,5 +1,7 @@
 -- Calls of functions: which body runs, the frame that it runs in, and how a statement is left.
-use Rattle.std.specs.Prelude.{ℕ, ℤ, pos, List, ◌++◌, ◌-◌, Bool, true, false, ◌==◌, ◌&&◌, ◌||◌, Option, None, Some, is_some, slice_get, length, find, map, replicate, if◌then◌else◌}
+use Rattle.std.specs.Prelude.{ℕ, ℤ, pos, List, ◌++◌, ◌-◌, Bool, true, false, ◌==◌, ◌&&◌, ◌||◌}
+use Rattle.std.specs.Prelude.{Option, None, Some, is_some, slice_get, length, find, map, replicate}
+use Rattle.std.specs.Prelude.{if◌then◌else◌}
 use Rattle.host_script.specs.declared.event.End.TheVariants as end
 use Rattle.pawn_program.specs.Program.{Stmt, Body, Route, Function, Automaton, Program}
 use Rattle.pawn_meaning.specs.Memory.{Memory, Frame, Holds, Owns, PointsTo, Unmade, one_cell}
@@ -60,7 +62,8 @@ body_at function (Some number) = slice_get function.bodies number
 -- a function without a route has one body
 abbrev pub body_by : Function → Option Route → Memory → Option Body
 body_by function None m = slice_get function.bodies 0
-body_by function (Some route) m = body_at function (routed route (slice_get m.states route.automaton))
+body_by function (Some route) m =
+    body_at function (routed route (slice_get m.states route.automaton))
 
 -- ---- the frame
 
@@ -86,12 +89,14 @@ frame_of f function held body = record {
 
 -- in a frame of its own: error 13 where no body serves the state
 abbrev pub run_body : (Stmt → Run Way) → Option Body → Run ℤ
-run_body run body = or_stop body (end.Error (pos 13)) >>= (λ it. run it.stmt >>= (λ way. give (value_of way)))
+run_body run body =
+    or_stop body (end.Error (pos 13)) >>= (λ it. run it.stmt >>= (λ way. give (value_of way)))
 
 -- a call of the function with this number, its turn being begun
 abbrev pub enter_function : (Stmt → Run Way) → ℕ → Function → List Held → Run ℤ
 enter_function run f function held =
-    look (λ m. Some (body_by function function.dispatch m)) >>= (λ body. with_frame (frame_of f function held body) (run_body run body))
+    look (λ m. Some (body_by function function.dispatch m))
+    >>= (λ body. with_frame (frame_of f function held body) (run_body run body))
 
 -- ---- the entry function of an automaton
 
@@ -114,4 +119,5 @@ enter_of (Some automaton) = automaton.enter
 -- the function that a switch to a state calls, where there is one
 abbrev pub entry_for : Program → ℕ → ℕ → Option ℕ → Option ℕ
 entry_for program automaton state None = None
-entry_for program automaton state (Some f) = if serves (slice_get program.functions f) automaton state then Some f else None
+entry_for program automaton state (Some f) =
+    if serves (slice_get program.functions f) automaton state then Some f else None

@@ -1,14 +1,18 @@
--- Expressions that fold: what is built of constants and built-in operators alone, and the value that
--- such an expression has, which is the one that the meaning gives.
-use Rattle.std.specs.Prelude.{ℤ, pos, Bool, true, false, ◌&&◌, Option, None, Some, option_map, option_and_then, if◌then◌else◌}
+-- Expressions that fold: what is built of constants and built-in operators alone, and the value
+-- that such an expression has, which is the one that the meaning gives.
+use Rattle.std.specs.Prelude.{ℤ, pos, Bool, true, false, ◌&&◌, Option, None, Some, option_map}
+use Rattle.std.specs.Prelude.{option_and_then, if◌then◌else◌}
 use Rattle.pawn_cells.specs.declared.operator.Operator.{Operator}
 use Rattle.pawn_cells.specs.declared.operator.Comparison.{Comparison}
 use Rattle.pawn_cells.specs.declared.operator.Logical.TheVariants as logic
 use Rattle.pawn_cells.specs.Operators.{truth, is_true, prefix, binary, compare, logical}
-use Rattle.pawn_program.specs.Program.{Expr, Const, Read, Unary, Binary, Chain, And, Or, Cond, Assign, Update, UpdateBy, Step, StepBy, Copy, Operate, OperateOne, Call, Native, Seq, Links, no_links, then_link}
+use Rattle.pawn_program.specs.Program.{Expr, Const, Read, Unary, Binary, Chain, And, Or, Cond}
+use Rattle.pawn_program.specs.Program.{Assign, Update, UpdateBy, Step, StepBy, Copy, Operate}
+use Rattle.pawn_program.specs.Program.{OperateOne, Call, Native, Seq, Links, no_links, then_link}
 
 -- built of constants and built-in operators alone, whether all its parts are needed or not
 abbrev mutual
+  -- an expression that folds
   pub is_constant : Expr → Bool
   is_constant (Const v) = true
   is_constant (Read p) = false
@@ -74,6 +78,7 @@ after_link (Some true) others = others
 
 -- of an expression, as far as it is made of these
 abbrev mutual
+  -- its value: none where it doesn't fold or divides by zero
   pub constant_value : Expr → Option ℤ
   constant_value (Const v) = Some v
   constant_value (Read p) = None
@@ -82,7 +87,8 @@ abbrev mutual
   constant_value (Chain e links) = links_value (constant_value e) links
   constant_value (And l r) = and_value (constant_value l) (constant_value r)
   constant_value (Or l r) = or_value (constant_value l) (constant_value r)
-  constant_value (Cond c a b) = choice_value (constant_value c) (constant_value a) (constant_value b)
+  constant_value (Cond c a b) =
+      choice_value (constant_value c) (constant_value a) (constant_value b)
   constant_value (Assign p e) = None
   constant_value (Update p op e) = None
   constant_value (UpdateBy p f swapped e convert) = None
@@ -99,7 +105,9 @@ abbrev mutual
   pub links_value : Option ℤ → Links → Option ℤ
   links_value x no_links = x
   links_value x (then_link op e f swapped links) =
-      option_map truth (option_and_then (λ v. after_link (link_value op v (constant_value e)) (chain_value (constant_value e) links)) x)
+      option_map truth (option_and_then
+      (λ v. after_link (link_value op v (constant_value e))
+      (chain_value (constant_value e) links)) x)
 
   -- whether all links of a chain hold, behind the operand before them
   pub chain_value : Option ℤ → Links → Option Bool

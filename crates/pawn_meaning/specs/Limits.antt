@@ -1,8 +1,10 @@
 -- Programs within the limits: those that a generator is asked for.
 use Rattle.std.specs.Prelude.{◌+◌, ◌≤◌, ◌≤ℤ◌, ℕ, pos, List, All, length, sum_by}
 use Rattle.pawn_arrays.specs.Sizes.{cells_of, cell_limit}
-use Rattle.pawn_program.specs.Program.{Slot, ScalarSlot, ReferenceSlot, ArraySlot, OpenSlot, StaticObject, Body, Function, Program}
-use Rattle.pawn_meaning.specs.declared.limits.TheConstants.{DATA_LIMIT, LOCALS_LIMIT, WEIGHT_LIMIT, DYNAMIC_LIMIT}
+use Rattle.pawn_program.specs.Program.{Slot, ScalarSlot, ReferenceSlot, ArraySlot, OpenSlot}
+use Rattle.pawn_program.specs.Program.{StaticObject, Body, Function, Program}
+use Rattle.pawn_meaning.specs.declared.limits.TheConstants.{DATA_LIMIT, LOCALS_LIMIT, WEIGHT_LIMIT}
+use Rattle.pawn_meaning.specs.declared.limits.TheConstants.{DYNAMIC_LIMIT}
 use Rattle.pawn_meaning.specs.Need.{locals}
 use Rattle.pawn_meaning.specs.Weight.{weight}
 
@@ -30,7 +32,8 @@ pub record IsWithinFunction (function : Function) : Type 0 where
 
 -- the cells of all objects, and one for each automaton
 abbrev pub data_cells : Program → ℕ
-data_cells program = sum_by (λ (it : StaticObject). cells_of it.sizes) program.objects + length program.automata
+data_cells program =
+    sum_by (λ (it : StaticObject). cells_of it.sizes) program.objects + length program.automata
 
 -- all objects, functions, the data, the weight and the room
 pub record IsWithinLimits (program : Program) : Type 0 where

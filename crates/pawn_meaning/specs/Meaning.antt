@@ -1,7 +1,9 @@
--- What each node of a typed program means (Language Guide, "Statements", "Functions", "Operators and
--- expressions"). `fewer` is the meaning of a statement with one turn less: the body of a call, and
--- what follows a pass of a loop, go to it. Nearly all that valid programs never do ends as a stray access.
-use Rattle.std.specs.Prelude.{ℕ, ◌*◌, ℤ, pos, List, [], ◌∷◌, Bool, true, false, ◌&&◌, ◌||◌, Option, None, Some, slice_get, length, unwrap_or, if◌then◌else◌}
+-- What each node of a typed program means (Language Guide, "Statements", "Functions", "Operators
+-- and expressions"). `fewer` is the meaning of a statement with one turn less: the body of a call,
+-- and what follows a pass of a loop, go to it. Nearly all that valid programs never do ends as a
+-- stray access.
+use Rattle.std.specs.Prelude.{ℕ, ◌*◌, ℤ, pos, List, [], ◌∷◌, Bool, true, false, ◌&&◌, ◌||◌, Option}
+use Rattle.std.specs.Prelude.{None, Some, slice_get, length, unwrap_or, if◌then◌else◌}
 use Rattle.pawn_cells.specs.declared.operator.Comparison.{Comparison}
 use Rattle.pawn_cells.specs.declared.operator.Logical.TheVariants as logic
 use Rattle.pawn_cells.specs.Cells.{cell_of, add, less_eq}
@@ -9,14 +11,28 @@ use Rattle.pawn_cells.specs.Operators.{truth, is_true, prefix, binary, compare, 
 use Rattle.host_script.specs.declared.script.Script.{Script}
 use Rattle.host_script.specs.declared.event.End.TheVariants as end
 use Rattle.host_script.specs.declared.event.Event.TheVariants as event
-use Rattle.pawn_program.specs.Program.{Scalar, Global, Own, Element, Char, Array, Object, SlotArray, ParamArray, Row, From, Expr, Const, Read, Unary, Binary, Chain, And, Or, Cond, Assign, Update, UpdateBy, Step, StepBy, Copy, Operate, OperateOne, Call, Native, Seq, Links, no_links, then_link, Arg, Ref, Whole, Temp, Args, no_args, then_arg, Perhaps, Absent, Present, Stmt, Block, Local, LocalArray, Do, If, While, DoWhile, For, Switch, Return, Break, Continue, Exit, Sleep, Assert, State, Empty, Else, no_else, otherwise, Cases, no_cases, then_case, Stmts, no_stmts, then_stmt, Program}
+use Rattle.pawn_program.specs.Program.{Scalar, Global, Own, Element, Char, Array, Object, SlotArray}
+use Rattle.pawn_program.specs.Program.{ParamArray, Row, From, Expr, Const, Read, Unary, Binary}
+use Rattle.pawn_program.specs.Program.{Chain, And, Or, Cond, Assign, Update, UpdateBy, Step, StepBy}
+use Rattle.pawn_program.specs.Program.{Copy, Operate, OperateOne, Call, Native, Seq, Links}
+use Rattle.pawn_program.specs.Program.{no_links, then_link, Arg, Ref, Whole, Temp, Args, no_args}
+use Rattle.pawn_program.specs.Program.{then_arg, Perhaps, Absent, Present, Stmt, Block, Local}
+use Rattle.pawn_program.specs.Program.{LocalArray, Do, If, While, DoWhile, For, Switch, Return}
+use Rattle.pawn_program.specs.Program.{Break, Continue, Exit, Sleep, Assert, State, Empty, Else}
+use Rattle.pawn_program.specs.Program.{no_else, otherwise, Cases, no_cases, then_case, Stmts}
+use Rattle.pawn_program.specs.Program.{no_stmts, then_stmt, Program}
 use Rattle.pawn_program.specs.Program as node
 use Rattle.pawn_meaning.specs.Memory as memory
-use Rattle.pawn_meaning.specs.Memory.{Static, Reference, Place, one_cell, running, whole_of, own_whole, through, read, write, copied, made, with_temporary, switched, object_at}
-use Rattle.pawn_meaning.specs.Run.{Run, ◌>>=◌, Done, done, give, stop, or_stop, choose, at_zero, turn, look, change, say, with_heap}
+use Rattle.pawn_meaning.specs.Memory.{Static, Reference, Place, one_cell, running, whole_of}
+use Rattle.pawn_meaning.specs.Memory.{own_whole, through, read, write, copied, made, with_temporary}
+use Rattle.pawn_meaning.specs.Memory.{switched, object_at}
+use Rattle.pawn_meaning.specs.Run.{Run, ◌>>=◌, Done, done, give, stop, or_stop, choose, at_zero}
+use Rattle.pawn_meaning.specs.Run.{turn, look, change, say, with_heap}
 use Rattle.pawn_meaning.specs.Natives.{Held, Value, Refers, call_native}
-use Rattle.pawn_meaning.specs.References.{is_known, index, first_size, row_at, rest_from, cell_at, character_at, to_cell, refers}
-use Rattle.pawn_meaning.specs.Calls.{Way, Through, Broke, Continued, Returned, pass, again, enter_function, enter_of, entry_for}
+use Rattle.pawn_meaning.specs.References.{is_known, index, first_size, row_at, rest_from, cell_at}
+use Rattle.pawn_meaning.specs.References.{character_at, to_cell, refers}
+use Rattle.pawn_meaning.specs.Calls.{Way, Through, Broke, Continued, Returned, pass, again}
+use Rattle.pawn_meaning.specs.Calls.{enter_function, enter_of, entry_for}
 
 -- the program that runs, its script, and the bound on turns
 pub record Scene : Type 0 where
@@ -258,6 +274,7 @@ module _ (scene : Scene) (fewer : Fewer) where
 
   -- a statement, and how it is left
   abbrev mutual
+    -- what a statement does, and the way on behind it
     pub run : Stmt → Run Way
     run (Block stmts) = run_all stmts
     run (Local s e) = do
@@ -318,7 +335,8 @@ module _ (scene : Scene) (fewer : Fewer) where
       v ← condition c
       at_zero v (give Through) (do
         _ ← change (switched automaton state)
-        call_entry (entry_for scene.program automaton state (enter_of (slice_get scene.program.automata automaton))))
+        call_entry (entry_for scene.program automaton state
+            (enter_of (slice_get scene.program.automata automaton))))
     run Empty = give Through
 
     -- a statement that may be absent
@@ -329,7 +347,8 @@ module _ (scene : Scene) (fewer : Fewer) where
     -- the first case that holds the value, or what stands in the place of cases
     pub run_case : Cases → Run Way → ℤ → Run Way
     run_case no_cases other v = other
-    run_case (then_case ranges s cases) other v = choose (in_ranges ranges v) (run s) (run_case cases other v)
+    run_case (then_case ranges s cases) other v =
+        choose (in_ranges ranges v) (run s) (run_case cases other v)
 
     -- one after another, while each is left through its end
     pub run_all : Stmts → Run Way

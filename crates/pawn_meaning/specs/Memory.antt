@@ -1,13 +1,16 @@
--- What is alive in a run, apart from what a host sees: objects as flat lists of cells, the frames of
--- calls, the cells of temporary arguments, and the states of automata. A reference names an object,
--- and knows nothing of addresses. Where what is asked for isn't there the answer is none.
-use Rattle.std.specs.Prelude.{ℕ, ◌+◌, ◌-◌, ◌%◌, ℤ, pos, List, [], ◌∷◌, ◌++◌, ◌==◌, ◌&&◌, Option, None, Some, length, take, drop, sum, map, slice_get, slice_set, nat_lt, nat_le, if◌then◌else◌}
+-- What is alive in a run, apart from what a host sees: objects as flat lists of cells, the frames
+-- of calls, the cells of temporary arguments, and the states of automata. A reference names an
+-- object, and knows nothing of addresses. Where what is asked for isn't there the answer is none.
+use Rattle.std.specs.Prelude.{ℕ, ◌+◌, ◌-◌, ◌%◌, ℤ, pos, List, [], ◌∷◌, ◌++◌, ◌==◌, ◌&&◌, Option}
+use Rattle.std.specs.Prelude.{None, Some, length, take, drop, sum, map, slice_get, slice_set}
+use Rattle.std.specs.Prelude.{nat_lt, nat_le, if◌then◌else◌}
 use Rattle.pawn_cells.specs.Cells.{char_at, with_char, bits_of}
 use Rattle.pawn_arrays.specs.Sizes.{elements_in}
 
 -- ---- objects and what names them
 
--- cells in rows, with the sizes of all dimensions, the outermost first. A single cell has the size 1
+-- cells in rows, with the sizes of all dimensions, the outermost first. A single cell has the size
+-- 1
 pub record Object : Type 0 where
   pub sizes : List ℕ
   pub cells : List ℤ
@@ -16,8 +19,8 @@ pub record Object : Type 0 where
 pub data Name : Type 0 where
   -- a global, a static or a literal, by its number in the program
   Static : ℕ → Name
-  -- a local or a plain parameter: of the frame with so many frames below it, and the slot. So a name
-  -- stays while further calls begin and end
+  -- a local or a plain parameter: of the frame with so many frames below it, and the slot. So a
+  -- name stays while further calls begin and end
   Local : ℕ → ℕ → Name
   -- the cell of a temporary argument, with so many made before it that are still alive
   Temporary : ℕ → Name
@@ -28,7 +31,8 @@ pub record Reference : Type 0 where
   pub at : ℕ
   pub sizes : List ℕ
 
--- what a slot holds: an object of its own, a reference, or nothing before its declaration was reached
+-- what a slot holds: an object of its own, a reference, or nothing before its declaration was
+-- reached
 pub data Holds : Type 0 where
   Owns : Object → Holds
   PointsTo : Reference → Holds
@@ -68,7 +72,8 @@ live_need frames = sum (needs_of frames)
 -- the frame with so many frames below it
 abbrev pub frame_at : List Frame → ℕ → Option Frame
 frame_at [] below = None
-frame_at (frame ∷ frames) below = if length frames == below then Some frame else frame_at frames below
+frame_at (frame ∷ frames) below =
+    if length frames == below then Some frame else frame_at frames below
 
 -- the frames with another one in that place
 abbrev pub with_frame_at : List Frame → ℕ → Frame → List Frame
@@ -105,7 +110,10 @@ object_at m (Temporary n) = slice_get m.heap n
 abbrev pub with_slot : Option Frame → ℕ → ℕ → Holds → Memory → Memory
 with_slot None below s holds m = m
 with_slot (Some frame) below s holds m =
-    record m { frames = with_frame_at m.frames below (record frame { slots = slice_set frame.slots s holds }) }
+    record m {
+      frames = with_frame_at m.frames below
+          (record frame { slots = slice_set frame.slots s holds });
+    }
 
 -- another object in place of the one that a name means
 abbrev pub with_object : Name → Object → Memory → Memory
@@ -119,7 +127,8 @@ with_object (Temporary n) object m = record m { heap = slice_set m.heap n object
 abbrev pub cells_from : Option Object → ℕ → ℕ → Option (List ℤ)
 cells_from None i count = None
 cells_from (Some object) i count =
-    if nat_le (i + count) (length object.cells) then Some (take count (drop i object.cells)) else None
+    if nat_le (i + count) (length object.cells) then Some (take count (drop i object.cells))
+    else None
 
 -- so many cells of a named object from one on
 abbrev pub read_cells : Name → ℕ → ℕ → Memory → Option (List ℤ)
@@ -170,7 +179,8 @@ read (Character name i k) m = as_character k (read_cell name i m)
 -- the low byte of a value in place of a character
 abbrev pub write_character : Name → ℕ → ℕ → ℤ → Option ℤ → Memory → Option Memory
 write_character name i k v None m = None
-write_character name i k v (Some old) m = write_cells name i (with_char old k (bits_of v % 256) ∷ []) m
+write_character name i k v (Some old) m =
+    write_cells name i (with_char old k (bits_of v % 256) ∷ []) m
 
 -- a value stored at a place: a character keeps the low byte
 abbrev pub write : Place → ℤ → Memory → Option Memory
@@ -216,7 +226,8 @@ through s m = pointed (slot_in (frame_at m.frames (running m)) s)
 abbrev pub made_in : Option Frame → ℕ → ℕ → Object → Memory → Option Memory
 made_in None below s object m = None
 made_in (Some frame) below s object m =
-    if nat_lt s (length frame.slots) then Some (with_slot (Some frame) below s (Owns object) m) else None
+    if nat_lt s (length frame.slots) then Some (with_slot (Some frame) below s (Owns object) m)
+    else None
 
 -- one of its slots has a new object of its own
 abbrev pub made : ℕ → Object → Memory → Option Memory
@@ -235,4 +246,5 @@ cut_heap count m = record m { heap = take count m.heap }
 -- an automaton goes to a state
 abbrev pub switched : ℕ → ℕ → Memory → Option Memory
 switched automaton state m =
-    if nat_lt automaton (length m.states) then Some (record m { states = slice_set m.states automaton (Some state) }) else None
+    if nat_lt automaton (length m.states)
+    then Some (record m { states = slice_set m.states automaton (Some state) }) else None

@@ -1,9 +1,20 @@
 -- The need of a function: the cells that one call of it keeps on the stack and the heap at most, by
--- the source alone. It is the sum of the number of its parameters, of 3, of the greatest sum of local
--- cells on a path of blocks, and of the greatest load of an expression.
-use Rattle.std.specs.Prelude.{ℕ, suc, ◌+◌, ◌*◌, List, [], ◌∷◌, Option, None, Some, max, map, length, slice_get}
+-- the source alone. It is the sum of the number of its parameters, of 3, of the greatest sum of
+-- local cells on a path of blocks, and of the greatest load of an expression.
+use Rattle.std.specs.Prelude.{ℕ, suc, ◌+◌, ◌*◌, List, [], ◌∷◌, Option, None, Some, max, map, length}
+use Rattle.std.specs.Prelude.{slice_get}
 use Rattle.pawn_arrays.specs.Sizes.{cells_of}
-use Rattle.pawn_program.specs.Program.{Scalar, Global, Own, Through, Element, Char, Array, Object, SlotArray, ParamArray, Row, From, Expr, Const, Read, Unary, Binary, Chain, And, Or, Cond, Assign, Update, UpdateBy, Step, StepBy, Copy, Operate, OperateOne, Call, Native, Seq, Links, no_links, then_link, Arg, Value, Ref, Whole, Temp, Args, no_args, then_arg, Perhaps, Absent, Present, Stmt, Block, Local, LocalArray, Do, If, While, DoWhile, For, Switch, Return, Break, Continue, Exit, Sleep, Assert, State, Empty, Else, no_else, otherwise, Cases, no_cases, then_case, Stmts, no_stmts, then_stmt, Slot, ScalarSlot, ReferenceSlot, ArraySlot, OpenSlot, Body, Function}
+use Rattle.pawn_program.specs.Program.{Scalar, Global, Own, Through, Element, Char, Array, Object}
+use Rattle.pawn_program.specs.Program.{SlotArray, ParamArray, Row, From, Expr, Const, Read, Unary}
+use Rattle.pawn_program.specs.Program.{Binary, Chain, And, Or, Cond, Assign, Update, UpdateBy, Step}
+use Rattle.pawn_program.specs.Program.{StepBy, Copy, Operate, OperateOne, Call, Native, Seq, Links}
+use Rattle.pawn_program.specs.Program.{no_links, then_link, Arg, Value, Ref, Whole, Temp, Args}
+use Rattle.pawn_program.specs.Program.{no_args, then_arg, Perhaps, Absent, Present, Stmt, Block}
+use Rattle.pawn_program.specs.Program.{Local, LocalArray, Do, If, While, DoWhile, For, Switch}
+use Rattle.pawn_program.specs.Program.{Return, Break, Continue, Exit, Sleep, Assert, State, Empty}
+use Rattle.pawn_program.specs.Program.{Else, no_else, otherwise, Cases, no_cases, then_case, Stmts}
+use Rattle.pawn_program.specs.Program.{no_stmts, then_stmt, Slot, ScalarSlot, ReferenceSlot}
+use Rattle.pawn_program.specs.Program.{ArraySlot, OpenSlot, Body, Function}
 
 -- the greatest of some numbers, 0 of none
 abbrev pub greatest : List ℕ → ℕ
@@ -20,6 +31,7 @@ count_of (then_arg a args) = suc (count_of args)
 -- the cells that an expression keeps while its parts are evaluated. `Element`, `Char`, `Row` and
 -- `From` count as nodes; what holds a place, an array or an argument has its load
 abbrev mutual
+  -- what the parts of a place keep while it is found
   pub place_load : Scalar → ℕ
   place_load (Global o) = 0
   place_load (Own s) = 0
@@ -81,6 +93,7 @@ perhaps_load (Present e) = load e
 
 -- the greatest load in a statement
 abbrev mutual
+  -- the greatest load of an expression in a statement
   pub stmt_load : Stmt → ℕ
   stmt_load (Block stmts) = stmts_load stmts
   stmt_load (Local s e) = load e
@@ -89,7 +102,8 @@ abbrev mutual
   stmt_load (If c a b) = max (load c) (max (stmt_load a) (else_load b))
   stmt_load (While c s) = max (load c) (stmt_load s)
   stmt_load (DoWhile s c) = max (load c) (stmt_load s)
-  stmt_load (For first c step s) = max (stmts_load first) (max (perhaps_load c) (max (perhaps_load step) (stmt_load s)))
+  stmt_load (For first c step s) =
+      max (stmts_load first) (max (perhaps_load c) (max (perhaps_load step) (stmt_load s)))
   stmt_load (Switch e cases d) = max (load e) (max (cases_load cases) (else_load d))
   stmt_load (Return e) = load e
   stmt_load Break = 0
@@ -126,9 +140,10 @@ slot_size (Some (ArraySlot sizes)) = cells_of sizes
 slot_size (Some (OpenSlot sizes)) = 1
 
 module _ (slots : List Slot) where
-  -- the greatest sum of local cells on a path of blocks: a block has all its own, wherever they stand
-  -- in it, and those of its greatest inner block. A `for` with what it does first is a block
+  -- the greatest sum of local cells on a path of blocks: a block has all its own, wherever they
+  -- stand in it, and those of its greatest inner block. A `for` with what it does first is a block
   abbrev mutual
+    -- the greatest sum of local cells on a path of blocks within a statement
     pub locals : Stmt → ℕ
     locals (Block stmts) = own_locals stmts + inner_locals stmts
     locals (Local s e) = 0
@@ -198,4 +213,5 @@ greatest_load bodies = greatest (map (λ (body : Body). stmt_load body.stmt) bod
 
 -- of a function
 abbrev pub need : Function → ℕ
-need function = length function.params + 3 + greatest_locals function.bodies + greatest_load function.bodies
+need function =
+    length function.params + 3 + greatest_locals function.bodies + greatest_load function.bodies

@@ -1,5 +1,6 @@
 -- References to parts: what an index leads to, and what an index outside does.
-use Rattle.std.specs.Prelude.{ℕ, ◌+◌, ◌*◌, ◌-◌, ◌/◌, ◌%◌, ℤ, pos, negsuc, List, [], ◌∷◌, Bool, true, false, Option, None, Some, nat_lt, if◌then◌else◌}
+use Rattle.std.specs.Prelude.{ℕ, ◌+◌, ◌*◌, ◌-◌, ◌/◌, ◌%◌, ℤ, pos, negsuc, List, [], ◌∷◌, Bool, true}
+use Rattle.std.specs.Prelude.{false, Option, None, Some, nat_lt, if◌then◌else◌}
 use Rattle.host_script.specs.declared.event.End.{End}
 use Rattle.host_script.specs.declared.event.End.TheVariants as end
 use Rattle.pawn_arrays.specs.Sizes.{elements_in}
@@ -42,7 +43,8 @@ other_sizes (size ∷ inner) = inner
 
 -- the part with one more index given
 abbrev pub row_at : Reference → ℕ → Reference
-row_at r i = record r { at = r.at + i * elements_in (other_sizes r.sizes); sizes = other_sizes r.sizes }
+row_at r i =
+    record r { at = r.at + i * elements_in (other_sizes r.sizes); sizes = other_sizes r.sizes }
 
 -- the rest from an element on
 abbrev pub rest_from : Reference → ℕ → Reference

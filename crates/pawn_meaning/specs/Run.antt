@@ -1,6 +1,7 @@
 -- Runs: from a world to a value and a world, to an end, or to where the bound on turns is reached.
 -- Each combinator below is a step that a program can make, and every node is made of these.
-use Rattle.std.specs.Prelude.{ℕ, ℤ, ◌+◌, Bool, true, false, Option, None, Some, length, nat_lt, if◌then◌else◌}
+use Rattle.std.specs.Prelude.{ℕ, ℤ, ◌+◌, Bool, true, false, Option, None, Some, length, nat_lt}
+use Rattle.std.specs.Prelude.{if◌then◌else◌}
 use Rattle.host_script.specs.declared.event.End.{End}
 use Rattle.host_script.specs.declared.event.End.TheVariants as end
 use Rattle.host_script.specs.declared.event.Event.{Event}
@@ -58,7 +59,8 @@ at_zero v first second = choose (is_zero v) first second
 
 -- one more turn, below the bound
 abbrev pub turn : ℕ → Run Done
-turn limit = λ w. if nat_lt w.turns limit then Gives done (record w { turns = w.turns + 1 }) else More w
+turn limit =
+    λ w. if nat_lt w.turns limit then Gives done (record w { turns = w.turns + 1 }) else More w
 
 -- what the memory has; where it has nothing the access is stray
 abbrev pub look : {A : Type 0} → (Memory → Option A) → Run A
@@ -92,4 +94,5 @@ with_frame frame run = enter frame >>= (λ _. run >>= (λ a. leave >>= (λ _. gi
 -- a run behind which the temporary arguments that it made are gone
 abbrev pub with_heap : {A : Type 0} → Run A → Run A
 with_heap run =
-    look (λ m. Some (length m.heap)) >>= (λ count. run >>= (λ a. change (λ m. Some (cut_heap count m)) >>= (λ _. give a)))
+    look (λ m. Some (length m.heap))
+    >>= (λ count. run >>= (λ a. change (λ m. Some (cut_heap count m)) >>= (λ _. give a)))

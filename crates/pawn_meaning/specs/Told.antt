@@ -1,5 +1,5 @@
--- The meaning of a whole program, as its host is told it: events, each with the turns and the peak up
--- to it, and in the end an outcome with its own.
+-- The meaning of a whole program, as its host is told it: events, each with the turns and the peak
+-- up to it, and in the end an outcome with its own.
 use Rattle.std.specs.Prelude.{ℕ, zero, suc, List, [], ◌∷◌, Option, None, Some, map, slice_get}
 use Rattle.host_script.specs.declared.script.Script.{Script}
 use Rattle.host_script.specs.declared.event.Event.{Event}
@@ -34,7 +34,8 @@ entry_or_stray scene f (Some function) = without_params scene f function functio
 
 -- the run of a program from the function with this number
 abbrev pub whole : Scene → ℕ → Outcome ⊥
-whole scene f = entry_or_stray scene f (slice_get scene.program.functions f) (first_world scene.program)
+whole scene f =
+    entry_or_stray scene f (slice_get scene.program.functions f) (first_world scene.program)
 
 -- ---- what is told of it
 
@@ -53,7 +54,8 @@ pub record Told : Type 0 where
 
 -- what is told of a world at the end
 abbrev pub told_by : Last → World → Told
-told_by last w = record { entries = w.entries; last = last; turns = w.turns; peak = w.peak; chains = w.chains }
+told_by last w =
+    record { entries = w.entries; last = last; turns = w.turns; peak = w.peak; chains = w.chains }
 
 -- and of an outcome
 abbrev pub told_of : Outcome ⊥ → Told

@@ -1,8 +1,19 @@
--- The weight of a program, which bounds the cells of its code: 40 for each place, array, expression,
--- argument and statement, 2 for each value of a case, and for a function with a route 10, and 2 for
--- each of its pairs. The lean weight is the same, where an expression that folds counts 40 in all.
-use Rattle.std.specs.Prelude.{ℕ, ◌+◌, ◌*◌, ℤ, pos, negsuc, ◌+ℤ◌, ◌-ℤ◌, List, Bool, true, false, Option, None, Some, is_some, length, sum_by}
-use Rattle.pawn_program.specs.Program.{Scalar, Global, Own, Through, Element, Char, Array, Object, SlotArray, ParamArray, Row, From, Expr, Const, Read, Unary, Binary, Chain, And, Or, Cond, Assign, Update, UpdateBy, Step, StepBy, Copy, Operate, OperateOne, Call, Native, Seq, Links, no_links, then_link, Arg, Value, Ref, Whole, Temp, Args, no_args, then_arg, Perhaps, Absent, Present, Stmt, Block, Local, LocalArray, Do, If, While, DoWhile, For, Switch, Return, Break, Continue, Exit, Sleep, Assert, State, Empty, Else, no_else, otherwise, Cases, no_cases, then_case, Stmts, no_stmts, then_stmt, Body, Route, Function, Program}
+-- The weight of a program, which bounds the cells of its code: 40 for each place, array,
+-- expression, argument and statement, 2 for each value of a case, and for a function with a route
+-- 10, and 2 for each of its pairs. The lean weight is the same, where an expression that folds
+-- counts 40 in all.
+use Rattle.std.specs.Prelude.{ℕ, ◌+◌, ◌*◌, ℤ, pos, negsuc, ◌+ℤ◌, ◌-ℤ◌, List, Bool, true, false}
+use Rattle.std.specs.Prelude.{Option, None, Some, is_some, length, sum_by}
+use Rattle.pawn_program.specs.Program.{Scalar, Global, Own, Through, Element, Char, Array, Object}
+use Rattle.pawn_program.specs.Program.{SlotArray, ParamArray, Row, From, Expr, Const, Read, Unary}
+use Rattle.pawn_program.specs.Program.{Binary, Chain, And, Or, Cond, Assign, Update, UpdateBy, Step}
+use Rattle.pawn_program.specs.Program.{StepBy, Copy, Operate, OperateOne, Call, Native, Seq, Links}
+use Rattle.pawn_program.specs.Program.{no_links, then_link, Arg, Value, Ref, Whole, Temp, Args}
+use Rattle.pawn_program.specs.Program.{no_args, then_arg, Perhaps, Absent, Present, Stmt, Block}
+use Rattle.pawn_program.specs.Program.{Local, LocalArray, Do, If, While, DoWhile, For, Switch}
+use Rattle.pawn_program.specs.Program.{Return, Break, Continue, Exit, Sleep, Assert, State, Empty}
+use Rattle.pawn_program.specs.Program.{Else, no_else, otherwise, Cases, no_cases, then_case, Stmts}
+use Rattle.pawn_program.specs.Program.{no_stmts, then_stmt, Body, Route, Function, Program}
 use Rattle.pawn_meaning.specs.declared.limits.TheConstants.{NODE_WEIGHT, PAIR_WEIGHT, ROUTE_WEIGHT}
 use Rattle.pawn_meaning.specs.Fold.{fold}
 
@@ -33,6 +44,7 @@ part false cells = cells
 module _ (alone : Expr → Bool) where
   -- of places, arrays, expressions and arguments
   abbrev mutual
+    -- a node, and for a part of an array that array and the index
     pub scalar_weight : Scalar → ℕ
     scalar_weight (Global o) = NODE_WEIGHT
     scalar_weight (Own s) = NODE_WEIGHT
@@ -53,11 +65,14 @@ module _ (alone : Expr → Bool) where
     expr_weight (Const v) = NODE_WEIGHT
     expr_weight (Read p) = NODE_WEIGHT + scalar_weight p
     expr_weight (Unary op e) = part (alone (Unary op e)) (NODE_WEIGHT + expr_weight e)
-    expr_weight (Binary op l r) = part (alone (Binary op l r)) (NODE_WEIGHT + (expr_weight l + expr_weight r))
-    expr_weight (Chain e links) = part (alone (Chain e links)) (NODE_WEIGHT + (expr_weight e + links_weight links))
+    expr_weight (Binary op l r) =
+        part (alone (Binary op l r)) (NODE_WEIGHT + (expr_weight l + expr_weight r))
+    expr_weight (Chain e links) =
+        part (alone (Chain e links)) (NODE_WEIGHT + (expr_weight e + links_weight links))
     expr_weight (And l r) = part (alone (And l r)) (NODE_WEIGHT + (expr_weight l + expr_weight r))
     expr_weight (Or l r) = part (alone (Or l r)) (NODE_WEIGHT + (expr_weight l + expr_weight r))
-    expr_weight (Cond c a b) = part (alone (Cond c a b)) (NODE_WEIGHT + (expr_weight c + (expr_weight a + expr_weight b)))
+    expr_weight (Cond c a b) =
+        part (alone (Cond c a b)) (NODE_WEIGHT + (expr_weight c + (expr_weight a + expr_weight b)))
     expr_weight (Assign p e) = NODE_WEIGHT + (scalar_weight p + expr_weight e)
     expr_weight (Update p op e) = NODE_WEIGHT + (scalar_weight p + expr_weight e)
     expr_weight (UpdateBy p f swapped e convert) = NODE_WEIGHT + (scalar_weight p + expr_weight e)
@@ -94,6 +109,7 @@ module _ (alone : Expr → Bool) where
 
   -- of statements
   abbrev mutual
+    -- a node, and all that stands in it
     pub stmt_weight : Stmt → ℕ
     stmt_weight (Block stmts) = NODE_WEIGHT + stmts_weight stmts
     stmt_weight (Local s e) = NODE_WEIGHT + expr_weight e
@@ -102,8 +118,11 @@ module _ (alone : Expr → Bool) where
     stmt_weight (If c a b) = NODE_WEIGHT + (expr_weight c + (stmt_weight a + else_weight b))
     stmt_weight (While c s) = NODE_WEIGHT + (expr_weight c + stmt_weight s)
     stmt_weight (DoWhile s c) = NODE_WEIGHT + (stmt_weight s + expr_weight c)
-    stmt_weight (For first c step s) = NODE_WEIGHT + (stmts_weight first + (perhaps_weight c + (perhaps_weight step + stmt_weight s)))
-    stmt_weight (Switch e cases d) = NODE_WEIGHT + (expr_weight e + (cases_weight cases + else_weight d))
+    stmt_weight (For first c step s) =
+        NODE_WEIGHT + (stmts_weight first
+        + (perhaps_weight c + (perhaps_weight step + stmt_weight s)))
+    stmt_weight (Switch e cases d) =
+        NODE_WEIGHT + (expr_weight e + (cases_weight cases + else_weight d))
     stmt_weight (Return e) = NODE_WEIGHT + expr_weight e
     stmt_weight Break = NODE_WEIGHT
     stmt_weight Continue = NODE_WEIGHT
@@ -121,7 +140,8 @@ module _ (alone : Expr → Bool) where
     -- a case is no node, and each of its values counts by itself
     pub cases_weight : Cases → ℕ
     cases_weight no_cases = 0
-    cases_weight (then_case ranges s cases) = ranges_weight ranges + (stmt_weight s + cases_weight cases)
+    cases_weight (then_case ranges s cases) =
+        ranges_weight ranges + (stmt_weight s + cases_weight cases)
 
     -- of a list of statements
     pub stmts_weight : Stmts → ℕ
@@ -130,7 +150,9 @@ module _ (alone : Expr → Bool) where
 
   -- all bodies of a function, and its route
   abbrev pub function_weight : Function → ℕ
-  function_weight function = route_weight function.dispatch + sum_by (λ (body : Body). stmt_weight body.stmt) function.bodies
+  function_weight function =
+      route_weight function.dispatch
+      + sum_by (λ (body : Body). stmt_weight body.stmt) function.bodies
 
   -- all functions of a program
   abbrev pub weight_by : Program → ℕ

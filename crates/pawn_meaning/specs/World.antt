@@ -21,8 +21,8 @@ pub record World : Type 0 where
   pub turns : ℕ
   -- the greatest need of all calls alive together so far
   pub peak : ℕ
-  -- at the beginning of each call, the entry's too, the functions of all calls that were alive, with
-  -- the new one, the innermost first
+  -- at the beginning of each call, the entry's too, the functions of all calls that were alive,
+  -- with the new one, the innermost first
   pub chains : List (List ℕ)
 
 -- ---- before the run
@@ -55,7 +55,11 @@ first_world program = record {
 
 -- the host was shown an event
 abbrev pub said : Event → World → World
-said event w = record w { entries = w.entries ++ record { event = event; turns = w.turns; peak = w.peak } ∷ [] }
+said event w =
+    record w {
+      entries = w.entries
+          ++ record { event = event; turns = w.turns; peak = w.peak } ∷ [];
+    }
 
 -- the functions of frames
 abbrev pub chain_of : List Frame → List ℕ

@@ -14,9 +14,11 @@ pub record IsName (name : List ℕ) : Type 0 where
 -- the names of natives, publics and tags
 abbrev pub names_of : Program → List (List ℕ)
 names_of program =
-    program.natives ++ (map (λ (item : Public). item.name) program.publics ++ map (λ (tag : Tag). tag.name) program.tags)
+    program.natives ++ (map (λ (item : Public). item.name) program.publics
+    ++ map (λ (tag : Tag). tag.name) program.tags)
 
--- each is a name, they are not too many bytes together, and the publics stand in the order of theirs
+-- each is a name, they are not too many bytes together, and the publics stand in the order of
+-- theirs
 pub record HasNames (program : Program) : Type 0 where
   pub names : All IsName (names_of program)
   pub bytes : sum_by (λ name. length name) (names_of program) ≤ NAMES_LIMIT

@@ -1,4 +1,5 @@
--- Typed programs as plain data (Language Guide, "Statements", "Operators and expressions", "Arrays").
+-- Typed programs as plain data (Language Guide, "Statements", "Operators and expressions",
+-- "Arrays").
 -- Objects, functions, natives, automata, states and slots are named by their numbers, from 0.
 use Rattle.std.specs.Prelude.{ℕ, ℤ, Bool, List, Option}
 use Rattle.pawn_cells.specs.declared.operator.Prefix.{Prefix}

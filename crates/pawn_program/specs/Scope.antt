@@ -1,9 +1,12 @@
 -- Where an expression stands, and how far an array reaches there.
-use Rattle.std.specs.Prelude.{◌≡◌, ◌⊎◌, ◌<◌, ◌≤◌, ℕ, List, [], ◌∷◌, ◌++◌, Bool, true, false, Option, None, Some, Any, slice_get}
-use Rattle.pawn_program.specs.Program.{Array, Object, SlotArray, ParamArray, Row, From, Slot, ScalarSlot, ReferenceSlot, ArraySlot, OpenSlot, StaticObject, Program}
+use Rattle.std.specs.Prelude.{◌≡◌, ◌⊎◌, ◌<◌, ◌≤◌, ℕ, List, [], ◌∷◌, ◌++◌, Bool, true, false, Option}
+use Rattle.std.specs.Prelude.{None, Some, Any, slice_get}
+use Rattle.pawn_program.specs.Program.{Array, Object, SlotArray, ParamArray, Row, From, Slot}
+use Rattle.pawn_program.specs.Program.{ScalarSlot, ReferenceSlot, ArraySlot, OpenSlot, StaticObject}
+use Rattle.pawn_program.specs.Program.{Program}
 
--- the program, the slots of the body, how many of them are parameters, and the numbers of those that
--- were made before and are in force
+-- the program, the slots of the body, how many of them are parameters, and the numbers of those
+-- that were made before and are in force
 pub record Scope : Type 0 where
   pub program : Program
   pub slots : List Slot

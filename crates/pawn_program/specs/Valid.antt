@@ -1,8 +1,11 @@
 -- Valid programs: what the checker gives, and what the meaning and the generator are asked for.
-use Rattle.std.specs.Prelude.{◌≡◌, ◌+◌, ◌-◌, ◌<◌, ◌≤◌, ◌^◌, ℕ, zero, suc, List, [], ◌∷◌, false, Some, All, IfSome, IfNone, length, slice_get, take, IsPermutation}
+use Rattle.std.specs.Prelude.{◌≡◌, ◌+◌, ◌-◌, ◌<◌, ◌≤◌, ◌^◌, ℕ, zero, suc, List, [], ◌∷◌, false}
+use Rattle.std.specs.Prelude.{Some, All, IfSome, IfNone, length, slice_get, take, IsPermutation}
 use Rattle.pawn_cells.specs.Cells.{IsCell}
 use Rattle.pawn_arrays.specs.Sizes.{elements_in}
-use Rattle.pawn_program.specs.Program.{Slot, ScalarSlot, ReferenceSlot, ArraySlot, OpenSlot, StaticObject, Body, Route, Function, Automaton, Tag, Public, Program}
+use Rattle.pawn_program.specs.Program.{Slot, ScalarSlot, ReferenceSlot, ArraySlot, OpenSlot}
+use Rattle.pawn_program.specs.Program.{StaticObject, Body, Route, Function, Automaton, Tag, Public}
+use Rattle.pawn_program.specs.Program.{Program}
 use Rattle.pawn_program.specs.Scope.{Scope}
 use Rattle.pawn_program.specs.ValidExprs.{Takes}
 use Rattle.pawn_program.specs.ValidStmts.{all_slots_made, IsValidStmt}
@@ -31,13 +34,15 @@ pub record IsValidObject (object : StaticObject) : Type 0 where
 
 -- before a body's first statement its parameters are in sight
 abbrev pub body_scope : Program → List Slot → Body → Scope
-body_scope program params body = record { program = program; slots = body.slots; params = length params; made = [] }
+body_scope program params body =
+    record { program = program; slots = body.slots; params = length params; made = [] }
 
 -- a body begins with the parameters, and makes each further slot by exactly one statement
 pub record IsValidBody (program : Program) (params : List Slot) (body : Body) : Type 0 where
   pub slots : All IsSlot body.slots
   pub begins : take (length params) body.slots ≡ params
-  pub makes : IsPermutation (all_slots_made body.stmt) (numbers_from (length params) (length body.slots - length params))
+  pub makes : IsPermutation (all_slots_made body.stmt)
+      (numbers_from (length params) (length body.slots - length params))
   pub stmt : IsValidStmt (body_scope program params body) false false body.stmt
 
 -- a route is of an automaton, and leads from its states to bodies

@@ -1,9 +1,18 @@
--- Valid expressions: each number names a thing of its kind, and each array and argument fits where it
--- stands.
-use Rattle.std.specs.Prelude.{◌≡◌, ◌⊎◌, ◌<◌, ℕ, pos, negsuc, List, [], ◌∷◌, Option, None, Some, IsSome, IfSome, length, replicate, slice_get}
+-- Valid expressions: each number names a thing of its kind, and each array and argument fits where
+-- it stands.
+use Rattle.std.specs.Prelude.{◌≡◌, ◌⊎◌, ◌<◌, ℕ, pos, negsuc, List, [], ◌∷◌, Option, None, Some}
+use Rattle.std.specs.Prelude.{IsSome, IfSome, length, replicate, slice_get}
 use Rattle.pawn_cells.specs.Cells.{IsCell}
-use Rattle.pawn_program.specs.Program.{Scalar, Global, Own, Through, Element, Char, Array, Object, SlotArray, ParamArray, Row, From, Expr, Const, Read, Unary, Binary, Chain, And, Or, Cond, Assign, Update, UpdateBy, Step, StepBy, Copy, Operate, OperateOne, Call, Native, Seq, Links, no_links, then_link, Arg, Value, Ref, Whole, Temp, Args, no_args, then_arg, Perhaps, Absent, Present, Slot, ScalarSlot, ReferenceSlot, ArraySlot, OpenSlot, StaticObject, Function, Program}
-use Rattle.pawn_program.specs.Scope.{Scope, IsMade, IsInSight, extent, known_extent, IsLine, HasRows, HasInner, HasCells}
+use Rattle.pawn_program.specs.Program.{Scalar, Global, Own, Through, Element, Char, Array, Object}
+use Rattle.pawn_program.specs.Program.{SlotArray, ParamArray, Row, From, Expr, Const, Read, Unary}
+use Rattle.pawn_program.specs.Program.{Binary, Chain, And, Or, Cond, Assign, Update, UpdateBy, Step}
+use Rattle.pawn_program.specs.Program.{StepBy, Copy, Operate, OperateOne, Call, Native, Seq, Links}
+use Rattle.pawn_program.specs.Program.{no_links, then_link, Arg, Value, Ref, Whole, Temp, Args}
+use Rattle.pawn_program.specs.Program.{no_args, then_arg, Perhaps, Absent, Present, Slot}
+use Rattle.pawn_program.specs.Program.{ScalarSlot, ReferenceSlot, ArraySlot, OpenSlot, StaticObject}
+use Rattle.pawn_program.specs.Program.{Function, Program}
+use Rattle.pawn_program.specs.Scope.{Scope, IsMade, IsInSight, extent, known_extent, IsLine}
+use Rattle.pawn_program.specs.Scope.{HasRows, HasInner, HasCells}
 
 -- the function with this number takes these parameters
 pub record Takes (program : Program) (f : ℕ) (params : List Slot) : Type 0 where
@@ -58,6 +67,7 @@ module _ (scope : Scope) where
 
   -- places, arrays, expressions, links and arguments
   abbrev mutual
+    -- a place: an object or a slot of one cell, or a part of an array of one dimension
     pub IsValidScalar : Scalar → Type 0
     IsValidScalar (Global o) = IsCellObject (slice_get scope.program.objects o)
     IsValidScalar (Own s) = (slice_get scope.slots s ≡ Some ScalarSlot) × IsInSight scope s
@@ -65,13 +75,16 @@ module _ (scope : Scope) where
     IsValidScalar (Element a e) = IsLine (extent scope a) × IsValidArray a × IsValidExpr e
     IsValidScalar (Char a e) = IsLine (extent scope a) × IsValidArray a × IsValidExpr e
 
+    -- an array: an object, a slot that is made, a parameter, or a part of such
     pub IsValidArray : Array → Type 0
     IsValidArray (Object o) = IsSome (extent scope (Object o))
     IsValidArray (SlotArray s) = IsSome (extent scope (SlotArray s)) × IsMade scope s
-    IsValidArray (ParamArray s known) = IsSome (extent scope (ParamArray s known)) × (s < scope.params)
+    IsValidArray (ParamArray s known) =
+        IsSome (extent scope (ParamArray s known)) × (s < scope.params)
     IsValidArray (Row a e) = HasRows (extent scope a) × IsValidArray a × IsValidExpr e
     IsValidArray (From a e) = IsLine (extent scope a) × IsValidArray a × IsValidExpr e
 
+    -- numbers are cells, and each place, array and argument in it fits
     pub IsValidExpr : Expr → Type 0
     IsValidExpr (Const v) = IsCell v
     IsValidExpr (Read p) = IsValidScalar p
@@ -88,11 +101,13 @@ module _ (scope : Scope) where
     IsValidExpr (Step p delta prefix) = ((delta ≡ pos 1) ⊎ (delta ≡ negsuc 0)) × IsValidScalar p
     IsValidExpr (StepBy p f prefix) = IsOperator scope 1 f × IsValidScalar p
     IsValidExpr (Copy to from cells) =
-        HasCells cells (extent scope to) × HasCells cells (extent scope from) × IsValidArray to × IsValidArray from
+        HasCells cells (extent scope to) × HasCells cells (extent scope from) × IsValidArray to
+        × IsValidArray from
     IsValidExpr (Operate f l r swapped) = IsOperator scope 2 f × IsValidExpr l × IsValidExpr r
     IsValidExpr (OperateOne f e) = IsOperator scope 1 f × IsValidExpr e
     IsValidExpr (Call f args) =
-        (params : List Slot) × Takes scope.program f params × ArgsAgree params args × AreValidArgs args
+        (params : List Slot) × Takes scope.program f params × ArgsAgree params args
+        × AreValidArgs args
     IsValidExpr (Native n args) = (n < length scope.program.natives) × AreValidArgs args
     IsValidExpr (Seq a b) = IsValidExpr a × IsValidExpr b
 
@@ -102,12 +117,14 @@ module _ (scope : Scope) where
     AreValidLinks (then_link op e f swapped links) =
         IfSome f (IsOperator scope 2) × IsValidExpr e × AreValidLinks links
 
+    -- an argument; no reference leads to a packed character
     pub IsValidArg : Arg → Type 0
     IsValidArg (Value e) = IsValidExpr e
     IsValidArg (Ref p) = IsNoChar p × IsValidScalar p
     IsValidArg (Whole a) = IsValidArray a
     IsValidArg (Temp e) = IsValidExpr e
 
+    -- each argument of a call by itself
     pub AreValidArgs : Args → Type 0
     AreValidArgs no_args = Unit {0}
     AreValidArgs (then_arg a args) = IsValidArg a × AreValidArgs args

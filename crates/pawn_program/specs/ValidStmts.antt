@@ -1,8 +1,13 @@
 -- Valid statements: a slot is made in the list of a block or of what a loop does first, and named
 -- only behind that, up to the end of that block or loop.
-use Rattle.std.specs.Prelude.{◌≡◌, ◌<◌, ◌≤◌, ◌^◌, ℕ, ℤ, List, [], ◌∷◌, ◌++◌, Bool, true, false, Some, All, length, slice_get}
+use Rattle.std.specs.Prelude.{◌≡◌, ◌<◌, ◌≤◌, ◌^◌, ℕ, ℤ, List, [], ◌∷◌, ◌++◌, Bool, true, false}
+use Rattle.std.specs.Prelude.{Some, All, length, slice_get}
 use Rattle.pawn_cells.specs.Cells.{IsCell}
-use Rattle.pawn_program.specs.Program.{Stmt, Block, Local, LocalArray, Do, If, While, DoWhile, For, Switch, Return, Break, Continue, Exit, Sleep, Assert, State, Empty, Else, no_else, otherwise, Cases, no_cases, then_case, Stmts, no_stmts, then_stmt, ScalarSlot, ArraySlot, StaticObject, Automaton}
+use Rattle.pawn_program.specs.Program.{Stmt, Block, Local, LocalArray, Do, If, While, DoWhile, For}
+use Rattle.pawn_program.specs.Program.{Switch, Return, Break, Continue, Exit, Sleep, Assert, State}
+use Rattle.pawn_program.specs.Program.{Empty, Else, no_else, otherwise, Cases, no_cases, then_case}
+use Rattle.pawn_program.specs.Program.{Stmts, no_stmts, then_stmt, ScalarSlot, ArraySlot}
+use Rattle.pawn_program.specs.Program.{StaticObject, Automaton}
 use Rattle.pawn_program.specs.Scope.{Scope, with_made}
 use Rattle.pawn_program.specs.ValidExprs.{IsValidExpr, IsValidPerhaps}
 
@@ -35,6 +40,7 @@ slots_made_by (then_stmt s stmts) = slots_made s ++ slots_made_by stmts
 
 -- the slots that a statement makes, those of inner blocks too
 abbrev mutual
+  -- the slots that a statement makes anywhere, in order
   pub all_slots_made : Stmt → List ℕ
   all_slots_made (Block stmts) = all_slots_made_by stmts
   all_slots_made (Local s e) = s ∷ []
@@ -88,22 +94,27 @@ pub record IsStateOf (scope : Scope) (automaton state : ℕ) : Type 0 where
 abbrev pub AreRanges : List (ℤ × ℤ) → Type 0
 AreRanges ranges = All (λ range. IsCell range.0 × IsCell range.1) ranges
 
--- a statement in a scope: whether a loop encloses it, and whether it stands in the list of a block or
--- of what a loop does first
+-- a statement in a scope: whether a loop encloses it, and whether it stands in the list of a block
+-- or of what a loop does first
 abbrev mutual
+  -- a statement, in a loop or not, and in a list that may make slots or not
   pub IsValidStmt : Scope → (in_loop in_list : Bool) → Stmt → Type 0
   IsValidStmt scope in_loop in_list (Block stmts) = AreValidStmts scope in_loop stmts
   IsValidStmt scope in_loop in_list (Local s e) =
-      (in_list ≡ true) × (scope.params ≤ s) × (slice_get scope.slots s ≡ Some ScalarSlot) × IsValidExpr scope e
+      (in_list ≡ true) × (scope.params ≤ s) × (slice_get scope.slots s ≡ Some ScalarSlot)
+      × IsValidExpr scope e
   IsValidStmt scope in_loop in_list (LocalArray s o) = (in_list ≡ true) × IsLocalArray scope s o
   IsValidStmt scope in_loop in_list (Do e) = IsValidExpr scope e
   IsValidStmt scope in_loop in_list (If c a b) =
       IsValidExpr scope c × IsValidStmt scope in_loop false a × IsValidElse scope in_loop b
-  IsValidStmt scope in_loop in_list (While c s) = IsValidExpr scope c × IsValidStmt scope true false s
-  IsValidStmt scope in_loop in_list (DoWhile s c) = IsValidStmt scope true false s × IsValidExpr scope c
+  IsValidStmt scope in_loop in_list (While c s) =
+      IsValidExpr scope c × IsValidStmt scope true false s
+  IsValidStmt scope in_loop in_list (DoWhile s c) =
+      IsValidStmt scope true false s × IsValidExpr scope c
   IsValidStmt scope in_loop in_list (For first c step s) =
       let inner = with_made (slots_made_by first) scope in
-      AreValidStmts scope in_loop first × IsValidPerhaps inner c × IsValidPerhaps inner step × IsValidStmt inner true false s
+      AreValidStmts scope in_loop first × IsValidPerhaps inner c × IsValidPerhaps inner step
+      × IsValidStmt inner true false s
   IsValidStmt scope in_loop in_list (Switch e cases d) =
       IsValidExpr scope e × AreValidCases scope in_loop cases × IsValidElse scope in_loop d
   IsValidStmt scope in_loop in_list (Return e) = IsValidExpr scope e
@@ -112,13 +123,16 @@ abbrev mutual
   IsValidStmt scope in_loop in_list (Exit e tag) = IsValidExpr scope e × (tag < 2 ^ 32)
   IsValidStmt scope in_loop in_list (Sleep e tag) = IsValidExpr scope e × (tag < 2 ^ 32)
   IsValidStmt scope in_loop in_list (Assert e) = IsValidExpr scope e
-  IsValidStmt scope in_loop in_list (State automaton state c) = IsStateOf scope automaton state × IsValidPerhaps scope c
+  IsValidStmt scope in_loop in_list (State automaton state c) =
+      IsStateOf scope automaton state × IsValidPerhaps scope c
   IsValidStmt scope in_loop in_list Empty = Unit {0}
 
+  -- what stands behind `else` or `default`
   pub IsValidElse : Scope → Bool → Else → Type 0
   IsValidElse scope in_loop no_else = Unit {0}
   IsValidElse scope in_loop (otherwise s) = IsValidStmt scope in_loop false s
 
+  -- each with ranges, and with a statement that makes no slot by itself
   pub AreValidCases : Scope → Bool → Cases → Type 0
   AreValidCases scope in_loop no_cases = Unit {0}
   AreValidCases scope in_loop (then_case ranges s cases) =
@@ -128,4 +142,5 @@ abbrev mutual
   pub AreValidStmts : Scope → Bool → Stmts → Type 0
   AreValidStmts scope in_loop no_stmts = Unit {0}
   AreValidStmts scope in_loop (then_stmt s stmts) =
-      IsValidStmt scope in_loop true s × AreValidStmts (with_made (slots_made s) scope) in_loop stmts
+      IsValidStmt scope in_loop true s
+      × AreValidStmts (with_made (slots_made s) scope) in_loop stmts

@@ -3,7 +3,11 @@ use Rattle.std.specs.Prelude.{List, [], ◌∷◌, map, option_map, Option, Some
 use Rattle.std.specs.declared.alloc.Global.{Global}
 use Rattle.std.specs.declared.boxed.Box.{Box}
 use Rattle.pawn_arrays.specs.Sizes.{sizes}
-use Rattle.pawn_program.specs.Program.{Scalar, Array, Expr, Links, no_links, then_link, Arg, Args, no_args, then_arg, Perhaps, Stmt, Else, no_else, otherwise, Cases, no_cases, then_case, Stmts, no_stmts, then_stmt, Slot, StaticObject, Body, Route, Function, Automaton, Tag, Public, Program}
+use Rattle.pawn_program.specs.Program.{Scalar, Array, Expr, Links, no_links, then_link, Arg, Args}
+use Rattle.pawn_program.specs.Program.{no_args, then_arg, Perhaps, Stmt, Else, no_else, otherwise}
+use Rattle.pawn_program.specs.Program.{Cases, no_cases, then_case, Stmts, no_stmts, then_stmt, Slot}
+use Rattle.pawn_program.specs.Program.{StaticObject, Body, Route, Function, Automaton, Tag, Public}
+use Rattle.pawn_program.specs.Program.{Program}
 use Rattle.pawn_program.specs.Program as plain
 use Rattle.pawn_program.specs.declared.node.Scalar as held_scalar
 use Rattle.pawn_program.specs.declared.node.Array as held_array
@@ -27,6 +31,7 @@ use Rattle.pawn_program.specs.declared.program.Program as held_program
 
 -- places, arrays, expressions, arguments, and what lists of these hold
 abbrev mutual
+  -- a place of one cell or one packed character
   pub scalar_view : held_scalar.Scalar → Scalar
   scalar_view (held_scalar.Global o) = plain.Global o
   scalar_view (held_scalar.Slot s) = plain.Own s
@@ -54,7 +59,8 @@ abbrev mutual
   expr_view (held.Cond' p c q a r b) = plain.Cond (expr_view c) (expr_view a) (expr_view b)
   expr_view (held.Assign' at p e) = plain.Assign (scalar_view at) (expr_view e)
   expr_view (held.Update' at op p e) = plain.Update (scalar_view at) op (expr_view e)
-  expr_view (held.UpdateBy' at f swapped p e convert) = plain.UpdateBy (scalar_view at) f swapped (expr_view e) convert
+  expr_view (held.UpdateBy' at f swapped p e convert) =
+      plain.UpdateBy (scalar_view at) f swapped (expr_view e) convert
   expr_view (held.Step at delta prefix) = plain.Step (scalar_view at) delta prefix
   expr_view (held.StepBy at f prefix) = plain.StepBy (scalar_view at) f prefix
   expr_view (held.Copy' p to q from cells) = plain.Copy (array_view to) (array_view from) cells
@@ -79,7 +85,8 @@ abbrev mutual
   -- of comparisons, as a node holds them
   pub links_row_view : {n : _} → held.Row_of-Link n → Links
   links_row_view held.end_of-Link = no_links
-  links_row_view (held.more_of-Link op e f swapped row) = then_link op (expr_view e) f swapped (links_row_view row)
+  links_row_view (held.more_of-Link op e f swapped row) =
+      then_link op (expr_view e) f swapped (links_row_view row)
 
 -- the arguments that a list holds
 abbrev pub args_view : List held_arg.Arg → Args
@@ -89,7 +96,8 @@ args_view (a ∷ args) = then_arg (arg_view a) (args_view args)
 -- the comparisons that a list holds
 abbrev pub links_view : List held_link.Link → Links
 links_view [] = no_links
-links_view (link ∷ links) = then_link link.op (expr_view link.operand) link.function link.swapped (links_view links)
+links_view (link ∷ links) =
+    then_link link.op (expr_view link.operand) link.function link.swapped (links_view links)
 
 -- an expression that may be absent
 abbrev pub perhaps_view : Option held.Expr → Perhaps
@@ -100,6 +108,7 @@ perhaps_view (Some e) = plain.Present (expr_view e)
 
 -- statements, and what lists of these hold
 abbrev mutual
+  -- statements in boxes become parts, and rows become lists
   pub stmt_view : held_stmt.Stmt → Stmt
   stmt_view (held_stmt.Block' k row) = plain.Block (stmts_row_view row)
   stmt_view (held_stmt.Local s e) = plain.Local s (expr_view e)
@@ -108,8 +117,10 @@ abbrev mutual
   stmt_view (held_stmt.If' c p a b) = plain.If (expr_view c) (stmt_view a) (else_row_view b)
   stmt_view (held_stmt.While' c p s) = plain.While (expr_view c) (stmt_view s)
   stmt_view (held_stmt.DoWhile' p s c) = plain.DoWhile (stmt_view s) (expr_view c)
-  stmt_view (held_stmt.For' k row c step p s) = plain.For (stmts_row_view row) (perhaps_view c) (perhaps_view step) (stmt_view s)
-  stmt_view (held_stmt.Switch' e k row d) = plain.Switch (expr_view e) (cases_row_view row) (else_row_view d)
+  stmt_view (held_stmt.For' k row c step p s) =
+      plain.For (stmts_row_view row) (perhaps_view c) (perhaps_view step) (stmt_view s)
+  stmt_view (held_stmt.Switch' e k row d) =
+      plain.Switch (expr_view e) (cases_row_view row) (else_row_view d)
   stmt_view (held_stmt.Return e) = plain.Return (expr_view e)
   stmt_view held_stmt.Break = plain.Break
   stmt_view held_stmt.Continue = plain.Continue
@@ -132,7 +143,8 @@ abbrev mutual
   -- of cases, as a node holds them
   pub cases_row_view : {n : _} → held_stmt.Row_of-Case n → Cases
   cases_row_view held_stmt.end_of-Case = no_cases
-  cases_row_view (held_stmt.more_of-Case ranges s row) = then_case (ranges) (stmt_view s) (cases_row_view row)
+  cases_row_view (held_stmt.more_of-Case ranges s row) =
+      then_case (ranges) (stmt_view s) (cases_row_view row)
 
 -- the statements that a list holds
 abbrev pub stmts_view : List held_stmt.Stmt → Stmts
@@ -160,7 +172,8 @@ slot_view (slot.Open inner) = plain.OpenSlot inner
 
 -- a global, static or literal
 abbrev pub object_view : held_object.Object → StaticObject
-object_view object = record { sizes = sizes object.shape; constant = object.constant; first = object.first }
+object_view object =
+    record { sizes = sizes object.shape; constant = object.constant; first = object.first }
 
 -- a body
 abbrev pub body_view : held_body.Body → Body
@@ -185,7 +198,8 @@ function_view function = record {
 
 -- a automaton
 abbrev pub automaton_view : held_automaton.Automaton → Automaton
-automaton_view automaton = record { name = automaton.name; states = automaton.states; enter = automaton.enter }
+automaton_view automaton =
+    record { name = automaton.name; states = automaton.states; enter = automaton.enter }
 
 -- a tag
 abbrev pub tag_view : held_tag.Tag → Tag

@@ -4,4 +4,6 @@ use Rattle.gen_stmt.specs.SwitchCode.{cases_values}
 use Rattle.gen_case_tables.proofs.count.cases_count.Given as goal
 
 abbrev pub invariant-loop-i : goal.invariant-loop-i
-invariant-loop-i l = (l.count + cases_values (cases_view (drop l.i l.cases)) ≡ cases_values (cases_view l.cases)) × (l.count < 2 ^ 28)
+invariant-loop-i l =
+    (l.count + cases_values (cases_view (drop l.i l.cases)) ≡ cases_values (cases_view l.cases))
+    × (l.count < 2 ^ 28)

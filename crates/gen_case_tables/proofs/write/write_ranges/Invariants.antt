@@ -5,6 +5,7 @@ use Rattle.gen_case_tables.proofs.write.write_ranges.Given as goal
 
 abbrev pub invariant-loop-i : goal.invariant-loop-i
 invariant-loop-i l =
-    (over l.cell (ranges_pairs (drop l.i l.ranges) l.to) l.written ≡ over l.at (ranges_pairs l.ranges l.to) l.fn.b)
+    (over l.cell (ranges_pairs (drop l.i l.ranges) l.to) l.written
+    ≡ over l.at (ranges_pairs l.ranges l.to) l.fn.b)
     × (l.cell + 2 * values_of (drop l.i l.ranges) ≡ l.at + 2 * values_of l.ranges)
     × (length l.written.code ≡ length l.fn.b.code)

@@ -12,8 +12,11 @@ loop-object-preserved c =
     let fits : FitsSigned w32 c.in_ok-address.address = search rules in
     let pushed : c.push.new.self ≡ c.loop-object.table ++ c.in_ok-address.address ∷ [] =
     rw (to_z-of_z w32 c.in_ok-address.address fits) at c.in_ok-push.ensures.ok in
-    let counted : c.in_ok-before.before ≡ c.loop-object.before + cells_by (sizes c.object-item.result.shape) =
+    let counted : c.in_ok-before.before
+    ≡ c.loop-object.before + cells_by (sizes c.object-item.result.shape) =
     omega (arith, c.in_ok-before.ensures, c.in_ok-array_cells.ensures) in
     subst (λ table. Addressed objects (i + 1) table c.in_ok-before.before) (sym pushed)
-    (more_addressed objects i c.loop-object.table c.loop-object.before c.object-item.result c.in_ok-address.address c.in_ok-before.before
-    c.loop-object.invariant c.loop-object-test.true c.object-item.is c.in_ok-address.ensures counted)
+    (more_addressed objects i c.loop-object.table c.loop-object.before c.object-item.result
+    c.in_ok-address.address c.in_ok-before.before
+    c.loop-object.invariant c.loop-object-test.true c.object-item.is c.in_ok-address.ensures
+    counted)

@@ -5,4 +5,5 @@ use Rattle.gen_data.proofs.cells.objects_cells.Given as goal
 
 abbrev pub invariant-loop-object : goal.invariant-loop-object
 invariant-loop-object l =
-    l.all ++ objects_data (map object_view (drop l.object-index l.objects)) ≡ objects_data (map object_view l.objects)
+    l.all ++ objects_data (map object_view (drop l.object-index l.objects))
+    ≡ objects_data (map object_view l.objects)

@@ -12,5 +12,7 @@ returns c =
     let p = scalar_view c.args.place.now in
     let f : FitsSigned w32 c.args.delta = c.ranges.delta in
     let last = stepped_code p c.args.delta c.args.prefix in
-    then_grow c.args.b c.in_ok-b.b c.in_ok-b-3.b (alone op.MoveAlt ∷ []) (load_code p ++ last) c.in_ok-b.ensures
-    (then_grow c.in_ok-b.b c.in_ok-b-2.b c.in_ok-b-3.b (load_code p) last c.in_ok-b-2.ensures (rw (to_z-of_z w32 c.args.delta f) at c.in_ok-b-3.ensures))
+    then_grow c.args.b c.in_ok-b.b c.in_ok-b-3.b (alone op.MoveAlt ∷ [])
+    (load_code p ++ last) c.in_ok-b.ensures
+    (then_grow c.in_ok-b.b c.in_ok-b-2.b c.in_ok-b-3.b (load_code p) last c.in_ok-b-2.ensures
+    (rw (to_z-of_z w32 c.args.delta f) at c.in_ok-b-3.ensures))

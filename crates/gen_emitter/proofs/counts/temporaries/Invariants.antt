@@ -5,5 +5,6 @@ use Rattle.gen_emitter.proofs.counts.temporaries.Given as goal
 
 abbrev pub invariant-loop-arg : goal.invariant-loop-arg
 invariant-loop-arg l =
-    (l.count + temporaries_in (args_view (drop l.arg-index l.args)) ≡ temporaries_in (args_view l.args))
+    (l.count + temporaries_in (args_view (drop l.arg-index l.args))
+    ≡ temporaries_in (args_view l.args))
     × (l.count ≤ l.arg-index)

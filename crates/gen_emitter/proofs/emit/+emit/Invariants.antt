@@ -8,7 +8,8 @@ use Rattle.gen_emitter.proofs.emit.+emit.Given as goal
 
 abbrev pub invariant-chain-loop-i : goal.invariant-chain-loop-i
 invariant-chain-loop-i l =
-    Linked (scope_of l.frame) l.fn.b (links_view l.items) l.grown l.holes (links_view (drop l.i l.items))
+    Linked (scope_of l.frame) l.fn.b (links_view l.items) l.grown l.holes
+    (links_view (drop l.i l.items))
 
 abbrev pub invariant-arguments-loop-passed : goal.invariant-arguments-loop-passed
 invariant-arguments-loop-passed l =

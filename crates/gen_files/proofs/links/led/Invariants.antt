@@ -5,6 +5,7 @@ use Rattle.gen_files.proofs.links.led.Given as goal
 
 abbrev pub invariant-loop-wait : goal.invariant-loop-wait
 invariant-loop-wait l = record {
-  led : (entry : ℕ → ℕ) → Finds entry l.entries → linked_with entry (drop l.wait-index l.waits) l.all ≡ linked_with entry l.waits l.fn.code;
+  led : (entry : ℕ → ℕ) → Finds entry l.entries
+      → linked_with entry (drop l.wait-index l.waits) l.all ≡ linked_with entry l.waits l.fn.code;
   within : AreIn (length l.all) (drop l.wait-index l.waits);
 }

@@ -5,4 +5,5 @@ use Rattle.gen_files.proofs.records.publics.Given as goal
 
 abbrev pub invariant-loop-public : goal.invariant-loop-public
 invariant-loop-public l =
-    (entry : ℕ → ℕ) → Finds entry l.entries → l.records ≡ map (public_record entry) (take l.public-index l.publics)
+    (entry : ℕ → ℕ) → Finds entry l.entries
+    → l.records ≡ map (public_record entry) (take l.public-index l.publics)

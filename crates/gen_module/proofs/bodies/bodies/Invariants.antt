@@ -7,4 +7,5 @@ use Rattle.gen_module.proofs.bodies.bodies.Given as goal
 
 abbrev pub invariant-loop-one : goal.invariant-loop-one
 invariant-loop-one l =
-    Row (body_part (program_of l.source) (map slot_view l.params)) l.bodies l.fn.b l.grown l.one-index l.starts.items
+    Row (body_part (program_of l.source) (map slot_view l.params)) l.bodies l.fn.b l.grown
+    l.one-index l.starts.items

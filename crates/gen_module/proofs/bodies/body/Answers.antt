@@ -7,6 +7,9 @@ use Rattle.gen_module.proofs.bodies.body.Goals as goal
 
 pub returns : goal.returns
 returns c =
-    body_made (program_of c.args.source.now) (map slot_view c.args.params.now) (map slot_view c.as_slice.result.now) c.in_ok-count_of.field-0
-    (body_view c.args.body.now) c.args.b c.in_ok-done.done c.in_ok-ended.ended (ap (λ l. map slot_view l) c.as_slice.ensures)
-    (c.in_ok-count_of.ensures ∙ sym (length-map c.args.params.now slot_view)) c.in_ok-done.ensures c.in_ok-ended.ensures
+    body_made (program_of c.args.source.now) (map slot_view c.args.params.now)
+    (map slot_view c.as_slice.result.now) c.in_ok-count_of.field-0
+    (body_view c.args.body.now) c.args.b c.in_ok-done.done c.in_ok-ended.ended
+    (ap (λ l. map slot_view l) c.as_slice.ensures)
+    (c.in_ok-count_of.ensures ∙ sym (length-map c.args.params.now slot_view)) c.in_ok-done.ensures
+    c.in_ok-ended.ensures

@@ -6,4 +6,5 @@ use Rattle.gen_statements.proofs.left.leave_block.Goals as goal
 pub returns-clause-stands : goal.returns-clause-stands
 returns-clause-stands c =
     stands_more c.args.place.now c.args.locals.now c.leave.new.self c.requires.stands
-    (c.leave.ensures.keeps (map slot_view c.args.place.now.slots.now) c.args.place.now.params c.requires.stands.keeps c.requires.mark.1)
+    (c.leave.ensures.keeps (map slot_view c.args.place.now.slots.now) c.args.place.now.params
+    c.requires.stands.keeps c.requires.mark.1)

@@ -10,5 +10,7 @@ use Rattle.gen_statements.proofs.left.leave_loop.Goals as goal
 pub returns : goal.returns
 returns c =
     then_grown c.args.b c.in_ok-left.left c.in_ok-done.done
-    (λ exits. leave_code (map slot_view c.args.place.now.slots.now) (drop c.args.since.made c.args.locals.now.made.items))
-    (λ exits. jump_to op.Jump (exit_at exits c.args.exit) ∷ []) c.in_ok-left.ensures c.in_ok-done.ensures
+    (λ exits. leave_code (map slot_view c.args.place.now.slots.now)
+    (drop c.args.since.made c.args.locals.now.made.items))
+    (λ exits. jump_to op.Jump (exit_at exits c.args.exit) ∷ []) c.in_ok-left.ensures
+    c.in_ok-done.ensures

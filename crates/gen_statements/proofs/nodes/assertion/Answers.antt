@@ -8,5 +8,6 @@ use Rattle.gen_statements.proofs.nodes.assertion.Goals as goal
 pub returns : goal.returns
 returns c =
     assert_done c.args.b c.in_ok-valued.valued c.in_ok-code.code
-    (value_items (scope_in c.args.place.now c.args.locals.now.made.items) (4 * length c.args.b.code.code) (expr_view c.args.e.now))
+    (value_items (scope_in c.args.place.now c.args.locals.now.made.items)
+    (4 * length c.args.b.code.code) (expr_view c.args.e.now))
     c.in_ok-valued.ensures c.in_ok-code.ensures

@@ -8,4 +8,5 @@ use Rattle.gen_statements.proofs.nodes.effect.Goals as goal
 pub returns : goal.returns
 returns c =
     code_grown c.args.b c.in_ok-code.code
-    (value_items (scope_in c.args.place.now c.args.locals.now.made.items) (4 * length c.args.b.code.code) (expr_view c.args.e.now)) c.in_ok-code.ensures
+    (value_items (scope_in c.args.place.now c.args.locals.now.made.items)
+    (4 * length c.args.b.code.code) (expr_view c.args.e.now)) c.in_ok-code.ensures

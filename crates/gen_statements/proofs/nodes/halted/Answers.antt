@@ -12,7 +12,8 @@ returns c =
     let f : FitsSigned w32 c.cast_signed.result = search rules in
     let g : FitsSigned w32 c.args.reason = c.ranges.reason in
     halt_done c.args.b c.in_ok-valued.valued c.in_ok-tagged.tagged c.in_ok-done.done
-    (value_items (scope_in c.args.place.now c.args.locals.now.made.items) (4 * length c.args.b.code.code) (expr_view c.args.e.now))
+    (value_items (scope_in c.args.place.now c.args.locals.now.made.items)
+    (4 * length c.args.b.code.code) (expr_view c.args.e.now))
     (cell_of c.args.tag) c.args.reason c.in_ok-valued.ensures
     (rw (to_z-of_z w32 c.cast_signed.result f, c.cast_signed.ensures) at c.in_ok-tagged.ensures)
     (rw (to_z-of_z w32 c.args.reason g) at c.in_ok-done.ensures)

@@ -15,8 +15,11 @@ returns c =
     let slots = map slot_view c.args.place.now.slots.now in
     let made = c.args.locals.now.made.items in
     two_more c.args.b c.in_ok-valued.valued c.in_ok-left.left c.in_ok-done.done
-    (value_items (scope_in c.args.place.now made) (4 * length c.args.b.code.code) (expr_view c.args.e.now)) (leave_code slots made) (alone op.Retn ∷ [])
+    (value_items (scope_in c.args.place.now made) (4 * length c.args.b.code.code)
+    (expr_view c.args.e.now)) (leave_code slots made) (alone op.Retn ∷ [])
     c.in_ok-valued.ensures
-    (all_dropped slots c.args.place.now.params c.args.locals.now c.in_ok-valued.valued c.in_ok-left.left c.mark-all.result.made c.mark-all.result.cells
-    c.requires.keeps (ap (λ (m : Mark). m.made) c.mark-all.ensures) (ap (λ (m : Mark). m.cells) c.mark-all.ensures) c.in_ok-left.ensures)
+    (all_dropped slots c.args.place.now.params c.args.locals.now c.in_ok-valued.valued
+    c.in_ok-left.left c.mark-all.result.made c.mark-all.result.cells
+    c.requires.keeps (ap (λ (m : Mark). m.made) c.mark-all.ensures)
+    (ap (λ (m : Mark). m.cells) c.mark-all.ensures) c.in_ok-left.ensures)
     c.in_ok-done.ensures

@@ -12,4 +12,5 @@ invariant-statements-loop-i l = Left l.place l.since l.fn.locals l.locals l.item
 abbrev pub invariant-all_cases-loop-i : goal.invariant-all_cases-loop-i
 invariant-all_cases-loop-i l =
     (l.locals.made.items ≡ l.fn.locals.made.items) × Within l.place l.since l.locals
-    × CasesLeft l.place l.fn.locals.made.items l.since.made l.items l.i (tabled (cases_view l.items) l.fn.b) l.draft l.begins l.ends
+    × CasesLeft l.place l.fn.locals.made.items l.since.made l.items l.i
+    (tabled (cases_view l.items) l.fn.b) l.draft l.begins l.ends

@@ -10,5 +10,6 @@ pub returns : goal.returns
 returns c =
     let scope = scope_in c.args.place.now c.args.locals.now.made.items in
     state_done c.args.b c.in_ok-tested.tested c.in_ok-code.code
-    (condition_items scope (4 * length c.args.b.code.code) (perhaps_view c.args.c.now)) (switched_code scope.program c.args.a c.args.state)
+    (condition_items scope (4 * length c.args.b.code.code) (perhaps_view c.args.c.now))
+    (switched_code scope.program c.args.a c.args.state)
     c.in_ok-tested.ensures c.in_ok-code.ensures

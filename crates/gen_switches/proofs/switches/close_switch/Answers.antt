@@ -9,6 +9,8 @@ use Rattle.gen_switches.proofs.switches.close_switch.Goals as goal
 pub lead_out-code-requires : goal.lead_out-code-requires
 lead_out-code-requires c =
     let cells : length c.write_cases-written.result.code ≡ length c.args.b.code.code =
-    ap (λ (z : Built). length z.code) c.write_cases-written.ensures ∙ over_cells (c.args.at + 1) (cases_pairs (cases_view c.args.cases.now) c.args.begins.now) c.fill.new.self
+    ap (λ (z : Built). length z.code) c.write_cases-written.ensures
+    ∙ over_cells (c.args.at + 1) (cases_pairs (cases_view c.args.cases.now) c.args.begins.now)
+    c.fill.new.self
     ∙ ap (λ (z : Built). length z.code) c.fill.ensures ∙ length-set _ _ _ in
     subst (λ n. AreIn n c.args.ends.now) (sym cells) c.requires.ends

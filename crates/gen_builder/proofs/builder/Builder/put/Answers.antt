@@ -14,6 +14,7 @@ encode-requires c =
 pub returns : goal.returns
 returns c =
     let f : FitsSigned w32 c.args.operand = c.ranges.operand in
-    put_is c.args.op c.number.result c.args.operand (record { code = c.grown.inside.code; waits = c.grown.inside.waits }) c.encode.new.out
+    put_is c.args.op c.number.result c.args.operand
+    (record { code = c.grown.inside.code; waits = c.grown.inside.waits }) c.encode.new.out
     c.number.ensures (rw (to_z-of_z w32 c.args.operand f) at c.in_ok-encode.ensures)
     ∙ ap (λ b. with_items (Plain (with c.args.op c.args.operand) ∷ []) b) c.grown.view_is

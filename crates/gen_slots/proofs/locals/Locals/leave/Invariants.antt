@@ -6,7 +6,8 @@ use Rattle.gen_slots.proofs.locals.Locals.leave.Given as goal
 abbrev pub invariant-loop-self : goal.invariant-loop-self
 invariant-loop-self l =
     (take l.mark.made l.self.made.items ≡ take l.mark.made l.fn.self.made.items)
-    × ((slots : List Slot) (params : ℕ) → AreOffsets slots params l.fn.self.made.items l.fn.self.offsets.items
+    × ((slots : List Slot) (params : ℕ)
+    → AreOffsets slots params l.fn.self.made.items l.fn.self.offsets.items
     → AreOffsets slots params l.self.made.items l.self.offsets.items)
 
 abbrev pub decreases-loop-self : goal.decreases-loop-self
