@@ -33,32 +33,41 @@ use Rattle.command_laws.proofs.SourceLaws.{good_sources}
 
 module _ (map : Held) where
   -- the script that is read is the one that is held
-  one_script : (name : Option (List ℕ)) (script read : Script) → HasNatives (Some map) name script → HasNatives (Some map) name read → read ≡ script
+  one_script : (name : Option (List ℕ)) (script read : Script) → HasNatives (Some map) name script
+      → HasNatives (Some map) name read → read ≡ script
   one_script None script read is that = that ∙ sym is
   one_script (Some name) script read is that =
       let P : List ℕ → Type 0 = λ b. IsScriptOf b read in
       same_script is.bytes script read is.is (subst P (same_bytes map name is that) that.is)
 
-only_memory : (amx : Amx) (script : Script) (stop : Stop) → address_of amx Main ≡ Some amx.entry → IsServed amx script → NotReady amx script stop
+only_memory : (amx : Amx) (script : Script) (stop : Stop) → address_of amx Main ≡ Some amx.entry
+    → IsServed amx script → NotReady amx script stop
     → stop ≡ NoMemory
 only_memory amx script stop main served (no_main none) = absurd (cc (main, none))
-only_memory amx script stop main served (no_native cause there (unregistered number first)) = absurd (cc (served, first))
+only_memory amx script stop main served (no_native cause there (unregistered number first)) =
+    absurd (cc (served, first))
 only_memory amx script stop main served (no_native cause there no_memory) = refl
 only_memory amx script stop main served wants_memory = refl
 
 module _ {S : Type 0} (writes : Writes S) (old new : S) (answer : Status) where
-  runs : (amx : Amx) (script : Script) (steps sleeps : ℕ) → address_of amx Main ≡ Some amx.entry → IsServed amx script
+  runs : (amx : Amx) (script : Script) (steps sleeps : ℕ) → address_of amx Main ≡ Some amx.entry
+      → IsServed amx script
       → RunsFile writes amx script steps sleeps old new answer
-      → TellsStop NoMemory writes old new answer ⊎ TellsTrace (trace_of amx script steps sleeps) writes old new answer
+      → TellsStop NoMemory writes old new answer
+      ⊎ TellsTrace (trace_of amx script steps sleeps) writes old new answer
   runs amx script steps sleeps main served (ran there has tells) = inr tells
   runs amx script steps sleeps main served (stopped stop none tells) =
       let P : Stop → Type 0 = λ s. TellsStop s writes old new answer in
       inl (subst P (only_memory amx script stop main served none) tells)
 
-module _ {S : Type 0} (writes : Writes S) (old new : S) (answer : Status) (map : Held) (after : Option Held) (words : GoWords) (script : Script)
-    (source : IsServedSource map words.src.now script) (natives : HasNatives (Some map) words.script.now script) where
+module _ {S : Type 0} (writes : Writes S) (old new : S) (answer : Status) (map : Held)
+    (after : Option Held) (words : GoWords) (script : Script)
+    (source : IsServedSource map words.src.now script)
+    (natives : HasNatives (Some map) words.script.now script) where
   free : (stop : Stop) → NotGood (Some map) words stop → IsFree stop
-  free stop none = good_sources.read map words source.program source.warnings script stop source.means natives none
+  free stop none =
+      good_sources.read map words source.program source.warnings script stop source.means
+      natives none
 
   put : (it : GoesGood writes words (Some map) after old new answer)
       → Unput writes words.amx.now (Some map) after old new answer
@@ -69,27 +78,35 @@ module _ {S : Type 0} (writes : Writes S) (old new : S) (answer : Status) (map :
       let made = it.good.made in
       let has = made.has in
       let same : source.program ≡ made.program =
-      (a_source_has_one_program map words.src.now source.program made.program source.warnings it.prepared.compiled.warnings source.means made.means).0 in
-      let entry : made.program.entry ≡ Some source.main = sym (ap (λ (p : Program). p.entry) same) ∙ source.entry in
+      (a_source_has_one_program map words.src.now source.program made.program source.warnings
+      it.prepared.compiled.warnings source.means made.means).0 in
+      let entry : made.program.entry ≡ Some source.main =
+      sym (ap (λ (p : Program). p.entry) same) ∙ source.entry in
       let P : Program → Type 0 = λ p. Serves script p.natives in
       let e = one_script map words.script.now script it.prepared.script natives it.good.natives in
       let Q : Script → Type 0 = λ s. IsServed has.amx s in
-      let served = subst Q (sym e) (bound script has.amx.natives made.program.natives has.agrees.shape.natives (subst P same source.serves)) in
+      let served =
+      subst Q (sym e) (bound script has.amx.natives made.program.natives
+      has.agrees.shape.natives (subst P same source.serves)) in
       record {
         it = it;
         comes = inr (
           is.kept,
-          runs (behind (warning_lines it.prepared.compiled.warnings) writes) old new answer has.amx it.prepared.script words.steps words.sleeps
+          runs (behind (warning_lines it.prepared.compiled.warnings) writes) old new answer has.amx
+              it.prepared.script words.steps words.sleeps
               (main_address made.program has.amx has.agrees source.main entry) served is.runs,
         );
       }
 
   go : Goes writes words (Some map) after old new answer
-      → IsStopped writes IsFree (Some map) after old new answer ⊎ IsGone writes words (Some map) after old new answer
+      → IsStopped writes IsFree (Some map) after old new answer
+      ⊎ IsGone writes words (Some map) after old new answer
   go (inl early) = inl (freely free early)
   go (inr it) = inr (put it it.puts)
 
 pub good_is_gone : {S : Type 0} (writes : Writes S) → GoodIsGone writes
 good_is_gone writes = record {
-  done = λ map after words script old new answer source natives it. go writes old new answer map after words script source natives it;
+  done =
+      λ map after words script old new answer source natives it. go writes old new answer map after
+      words script source natives it;
 }

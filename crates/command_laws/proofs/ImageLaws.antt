@@ -12,6 +12,8 @@ good_images = record {
   same = λ map name program s t p q it that.
       let P : List ℕ → Type 0 = λ b. IsImageOf program b t q in
       let there = subst P (same_bytes map name it that) that.is in
-      let same = one_state program.file it.is.version there.version s t p q program.digest it.bytes it.is.restorable there.restorable it.is.image there.image in
+      let same =
+      one_state program.file it.is.version there.version s t p q program.digest it.bytes
+      it.is.restorable there.restorable it.is.image there.image in
       (sym same.1, sym same.2);
 }

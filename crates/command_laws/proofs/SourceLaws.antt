@@ -24,34 +24,47 @@ use Rattle.command_laws.specs.GoodSource.{GoodSourcesGo}
 use Rattle.command_laws.proofs.GoodLaws.{read_free, same_bytes, faultless}
 
 -- the stop at a fault of the files, or at want of memory
-free_stop : (src : List ℕ) (fault : CompileFault) → (fault ≡ compile.Files) ⊎ (fault ≡ compile.Memory) → IsFree (stop_of src fault)
-free_stop src fault (inl e) = let P : CompileFault → Type 0 = λ f. IsFree (stop_of src f) in subst P (sym e) good.file_fault
-free_stop src fault (inr e) = let P : CompileFault → Type 0 = λ f. IsFree (stop_of src f) in subst P (sym e) good.no_memory
+free_stop : (src : List ℕ) (fault : CompileFault)
+    → (fault ≡ compile.Files) ⊎ (fault ≡ compile.Memory) → IsFree (stop_of src fault)
+free_stop src fault (inl e) =
+    let P : CompileFault → Type 0 = λ f. IsFree (stop_of src f) in subst P (sym e) good.file_fault
+free_stop src fault (inr e) =
+    let P : CompileFault → Type 0 = λ f. IsFree (stop_of src f) in subst P (sym e) good.no_memory
 
 module _ (map : Held) where
-  source_free : (src : List ℕ) (program : Program) (warnings : List Warning) (stop : Stop) → Means (Some map) src program warnings
+  source_free : (src : List ℕ) (program : Program) (warnings : List Warning) (stop : Stop)
+      → Means (Some map) src program warnings
       → NoSource (Some map) src stop → IsFree stop
   source_free src program warnings stop means none =
-      subst IsFree (sym none.is) (free_stop src none.fault (what_means_is_not_refused map src program warnings none.fault means none.cause))
+      subst IsFree (sym none.is) (free_stop src none.fault
+      (what_means_is_not_refused map src program warnings none.fault means none.cause))
 
-  natives_free : (script : Option (List ℕ)) (natives : Script) (stop : Stop) → HasNatives (Some map) script natives → LacksNatives (Some map) script stop
+  natives_free : (script : Option (List ℕ)) (natives : Script) (stop : Stop)
+      → HasNatives (Some map) script natives → LacksNatives (Some map) script stop
       → IsFree stop
-  natives_free None natives stop is e = let P : Stop → Type 0 = IsFree in subst P (sym e) good.no_memory
+  natives_free None natives stop is e =
+      let P : Stop → Type 0 = IsFree in subst P (sym e) good.no_memory
   natives_free (Some name) natives stop is (inl unread) = read_free map name _ stop is unread
   natives_free (Some name) natives stop is (inr none) =
       let P : List ℕ → Type 0 = λ b. IsNoScript b stop in
       let at = subst P (same_bytes map name is none) none.is in
       absurd (faultless is.bytes natives is.is at.fault at.has at.refused)
 
-  reads : (words : GoWords) (program : Program) (warnings : List Warning) (script : Script) (stop : Stop)
-      → Means (Some map) words.src.now program warnings → HasNatives (Some map) words.script.now script
+  reads : (words : GoWords) (program : Program) (warnings : List Warning) (script : Script)
+      (stop : Stop)
+      → Means (Some map) words.src.now program warnings
+      → HasNatives (Some map) words.script.now script
       → NotGood (Some map) words stop → IsFree stop
-  reads words program warnings script stop means natives (no_source none) = source_free words.src.now program warnings stop means none
-  reads words program warnings script stop means natives (no_natives it made none) = natives_free words.script.now script stop natives none
+  reads words program warnings script stop means natives (no_source none) =
+      source_free words.src.now program warnings stop means none
+  reads words program warnings script stop means natives (no_natives it made none) =
+      natives_free words.script.now script stop natives none
 
-starts : (amx : Amx) (script : Script) (stop : Stop) → address_of amx Main ≡ Some amx.entry → IsServed amx script → NotReady amx script stop → IsFree stop
+starts : (amx : Amx) (script : Script) (stop : Stop) → address_of amx Main ≡ Some amx.entry
+    → IsServed amx script → NotReady amx script stop → IsFree stop
 starts amx script stop main served (no_main none) = absurd (cc (main, none))
-starts amx script stop main served (no_native cause there (unregistered number first)) = absurd (cc (served, first))
+starts amx script stop main served (no_native cause there (unregistered number first)) =
+    absurd (cc (served, first))
 starts amx script stop main served (no_native cause there no_memory) = good.no_memory
 starts amx script stop main served wants_memory = good.no_memory
 

@@ -21,13 +21,15 @@ pub data IsFree : Stop → Type 0 where
 pub record GoodFilesAreRead : Type 0 where
   -- where a name holds a valid file
   pub file : (map : Held) (name : List ℕ) (amx : Amx) (stop : Stop)
-      → IsRead (Some map) name FILE_LIMIT (λ bytes. IsValidFile bytes amx) → NoFile (Some map) name stop → IsFree stop
+      → IsRead (Some map) name FILE_LIMIT (λ bytes. IsValidFile bytes amx)
+      → NoFile (Some map) name stop → IsFree stop
   -- where names hold a valid file and a script
   pub read : (map : Held) (amx script : List ℕ) (program : Program) (stop : Stop)
       → IsProgram (Some map) amx script program → NoProgram (Some map) amx script stop → IsFree stop
   -- and they are no other program
   pub same : (map : Held) (amx script : List ℕ) (program other : Program)
-      → IsProgram (Some map) amx script program → IsProgram (Some map) amx script other → other ≡ program
+      → IsProgram (Some map) amx script program → IsProgram (Some map) amx script other
+      → other ≡ program
 
 -- an entry that is there and natives that are served stop no start
 abbrev pub GoodProgramsStart : Type 0

@@ -1,4 +1,5 @@
--- A source that has a program is compiled by `compile`, but for a fault of the files or want of memory.
+-- A source that has a program is compiled by `compile`, but for a fault of the files or want of
+-- memory.
 use Rattle.std.specs.Prelude.{◌⊎◌, Option, List, Some}
 use Rattle.pawn_outside.specs.Held.{Held}
 use Rattle.pawn_program.specs.Program.{Program}
@@ -13,6 +14,9 @@ use Rattle.command_laws.specs.Good.{IsFree}
 
 -- over files that tell what they hold
 pub record GoodIsCompiled {S : Type 0} (writes : Writes S) : Type 0 where
-  pub done : (map : Held) (after : Option Held) (words : CompileWords) (program : Program) (warnings : List Warning) (old new : S) (answer : Status)
-      → Means (Some map) words.src.now program warnings → Compiles writes words (Some map) after old new answer
-      → IsStopped writes IsFree (Some map) after old new answer ⊎ CompilesGood writes words (Some map) after old new answer
+  pub done : (map : Held) (after : Option Held) (words : CompileWords) (program : Program)
+      (warnings : List Warning) (old new : S) (answer : Status)
+      → Means (Some map) words.src.now program warnings
+      → Compiles writes words (Some map) after old new answer
+      → IsStopped writes IsFree (Some map) after old new answer
+      ⊎ CompilesGood writes words (Some map) after old new answer

@@ -27,19 +27,23 @@ pub record IsServedSource (held : Held) (src : List ℕ) (script : Script) : Typ
   pub entry : program.entry ≡ Some main
   pub serves : Serves script program.natives
 
--- it goes; its file wasn't put, or it was, and behind the warnings its trace is told, but for want of memory before its
--- start
-pub record IsGone {S : Type 0} (writes : Writes S) (words : GoWords) (held after : Option Held) (old new : S) (answer : Status) : Type 0 where
+-- it goes; its file wasn't put, or it was, and behind the warnings its trace is told, but for want
+-- of memory before its start
+pub record IsGone {S : Type 0} (writes : Writes S) (words : GoWords) (held after : Option Held)
+    (old new : S) (answer : Status) : Type 0 where
   pub it : GoesGood writes words held after old new answer
   pub comes : Unput writes words.amx.now held after old new answer
       ⊎ ((after ≡ with_put held words.amx.now it.prepared.compiled.bytes)
-      × (TellsStop NoMemory (behind (warning_lines it.prepared.compiled.warnings) writes) old new answer
+      × (TellsStop NoMemory (behind (warning_lines it.prepared.compiled.warnings) writes) old
+      new answer
       ⊎ TellsTrace (trace_of it.good.made.has.amx it.prepared.script words.steps words.sleeps)
       (behind (warning_lines it.prepared.compiled.warnings) writes) old new answer))
 
 -- over files that tell what they hold
 pub record GoodIsGone {S : Type 0} (writes : Writes S) : Type 0 where
-  pub done : (map : Held) (after : Option Held) (words : GoWords) (script : Script) (old new : S) (answer : Status)
+  pub done : (map : Held) (after : Option Held) (words : GoWords) (script : Script) (old new : S)
+      (answer : Status)
       → IsServedSource map words.src.now script → HasNatives (Some map) words.script.now script
       → Goes writes words (Some map) after old new answer
-      → IsStopped writes IsFree (Some map) after old new answer ⊎ IsGone writes words (Some map) after old new answer
+      → IsStopped writes IsFree (Some map) after old new answer
+      ⊎ IsGone writes words (Some map) after old new answer

@@ -1,5 +1,5 @@
--- A source that has a program isn't refused: only a fault of the files or want of memory may stop `compile` at it, and
--- `go` before its run.
+-- A source that has a program isn't refused: only a fault of the files or want of memory may stop
+-- `compile` at it, and `go` before its run.
 use Rattle.std.specs.Prelude.{◌≡◌, ℕ, List, Some}
 use Rattle.pawn_outside.specs.Held.{Held}
 use Rattle.host_script.specs.declared.script.Script.{Script}
@@ -22,9 +22,12 @@ pub record GoodSourcesGo : Type 0 where
   pub made : (map : Held) (src : List ℕ) (program : Program) (warnings : List Warning) (stop : Stop)
       → Means (Some map) src program warnings → NoSource (Some map) src stop → IsFree stop
   -- and the script that is named is one
-  pub read : (map : Held) (words : GoWords) (program : Program) (warnings : List Warning) (script : Script) (stop : Stop)
-      → Means (Some map) words.src.now program warnings → HasNatives (Some map) words.script.now script
+  pub read : (map : Held) (words : GoWords) (program : Program) (warnings : List Warning)
+      (script : Script) (stop : Stop)
+      → Means (Some map) words.src.now program warnings
+      → HasNatives (Some map) words.script.now script
       → NotGood (Some map) words stop → IsFree stop
   -- a main that is there and natives that are served stop no start
-  pub starts : (amx : Amx) (script : Script) (stop : Stop) → address_of amx Main ≡ Some amx.entry → IsServed amx script
+  pub starts : (amx : Amx) (script : Script) (stop : Stop) → address_of amx Main ≡ Some amx.entry
+      → IsServed amx script
       → NotReady amx script stop → IsFree stop

@@ -1,7 +1,9 @@
 -- Calls that only read, one behind another.
-use Rattle.std.proofs.Common.{◌≡◌, ◌≤◌, ◌∙◌, ℕ, List, Option, Some, Err, Ok, Result, inl, inr, refl, sym, ap, subst, length, arith}
+use Rattle.std.proofs.Common.{◌≡◌, ◌≤◌, ◌∙◌, ℕ, List, Option, Some, Err, Ok, Result, inl, inr, refl}
+use Rattle.std.proofs.Common.{sym, ap, subst, length}
 use Rattle.pawn_outside.specs.Held.{Held, Tells}
 use Rattle.pawn_outside.specs.OnlyRead.{OnlyRead}
+use Rattle.pawn_outside.specs.Rose.{risen}
 use Rattle.host_script.specs.declared.script.Script.{Script}
 use Rattle.amx_ops.specs.declared.amx.Amx.{Amx}
 use Rattle.script_reader.specs.declared.fault.ScriptFault.{ScriptFault}
@@ -14,46 +16,62 @@ use Rattle.pawn_files.specs.Unread.{Unread, no_memory}
 use Rattle.pawn_files.specs.ValidFile.{Broken, no_file, invalid_at}
 use Rattle.command_parts.specs.declared.program.Digested.{Digested}
 use Rattle.command_parts.specs.declared.script.TheConstants.{SCRIPT_LIMIT}
-use Rattle.command_parts.specs.ScriptFile.{IsScriptRead, IsScriptNamed, IsScriptOf, IsNoScript, stop_at}
-use Rattle.command_parts.specs.Program.{IsDigested, IsFileNamed, IsFileOf, IsFileRead, NoScript, NoProgram, no_script}
+use Rattle.command_parts.specs.ScriptFile.{IsScriptRead, IsScriptNamed, IsScriptOf, IsNoScript}
+use Rattle.command_parts.specs.ScriptFile.{stop_at}
+use Rattle.command_parts.specs.Program.{IsDigested, IsFileNamed, IsFileOf, IsFileRead, NoScript}
+use Rattle.command_parts.specs.Program.{NoProgram, no_script}
 
-module _ {F : Type 0} {held : F → Option Held} {faults : F → ℕ} {never_fails : F → Type 0} {old new : F} where
-  -- another answer, which is a fault only where this one is
-  pub only_as : {First Fails : Type 0} → (Fails → First) → OnlyRead held faults never_fails old new First
+module _ {F : Type 0} {held : F → Option Held} {faults : F → ℕ} {never_fails : F → Type 0}
+    {old new : F} where
+  -- another answer, which is a fault where this one is and nowhere else
+  pub only_as : {First Fails : Type 0} → (Fails → First) → (First → Fails)
+      → OnlyRead held faults never_fails old new First
       → OnlyRead held faults never_fails old new Fails
-  only_as f it = record {
+  only_as f back it = record {
     same = it.same;
-    later = it.later;
+    steady = λ none. it.steady (λ first. none (back first));
     cause = λ fails. it.cause (f fails);
     unfailing = λ never. ((it.unfailing never).0, λ fails. (it.unfailing never).1 (f fails));
   }
 
-  -- another answer, which is no fault
-  pub only_other : {First Fails : Type 0} → (Fails → ⊥) → OnlyRead held faults never_fails old new First
+  -- another answer, which is no fault either
+  pub only_other : {T E Fails : Type 0} {t : T} {fault : E} → (Fails → ⊥)
+      → OnlyRead held faults never_fails old new (Ok t ≡ Err fault)
       → OnlyRead held faults never_fails old new Fails
-  only_other never it = only_as (λ fails. absurd (never fails)) it
+  only_other never it = only_as (λ fails. absurd (never fails)) (λ e. absurd (cc e)) it
 
-  -- one call behind another
-  pub only_then : {last : F} {First Fails : Type 0} → OnlyRead held faults never_fails old new First
-      → OnlyRead held faults never_fails new last Fails → OnlyRead held faults never_fails old last Fails
+  no_fault : {T E : Type 0} {t : T} {fault : E}
+      → OnlyRead held faults never_fails old new (Ok t ≡ Err fault) → faults new ≡ faults old
+  no_fault it = it.steady (λ e. absurd (cc e))
+
+  -- a call behind another that was good
+  pub only_then : {last : F} {T E Fails : Type 0} {t : T} {fault : E}
+      → OnlyRead held faults never_fails old new (Ok t ≡ Err fault)
+      → OnlyRead held faults never_fails new last Fails
+      → OnlyRead held faults never_fails old last Fails
   only_then first second = record {
     same = second.same ∙ first.same;
-    later = omega (arith, first.later, second.later);
-    cause = λ fails. let rose = second.cause fails in omega (arith, first.later, rose);
+    steady = λ none. second.steady none ∙ no_fault first;
+    cause = λ fails. second.cause fails ∙ ap risen (no_fault first);
     unfailing = λ never. second.unfailing (first.unfailing never).0;
   }
 
 -- ---- scripts
 
-pub fault_found : (bytes : List ℕ) (fault : ScriptFault) (stop : Stop) → ReadsScript bytes (Err fault) → stop ≡ stop_at fault
+pub fault_found : (bytes : List ℕ) (fault : ScriptFault) (stop : Stop)
+    → ReadsScript bytes (Err fault) → stop ≡ stop_at fault
     → IsScriptRead bytes (Err stop)
-fault_found bytes Json stop h e = inr (record { fault = Json; has = h; refused = λ f. absurd (cc f); stop_is = e })
-fault_found bytes (Shape field) stop h e = inr (record { fault = Shape field; has = h; refused = λ f. absurd (cc f); stop_is = e })
-fault_found bytes (Range field) stop h e = inr (record { fault = Range field; has = h; refused = λ f. absurd (cc f); stop_is = e })
+fault_found bytes Json stop h e =
+    inr (record { fault = Json; has = h; refused = λ f. absurd (cc f); stop_is = e })
+fault_found bytes (Shape field) stop h e =
+    inr (record { fault = Shape field; has = h; refused = λ f. absurd (cc f); stop_is = e })
+fault_found bytes (Range field) stop h e =
+    inr (record { fault = Range field; has = h; refused = λ f. absurd (cc f); stop_is = e })
 fault_found bytes Memory stop h e = inl e
 
 pub script_named : (held : Option Held) (name bytes lent : List ℕ) (result : Result Script Stop)
-    → Tells held name (Some bytes) × (length bytes ≤ SCRIPT_LIMIT) → lent ≡ bytes → IsScriptRead lent result → IsScriptNamed held name result
+    → Tells held name (Some bytes) × (length bytes ≤ SCRIPT_LIMIT) → lent ≡ bytes
+    → IsScriptRead lent result → IsScriptNamed held name result
 script_named held name bytes lent (Ok script) tells e it =
     let P : List ℕ → Type 0 = λ b. IsScriptOf b script in
     record { bytes = bytes; tells = tells.0; within = tells.1; is = subst P e it }
@@ -69,15 +87,18 @@ stop_no_fault (Shape field) e = absurd (cc e)
 stop_no_fault (Range field) e = absurd (cc e)
 stop_no_fault Memory e = absurd (cc e)
 
-pub script_no_fault : (bytes : List ℕ) (result : Result Script Stop) → IsScriptRead bytes result → result ≡ Err FileFault → ⊥
+pub script_no_fault : (bytes : List ℕ) (result : Result Script Stop) → IsScriptRead bytes result
+    → result ≡ Err FileFault → ⊥
 script_no_fault bytes (Ok script) it e = absurd (cc e)
 script_no_fault bytes (Err stop) (inl memory) e = absurd (cc (memory, e))
 script_no_fault bytes (Err stop) (inr none) e =
     let is : stop ≡ FileFault = cc e in stop_no_fault none.fault (sym none.stop_is ∙ is)
 
 -- behind a good file
-pub script_stops : (held mid : Option Held) (amx script : List ℕ) (stop : Stop) (file : Amx) (digest : List ℕ) → mid ≡ held
-    → IsFileNamed held amx file digest → IsScriptNamed mid script (Err stop) → NoProgram held amx script stop
+pub script_stops : (held mid : Option Held) (amx script : List ℕ) (stop : Stop) (file : Amx)
+    (digest : List ℕ) → mid ≡ held
+    → IsFileNamed held amx file digest → IsScriptNamed mid script (Err stop)
+    → NoProgram held amx script stop
 script_stops held mid amx script stop file digest same good none =
     let P : Option Held → Type 0 = λ h. NoScript h script stop in
     no_script file digest good (subst P same none)
@@ -85,7 +106,8 @@ script_stops held mid amx script stop file digest same good none =
 -- ---- files
 
 pub file_named : (held : Option Held) (name bytes lent : List ℕ) (result : Result Digested Stop)
-    → Tells held name (Some bytes) × (length bytes ≤ FILE_LIMIT) → lent ≡ bytes → IsFileOf lent result → IsFileRead held name result
+    → Tells held name (Some bytes) × (length bytes ≤ FILE_LIMIT) → lent ≡ bytes
+    → IsFileOf lent result → IsFileRead held name result
 file_named held name bytes lent (Ok it) tells e valid =
     let P : List ℕ → Type 0 = λ b. IsDigested b it.file it.digest in
     record { bytes = bytes; tells = tells.0; within = tells.1; is = subst P e valid }
@@ -99,7 +121,8 @@ broken_no_fault : {bytes : List ℕ} {stop : Stop} → Broken bytes stop → sto
 broken_no_fault (no_file kind it) e = absurd (cc e)
 broken_no_fault (invalid_at kind at it) e = absurd (cc e)
 
-pub file_no_fault : (bytes : List ℕ) (result : Result Digested Stop) → IsFileOf bytes result → result ≡ Err FileFault → ⊥
+pub file_no_fault : (bytes : List ℕ) (result : Result Digested Stop) → IsFileOf bytes result
+    → result ≡ Err FileFault → ⊥
 file_no_fault bytes (Ok it) valid e = absurd (cc e)
 file_no_fault bytes (Err stop) (inl memory) e = absurd (cc (memory, e))
 file_no_fault bytes (Err stop) (inr broken) e = broken_no_fault broken (cc e)

@@ -9,6 +9,8 @@ pub data NotPut (held after : Option Held) (name : List ℕ) : Stop → Type 0 w
   failed : without after name ≡ without held name → NotPut held after name FileFault
   no_memory : after ≡ held → NotPut held after name NoMemory
 
-abbrev pub IsPut : {T : Type 0} → Option Held → Option Held → List ℕ → List ℕ → Result T Stop → Type 0
+-- under its name are these bytes, and all others are as they were; or it wasn't put
+abbrev pub IsPut : {T : Type 0} → Option Held → Option Held → List ℕ → List ℕ → Result T Stop
+    → Type 0
 IsPut held after name bytes (Ok t) = after ≡ with_put held name bytes
 IsPut held after name bytes (Err stop) = NotPut held after name stop

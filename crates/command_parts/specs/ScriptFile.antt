@@ -11,6 +11,7 @@ use Rattle.pawn_words.specs.declared.stop.Stop.TheVariants.{NoScript, BadScript,
 use Rattle.pawn_files.specs.Unread.{IsRead, Unread}
 use Rattle.command_parts.specs.declared.script.TheConstants.{SCRIPT_LIMIT}
 
+-- they are read, and mean this
 abbrev pub IsScriptOf : List ℕ → Script → Type 0
 IsScriptOf bytes script = ReadsScript bytes (Ok script)
 
@@ -40,6 +41,8 @@ IsScriptRead bytes (Err stop) = (stop ≡ NoMemory) ⊎ IsNoScript bytes stop
 
 -- the same by its name
 abbrev pub IsScriptNamed : Option Held → List ℕ → Result Script Stop → Type 0
-IsScriptNamed held name (Ok script) = IsRead held name SCRIPT_LIMIT (λ bytes. IsScriptOf bytes script)
+IsScriptNamed held name (Ok script) =
+    IsRead held name SCRIPT_LIMIT (λ bytes. IsScriptOf bytes script)
 IsScriptNamed held name (Err stop) =
-    Unread held name SCRIPT_LIMIT stop ⊎ IsRead held name SCRIPT_LIMIT (λ bytes. IsNoScript bytes stop)
+    Unread held name SCRIPT_LIMIT stop
+    ⊎ IsRead held name SCRIPT_LIMIT (λ bytes. IsNoScript bytes stop)

@@ -14,12 +14,14 @@ Told = Result (Unit {0}) SinkFault
 abbrev pub Writes : Type 0 → Type 1
 Writes S = S → S → List ℕ → Told → Type 0
 
+-- a sink that fails has a status of its own
 abbrev pub status_told : Status → Told → Status
 status_told s (Ok done) = s
 status_told s (Err fault) = status.SinkFault
 
 -- the line of a stop was written, or a front of it
-pub record TellsStop {S : Type 0} (stop : Stop) (writes : Writes S) (old new : S) (answer : Status) : Type 0 where
+pub record TellsStop {S : Type 0} (stop : Stop) (writes : Writes S) (old new : S)
+    (answer : Status) : Type 0 where
   pub told : Told
   pub written : writes old new (line_of stop) told
   pub is : answer ≡ status_told (status_of stop) told

@@ -39,6 +39,7 @@ pub record TellsPut {S : Type 0} (writes : Writes S) (it : Compiled) (name : Lis
 
 -- ---- the whole command
 
+-- either of both
 abbrev pub Puts : {S : Type 0} → Writes S → Compiled → List ℕ → Option Held → Option Held → S → S
     → Status → Type 0
 Puts writes it name held after old new answer =
@@ -51,6 +52,7 @@ pub record CompilesGood {S : Type 0} (writes : Writes S) (words : CompileWords)
   pub made : IsCompiled held words.src.now (encoding_of words.compact) it
   pub puts : Puts writes it words.amx.now held after old new answer
 
+-- the file at AMX stays as it was where there is no good source
 abbrev pub Compiles : {S : Type 0} → Writes S → CompileWords → Option Held → Option Held → S → S
     → Status → Type 0
 Compiles writes words held after old new answer =

@@ -1,6 +1,6 @@
 ghost use Rattle.std.specs.Prelude.{◌≡◌};
 ghost use Rattle.pawn_outside.specs.Said.{Said};
-ghost use Rattle.command_parts.specs.Calls.{Calls};
+ghost use Rattle.command_parts.specs.Calls.{CommandCalls};
 ghost use Rattle.compile_command.specs.Compiles.{Compiles, Puts, encoding_of};
 ghost use Rattle.compile_command.specs.Lines.{compile_text};
 
@@ -22,7 +22,7 @@ pub fn compile<F: Files, S: Sink>(
 ) -> Status
     ensures answer { Compiles (Said S.taken S.faults S.has_room) words.entry (F.held files.old)
         (F.held files.new) out.old out.new result }
-    ensures calls { Calls F.faults F.never_fails files.old files.new (result ≡ Status.FileFault) }
+    ensures calls { CommandCalls F.faults F.never_fails files.old files.new result }
 {
     match compiled_source(alloc, words.src.as_str(), encoding_of(words.compact), files) {
         Ok(compiled) => put_file(&compiled, words.amx.as_str(), files, out),
@@ -45,7 +45,7 @@ fn encoding_of(compact: bool) -> Encoding
 fn put_file<F: Files, S: Sink>(compiled: &Compiled, amx: &str, files: &mut F, out: &mut S) -> Status
     ensures answer { Puts (Said S.taken S.faults S.has_room) compiled.now amx.now
         (F.held files.old) (F.held files.new) out.old out.new result }
-    ensures calls { Calls F.faults F.never_fails files.old files.new (result ≡ Status.FileFault) }
+    ensures calls { CommandCalls F.faults F.never_fails files.old files.new result }
 {
     match put(amx, compiled.bytes.as_slice(), files) {
         Ok(()) => told(Status::Ok, say_compiled(compiled, out)),

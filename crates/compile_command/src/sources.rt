@@ -28,7 +28,8 @@ pub fn compiled_source<F: Files>(
 
 /// The stop at a source that isn't compiled, or want of memory for its name.
 fn stop_of(alloc: Global, src: &str, fault: CompileFault) -> Stop
-    ensures { IsStopOf (stop_of src.now fault) result }
+    ensures stop { IsStopOf (stop_of src.now fault) result }
+    ensures files { fault ≡ CompileFault.Files → result ≡ Stop.FileFault }
 {
     match fault {
         CompileFault::Refused { kind, file, line } => Stop::Refused { kind, file, line },

@@ -20,7 +20,8 @@ use Rattle.pawn_files.specs.ValidFile.{IsFileOf, IsValidFile, Broken, no_file, i
 -- ---- the bytes of a valid file aren't broken
 
 -- no fault tells of a file that has none
-tells_none : (cause : VerifyFault) (kind : ℕ) → TellsFault cause None → verdict.number_of cause ≡ Some kind → ⊥
+tells_none : (cause : VerifyFault) (kind : ℕ) → TellsFault cause None
+    → verdict.number_of cause ≡ Some kind → ⊥
 tells_none (fault.Opcode at) kind tells e = absurd (cc tells)
 tells_none (fault.Cut at) kind tells e = absurd (cc tells)
 tells_none (fault.Target at) kind tells e = absurd (cc tells)
@@ -32,20 +33,26 @@ tells_none (fault.Entry number) kind tells e = absurd (cc tells)
 tells_none fault.Memory kind tells e = absurd (cc e)
 
 module _ {bytes : List ℕ} (amx : Amx) (it : IsValidFile bytes amx) where
-  read_so : (cause : FormatFault) (kind : ℕ) → IsFirst bytes cause → format.number_of cause ≡ Some kind → ⊥
+  read_so : (cause : FormatFault) (kind : ℕ) → IsFirst bytes cause
+      → format.number_of cause ≡ Some kind → ⊥
   read_so cause kind first e =
-      let same = one_answer bytes (Err cause) (Ok amx) first it.file (λ k. absurd (cc k)) (λ k. absurd (cc (k, e))) in
+      let same =
+      one_answer bytes (Err cause) (Ok amx) first it.file (λ k. absurd (cc k))
+      (λ k. absurd (cc (k, e))) in
       absurd (cc same)
 
-  valid_so : (other : Amx) (cause : VerifyFault) (kind : ℕ) → IsFile bytes other → TellsFault cause (fault_in other)
+  valid_so : (other : Amx) (cause : VerifyFault) (kind : ℕ) → IsFile bytes other
+      → TellsFault cause (fault_in other)
       → verdict.number_of cause ≡ Some kind → ⊥
   valid_so other cause kind file tells e =
-      let none : fault_in other ≡ None = ap fault_in (file_determines bytes other amx file it.file) ∙ it.valid in
+      let none : fault_in other ≡ None =
+      ap fault_in (file_determines bytes other amx file it.file) ∙ it.valid in
       tells_none cause kind (subst (TellsFault cause) none tells) e
 
   not_broken : {stop : Stop} → Broken bytes stop → ⊥
   not_broken (no_file kind bad) = read_so bad.cause kind bad.first bad.number
-  not_broken (invalid_at kind at bad) = valid_so bad.amx bad.cause kind bad.file bad.first bad.number
+  not_broken (invalid_at kind at bad) =
+      valid_so bad.amx bad.cause kind bad.file bad.first bad.number
 
   -- only want of memory stops its reading
   pub only_memory : (stop : Stop) → IsFileOf bytes (Err stop) → stop ≡ NoMemory
@@ -65,5 +72,6 @@ file_no_fault bytes stop (inl memory) = λ f. absurd (cc (memory, f))
 file_no_fault bytes stop (inr broken) = broken_no_fault broken
 
 -- the file of a program is valid
-pub made_valid : {program : Program} {encoding : Encoding} {bytes : List ℕ} (it : HasFile program encoding bytes) → IsValidFile bytes it.amx
+pub made_valid : {program : Program} {encoding : Encoding} {bytes : List ℕ}
+    (it : HasFile program encoding bytes) → IsValidFile bytes it.amx
 made_valid it = record { file = it.file; valid = it.agrees.shape.valid }

@@ -1,5 +1,6 @@
 -- What keeps a machine from being ready, as the code meets it.
-use Rattle.std.proofs.Common.{◌≡◌, ◌≢◌, inl, inr, ℤ, negsuc, List, Bool, true, false, None, Some, Ok, Err, Result, if◌then◌else◌, refl, sym, ap, subst}
+use Rattle.std.proofs.Common.{◌≡◌, ◌≢◌, inl, inr, ℤ, negsuc, List, Bool, true, false, None, Some}
+use Rattle.std.proofs.Common.{Ok, Err, Result, if◌then◌else◌, refl, sym, ap, subst}
 use Rattle.pawn_cells.specs.Cells.{equal}
 use Rattle.host_script.specs.declared.script.Script.{Script}
 use Rattle.amx_ops.specs.declared.amx.Amx.{Amx}
@@ -15,15 +16,18 @@ use Rattle.pawn_words.specs.declared.options.TheConstants.{MAIN}
 use Rattle.pawn_words.specs.declared.stop.Stop.{Stop}
 use Rattle.pawn_words.specs.declared.stop.Stop.TheVariants.{NoEntry, Unregistered, FileFault}
 use Rattle.go_command.specs.declared.ready.Ready.{Ready}
-use Rattle.go_command.specs.Ready.{IsReady, NotReady, no_main, no_native, wants_memory, NotServed, Serves, Readies, Unserved, unregistered, no_memory}
+use Rattle.go_command.specs.Ready.{IsReady, NotReady, no_main, no_native, wants_memory, NotServed}
+use Rattle.go_command.specs.Ready.{Serves, Readies, Unserved, unregistered, no_memory}
 
-there_by : (b : Bool) (entry address : ℤ) → (if b then None else Some entry) ≡ Some address → (if b then None else Some entry) ≡ Some entry
+there_by : (b : Bool) (entry address : ℤ) → (if b then None else Some entry) ≡ Some address
+    → (if b then None else Some entry) ≡ Some entry
 there_by true entry address e = absurd (cc e)
 there_by false entry address e = refl
 
 module _ (amx : Amx) (script : Script) where
   -- main isn't there
-  pub main_missing : (read : Amx) (stop : Stop) → read ≡ amx → None ≡ address_of read Main → IsStopOf (NoEntry MAIN) stop → NotReady amx script stop
+  pub main_missing : (read : Amx) (stop : Stop) → read ≡ amx → None ≡ address_of read Main
+      → IsStopOf (NoEntry MAIN) stop → NotReady amx script stop
   main_missing read stop same none (inl is) =
       let P : Stop → Type 0 = NotReady amx script in
       let Q : Amx → Type 0 = λ a. None ≡ address_of a Main in
@@ -32,12 +36,14 @@ module _ (amx : Amx) (script : Script) where
       let P : Stop → Type 0 = NotReady amx script in subst P (sym is) wants_memory
 
   -- it is
-  pub main_there : (read : Amx) (address : ℤ) → read ≡ amx → Some address ≡ address_of read Main → address_of amx Main ≡ Some amx.entry
+  pub main_there : (read : Amx) (address : ℤ) → read ≡ amx → Some address ≡ address_of read Main
+      → address_of amx Main ≡ Some amx.entry
   main_there read address same some =
       let Q : Amx → Type 0 = λ a. Some address ≡ address_of a Main in
       there_by (equal amx.entry (negsuc 0)) amx.entry address (sym (subst Q same some))
 
-  pub not_served_is : (natives : List Record) (fault : BindFault) (stop : Stop) → natives ≡ amx.natives → Binds script amx.natives (Err fault)
+  pub not_served_is : (natives : List Record) (fault : BindFault) (stop : Stop)
+      → natives ≡ amx.natives → Binds script amx.natives (Err fault)
       → NotServed natives fault stop → Unserved amx script stop
   not_served_is natives (bind.Unregistered number) stop are binds (inl is) =
       let P : Stop → Type 0 = Unserved amx script in
@@ -48,21 +54,26 @@ module _ (amx : Amx) (script : Script) where
   not_served_is natives bind.Memory stop are binds is =
       let P : Stop → Type 0 = Unserved amx script in subst P (sym is) no_memory
 
-  pub readies : (result : Result Ready Stop) → address_of amx Main ≡ Some amx.entry → Serves amx script result → Readies amx script result
+  pub readies : (result : Result Ready Stop) → address_of amx Main ≡ Some amx.entry
+      → Serves amx script result → Readies amx script result
   readies (Ok ready) main serves = record { main = main; serves = serves }
   readies (Err stop) main none = no_native stop main none
 
   pub file_of : (ready : Ready) → IsReady amx script ready → ready.machine.amx ≡ amx
   file_of ready it = ap (λ (m : Machine). m.amx) it.serves.machine
 
-  pub ready_itself : (ready : Ready) → IsReady amx script ready → IsReady ready.machine.amx script ready
-  ready_itself ready it = let P : Amx → Type 0 = λ a. IsReady a script ready in subst P (sym (file_of ready it)) it
+  pub ready_itself : (ready : Ready) → IsReady amx script ready
+      → IsReady ready.machine.amx script ready
+  ready_itself ready it =
+      let P : Amx → Type 0 = λ a. IsReady a script ready in subst P (sym (file_of ready it)) it
 
-unserved_no_fault : {amx : Amx} {script : Script} {stop : Stop} → Unserved amx script stop → stop ≢ FileFault
+unserved_no_fault : {amx : Amx} {script : Script} {stop : Stop} → Unserved amx script stop
+    → stop ≢ FileFault
 unserved_no_fault (unregistered number first) = λ f. absurd (cc f)
 unserved_no_fault no_memory = λ f. absurd (cc f)
 
-pub ready_no_fault : {amx : Amx} {script : Script} {stop : Stop} → NotReady amx script stop → stop ≢ FileFault
+pub ready_no_fault : {amx : Amx} {script : Script} {stop : Stop} → NotReady amx script stop
+    → stop ≢ FileFault
 ready_no_fault (no_main none) = λ f. absurd (cc f)
 ready_no_fault (no_native stop main none) = unserved_no_fault none
 ready_no_fault wants_memory = λ f. absurd (cc f)

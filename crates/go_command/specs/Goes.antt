@@ -68,6 +68,7 @@ pub record GoesGood {S : Type 0} (writes : Writes S) (words : GoWords) (held aft
       words.sleeps
   pub puts : MayPut writes words good.made.has.amx prepared held after old new answer
 
+-- nothing is put where the source or the script isn't good
 abbrev pub Goes : {S : Type 0} → Writes S → GoWords → Option Held → Option Held → S → S → Status
     → Type 0
 Goes writes words held after old new answer =

@@ -1,4 +1,5 @@
--- A machine that is ready to be started at its file's main, its natives served; or why there is none.
+-- A machine that is ready to be started at its file's main, its natives served; or why there is
+-- none.
 use Rattle.std.specs.Prelude.{◌≡◌, ℕ, List, None, Some, Result, Ok, Err}
 use Rattle.host_script.specs.declared.script.Script.{Script}
 use Rattle.amx_ops.specs.declared.amx.Amx.{Amx}

@@ -9,6 +9,7 @@ use Rattle.command_parts.specs.Told.{Writes, TellsStop}
 use Rattle.go_command.specs.Played.{TellsTrace, trace_of}
 use Rattle.go_command.specs.Ready.{IsServed, NotReady}
 
+-- with so many steps in each segment, and so many sleeps from which it goes on
 pub data RunsFile {S : Type 0} (writes : Writes S) (amx : Amx) (script : Script) (steps sleeps : ℕ)
     (old new : S) (answer : Status) : Type 0 where
   stopped : (stop : Stop) → NotReady amx script stop → TellsStop stop writes old new answer

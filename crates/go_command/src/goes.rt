@@ -4,7 +4,7 @@ ghost use Rattle.amx_ops.specs.declared.amx.Amx.{Amx};
 ghost use Rattle.pawn_outside.specs.OnlyRead.{OnlyRead};
 ghost use Rattle.pawn_outside.specs.Said.{Said};
 ghost use Rattle.pawn_files.specs.ValidFile.{IsValidFile};
-ghost use Rattle.command_parts.specs.Calls.{Calls};
+ghost use Rattle.command_parts.specs.Calls.{CommandCalls};
 ghost use Rattle.compile_command.specs.Lines.{warning_lines};
 ghost use Rattle.go_command.specs.Goes.{Goes, IsPrepared, Makes, behind};
 ghost use Rattle.go_command.specs.RunsFile.{RunsFile};
@@ -38,7 +38,7 @@ pub fn go<F: Files, S: Sink>(
 ) -> Status
     ensures answer { Goes (Said S.taken S.faults S.has_room) words.entry (F.held files.old)
         (F.held files.new) out.old out.new result }
-    ensures calls { Calls F.faults F.never_fails files.old files.new (result ≡ Status.FileFault) }
+    ensures calls { CommandCalls F.faults F.never_fails files.old files.new result }
 {
     match prepare(alloc, words, files) {
         Ok(prepared) => make(alloc, &prepared, words, files, out),
@@ -69,7 +69,7 @@ fn make<F: Files, S: Sink>(
     requires script { IsScript prepared.now.script }
     ensures answer { Makes (Said S.taken S.faults S.has_room) words.entry prepared.now
         (F.held files.old) (F.held files.new) out.old out.new result }
-    ensures calls { Calls F.faults F.never_fails files.old files.new (result ≡ Status.FileFault) }
+    ensures calls { CommandCalls F.faults F.never_fails files.old files.new result }
 {
     match put(
         words.amx.as_str(),

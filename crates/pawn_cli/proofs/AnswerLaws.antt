@@ -1,5 +1,6 @@
 -- What stops a call: its words, or the file that it reads; and what a call tells of a valid file.
-use Rattle.std.proofs.Common.{◌≡◌, ◌≢◌, inl, inr, ℕ, List as ListOf, Option, Ok, Err, refl, sym, subst}
+use Rattle.std.proofs.Common.{◌≡◌, ◌≢◌, inl, inr, ℕ, List as ListOf, Option, Ok, Err, refl, sym}
+use Rattle.std.proofs.Common.{subst}
 use Rattle.pawn_outside.specs.Held.{Held}
 use Rattle.amx_ops.specs.declared.amx.Amx.{Amx}
 use Rattle.pawn_words.specs.declared.command.Command.{Command}
@@ -17,29 +18,50 @@ use Rattle.pawn_cli.specs.ReadsFile.{ReadsFile}
 
 -- ---- words
 
-no_command : (said : Option Command) (fault : WordsFault) (stop : Stop) → Reads said (Err fault) → stop ≡ words_stop fault → NoCommand said stop
-no_command said words.Bad stop none e = let P : Stop → Type 0 = NoCommand said in subst P (sym e) (bad_words none)
-no_command said words.Memory stop none e = let P : Stop → Type 0 = NoCommand said in subst P (sym e) no_memory
+no_command : (said : Option Command) (fault : WordsFault) (stop : Stop) → Reads said (Err fault)
+    → stop ≡ words_stop fault → NoCommand said stop
+no_command said words.Bad stop none e =
+    let P : Stop → Type 0 = NoCommand said in subst P (sym e) (bad_words none)
+no_command said words.Memory stop none e =
+    let P : Stop → Type 0 = NoCommand said in subst P (sym e) no_memory
 
 pub words_no_fault : (fault : WordsFault) (stop : Stop) → stop ≡ words_stop fault → stop ≢ FileFault
 words_no_fault words.Bad stop e = λ f. absurd (cc (e, f))
 words_no_fault words.Memory stop e = λ f. absurd (cc (e, f))
 
 module _ {S : Type 0} {writes : Writes S} {held : Option Held} {old new : S} where
-  pub answers_unread : (said : Option Command) (fault : WordsFault) (stop : Stop) (answer : Status) → Reads said (Err fault) → stop ≡ words_stop fault
+  pub answers_unread : (said : Option Command) (fault : WordsFault) (stop : Stop) (answer : Status)
+      → Reads said (Err fault) → stop ≡ words_stop fault
       → TellsStop stop writes old new answer → Answers writes said held held old new answer
   answers_unread said fault stop answer none e tells =
-      inl (record { stop = stop; comes = no_command said fault stop none e; kept = refl; tells = tells })
+      inl (record {
+        stop = stop;
+        comes = no_command said fault stop none e;
+        kept = refl;
+        tells = tells;
+      })
 
 -- ---- one file
 
-module _ {S : Type 0} {writes : Writes S} {held after : Option Held} {old new : S} (text_of : Amx → ListOf ℕ) (name : ListOf ℕ) where
-  pub reads_none : (stop : Stop) (answer : Status) → IsFileNamed held name (Err stop) → after ≡ held → TellsStop stop writes old new answer
+module _ {S : Type 0} {writes : Writes S} {held after : Option Held} {old new : S}
+    (text_of : Amx → ListOf ℕ) (name : ListOf ℕ) where
+  pub reads_none : (stop : Stop) (answer : Status) → IsFileNamed held name (Err stop) → after ≡ held
+      → TellsStop stop writes old new answer
       → ReadsFile text_of writes name held after old new answer
-  reads_none stop answer none kept tells = inl (record { stop = stop; comes = none; kept = kept; tells = tells })
+  reads_none stop answer none kept tells =
+      inl (record { stop = stop; comes = none; kept = kept; tells = tells })
 
-  pub reads_one : (amx : Amx) (text : ListOf ℕ) (told : Told) (answer : Status) → IsFileNamed held name (Ok amx) → after ≡ held → text ≡ text_of amx
-      → writes old new text told → answer ≡ status_told status.Ok told → ReadsFile text_of writes name held after old new answer
+  pub reads_one : (amx : Amx) (text : ListOf ℕ) (told : Told) (answer : Status)
+      → IsFileNamed held name (Ok amx) → after ≡ held → text ≡ text_of amx
+      → writes old new text told → answer ≡ status_told status.Ok told
+      → ReadsFile text_of writes name held after old new answer
   reads_one amx text told answer valid kept e written is =
       let P : ListOf ℕ → Type 0 = λ t. writes old new t told in
-      inr (record { amx = amx; valid = valid; kept = kept; told = told; written = subst P e written; is = is })
+      inr (record {
+        amx = amx;
+        valid = valid;
+        kept = kept;
+        told = told;
+        written = subst P e written;
+        is = is;
+      })

@@ -2,7 +2,7 @@ ghost use Rattle.std.specs.Prelude.{◌≡◌, List as ListOf, ℕ, Option, Some
 ghost use Rattle.std.specs.String.{string_bytes};
 ghost use Rattle.pawn_outside.specs.Said.{Said};
 ghost use Rattle.pawn_words.specs.Command.{command_of};
-ghost use Rattle.command_parts.specs.Calls.{Calls};
+ghost use Rattle.command_parts.specs.Calls.{CommandCalls};
 ghost use Rattle.pawn_cli.specs.Answers.{Answers, Does, words_stop};
 ghost use Rattle.pawn_cli.specs.Answers.{AreCompile, AreGo, AreResume, AreRun};
 
@@ -27,7 +27,7 @@ pub fn pawn<F: Files, S: Sink>(
     ensures answer { Answers (Said S.taken S.faults S.has_room)
         (command_of (map string_bytes words.now)) (F.held files.old) (F.held files.new)
         out.old out.new result }
-    ensures calls { Calls F.faults F.never_fails files.old files.new (result ≡ Status.FileFault) }
+    ensures calls { CommandCalls F.faults F.never_fails files.old files.new result }
 {
     match read_words(alloc, words) {
         Ok(command) => serve(alloc, command, files, out),
@@ -49,7 +49,7 @@ fn stop_of(fault: WordsFault) -> Stop
 fn serve<F: Files, S: Sink>(alloc: Global, command: Command, files: &mut F, out: &mut S) -> Status
     ensures answer { Does (Said S.taken S.faults S.has_room) (Some command)
         (F.held files.old) (F.held files.new) out.old out.new result }
-    ensures calls { Calls F.faults F.never_fails files.old files.new (result ≡ Status.FileFault) }
+    ensures calls { CommandCalls F.faults F.never_fails files.old files.new result }
 {
     match command {
         Command::Compile { src, amx, compact } => {

@@ -1,6 +1,5 @@
-ghost use Rattle.std.specs.Prelude.{◌≡◌};
 ghost use Rattle.pawn_outside.specs.Said.{Said};
-ghost use Rattle.command_parts.specs.Calls.{Calls};
+ghost use Rattle.command_parts.specs.Calls.{CommandCalls};
 ghost use Rattle.pawn_cli.specs.ReadsFile.{Verifies};
 
 use command_parts::{tell_stop, told};
@@ -13,7 +12,7 @@ use std::alloc::Global;
 pub fn verify<F: Files, S: Sink>(alloc: Global, amx: &str, files: &mut F, out: &mut S) -> Status
     ensures answer { Verifies (Said S.taken S.faults S.has_room) amx.now (F.held files.old)
         (F.held files.new) out.old out.new result }
-    ensures calls { Calls F.faults F.never_fails files.old files.new (result ≡ Status.FileFault) }
+    ensures calls { CommandCalls F.faults F.never_fails files.old files.new result }
 {
     match read_valid(alloc, amx, files) {
         Err(stop) => tell_stop(stop, out),

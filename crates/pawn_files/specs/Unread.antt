@@ -1,20 +1,24 @@
 -- A file that is read by its name within a limit, and what keeps it from being read.
-use Rattle.std.specs.Prelude.{◌≡◌, ◌<◌, ◌≤◌, ◌⊎◌, ℕ, List, Option, None, Some, Result, Ok, Err, length}
+use Rattle.std.specs.Prelude.{◌≡◌, ◌<◌, ◌≤◌, ◌⊎◌, ℕ, List, Option, None, Some, Result, Ok, Err}
+use Rattle.std.specs.Prelude.{length}
 use Rattle.pawn_outside.specs.Held.{Held, Tells, HoldsThat}
 use Rattle.pawn_words.specs.declared.stop.Stop.{Stop}
 use Rattle.pawn_words.specs.declared.stop.Stop.TheVariants.{NoFile, TooLarge, FileFault, NoMemory}
 
 -- bytes by their name that keep this
-pub record IsRead (held : Option Held) (name : List ℕ) (limit : ℕ) (P : List ℕ → Type 0) : Type 0 where
+pub record IsRead (held : Option Held) (name : List ℕ) (limit : ℕ)
+    (P : List ℕ → Type 0) : Type 0 where
   pub bytes : List ℕ
   pub tells : Tells held name (Some bytes)
   pub within : length bytes ≤ limit
   pub is : P bytes
 
--- why nothing is read: the name isn't held, or holds more than the limit; the files failed, or memory was wanting
+-- why nothing is read: the name isn't held, or holds more than the limit; the files failed, or
+-- memory was wanting
 pub data Unread (held : Option Held) (name : List ℕ) (limit : ℕ) : Stop → Type 0 where
   missing : Tells held name None → Unread held name limit (NoFile name)
-  too_large : HoldsThat held name (λ bytes. limit < length bytes) → Unread held name limit (TooLarge name)
+  too_large : HoldsThat held name (λ bytes. limit < length bytes)
+      → Unread held name limit (TooLarge name)
   failed : Unread held name limit FileFault
   no_memory : Unread held name limit NoMemory
 

@@ -38,7 +38,8 @@ pub record IsNoFile (bytes : List ℕ) (kind : ℕ) : Type 0 where
   pub first : IsFirst bytes cause
   pub number : format.number_of cause ≡ Some kind
 
--- bytes of a file that isn't valid, for the first cause in the verifier's order, with its number and its place
+-- bytes of a file that isn't valid, for the first cause in the verifier's order, with its number
+-- and its place
 pub record IsInvalid (bytes : List ℕ) (kind : ℕ) (at : ℤ) : Type 0 where
   pub amx : Amx
   pub file : IsFile bytes amx
@@ -54,10 +55,12 @@ pub data Broken (bytes : List ℕ) : Stop → Type 0 where
 
 -- ---- what the calls answer
 
+-- bytes read as a file: the file that they are, else why they are none
 abbrev pub IsFileOf : List ℕ → Result Amx Stop → Type 0
 IsFileOf bytes (Ok amx) = IsValidFile bytes amx
 IsFileOf bytes (Err stop) = (stop ≡ NoMemory) ⊎ Broken bytes stop
 
+-- the same of the bytes that a name is read to
 abbrev pub IsFileNamed : Option Held → List ℕ → Result Amx Stop → Type 0
 IsFileNamed held name (Ok amx) = IsRead held name FILE_LIMIT (λ bytes. IsValidFile bytes amx)
 IsFileNamed held name (Err stop) =
@@ -68,12 +71,15 @@ abbrev pub unread_by : Option ℕ → Stop
 unread_by (Some kind) = Invalid kind
 unread_by None = NoMemory
 
+-- the stop of bytes that are no file
 abbrev pub unread : FormatFault → Stop
 unread cause = unread_by (format.number_of cause)
 
+-- the stop of a file that isn't valid, by the number and place of the cause
 abbrev pub invalid_by : Option ℕ → ℤ → Stop
 invalid_by (Some kind) at = InvalidAt kind at
 invalid_by None at = NoMemory
 
+-- the stop of a file that the verifier refuses
 abbrev pub invalid : VerifyFault → Stop
 invalid cause = invalid_by (verdict.number_of cause) (place_of cause)

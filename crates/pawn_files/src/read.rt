@@ -11,7 +11,7 @@ use std::alloc::Global;
 pub const SOURCE_LIMIT: u64 = 16_777_216;
 
 /// The most bytes of an AMX file.
-pub const FILE_LIMIT: u64 = 67_108_864;
+pub const FILE_LIMIT: u64 = amx_format::FILE_LIMIT;
 
 /// Reads a file by its name.
 pub fn read_bytes<F: Files>(

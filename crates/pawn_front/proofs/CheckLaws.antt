@@ -1,5 +1,6 @@
 -- What the layers behind the preprocessor answer, one behind another.
-use Rattle.std.proofs.Common.{◌≡◌, ◌≤◌, ◌∙◌, ℕ, ℤ, List, Result, Ok, Err, length, refl, sym, ap, subst}
+use Rattle.std.proofs.Common.{◌≡◌, ◌≤◌, ◌∙◌, ℕ, ℤ, List, Result, Ok, Err, length, refl, sym, ap}
+use Rattle.std.proofs.Common.{subst}
 use Rattle.pawn_pre.specs.declared.line.Lines.{Lines}
 use Rattle.pawn_lex.specs.declared.token.Token.{Token}
 use Rattle.pawn_lex.specs.Lines.{AreTokens}
@@ -19,37 +20,44 @@ use Rattle.pawn_front.specs.Places.{place_at}
 
 -- ---- the tree of tokens
 
-pub grows_too_deep : (ts lent : List Token) (n : ℕ) (fault : CheckFault) → lent ≡ ts → IsTooDeep ts n
+pub grows_too_deep : (ts lent : List Token) (n : ℕ) (fault : CheckFault) → lent ≡ ts
+    → IsTooDeep ts n
     → fault ≡ Source 31 (place_at lent n) → Grows ts (Err fault)
 grows_too_deep ts lent n fault same deep e =
     let P : CheckFault → Type 0 = λ f. Grows ts (Err f) in
-    subst P (sym (e ∙ ap (λ (l : List Token). Source 31 (place_at l n)) same)) (too_deep n deep refl refl)
+    subst P (sym (e ∙ ap (λ (l : List Token). Source 31 (place_at l n)) same))
+    (too_deep n deep refl refl)
 
 -- none, and none goes on at token n
 abbrev pub NoTreeFrom : List Token → ℕ → Type 0
 NoTreeFrom ts n = HasNoTree ts × (n ≤ length ts)
 
-pub grows_no_tree : (ts lent : List Token) (n : ℕ) (fault : CheckFault) → lent ≡ ts → NoTreeFrom ts n
+pub grows_no_tree : (ts lent : List Token) (n : ℕ) (fault : CheckFault) → lent ≡ ts
+    → NoTreeFrom ts n
     → fault ≡ Source 30 (place_at lent n) → Grows ts (Err fault)
 grows_no_tree ts lent n fault same none e =
     let P : CheckFault → Type 0 = λ f. Grows ts (Err f) in
-    subst P (sym (e ∙ ap (λ (l : List Token). Source 30 (place_at l n)) same)) (no_tree n none.0 none.1 refl refl)
+    subst P (sym (e ∙ ap (λ (l : List Token). Source 30 (place_at l n)) same))
+    (no_tree n none.0 none.1 refl refl)
 
 -- ---- the program of tokens
 
-pub checks_tree : (ts : List Token) (tree : Tree) (dynamic : ℤ) (result : Result Checked CheckFault) → IsParse ts tree
+pub checks_tree : (ts : List Token) (tree : Tree) (dynamic : ℤ) (result : Result Checked CheckFault)
+    → IsParse ts tree
     → Answers checked_view (typed tree dynamic) result → ChecksTokens ts dynamic result
 checks_tree ts tree dynamic (Ok it) parse e = record { tree = tree; is_tree = parse; is_typed = e }
 checks_tree ts tree dynamic (Err (Source kind place)) parse fails = by_tree tree parse fails.cause
 checks_tree ts tree dynamic (Err Memory) parse fails = tt
 
-pub no_tree_checked : (ts : List Token) (dynamic : ℤ) (fault : CheckFault) → Grows ts (Err fault) → ChecksTokens ts dynamic (Err fault)
+pub no_tree_checked : (ts : List Token) (dynamic : ℤ) (fault : CheckFault) → Grows ts (Err fault)
+    → ChecksTokens ts dynamic (Err fault)
 no_tree_checked ts dynamic (Source kind place) breaks = by_tokens breaks
 no_tree_checked ts dynamic Memory breaks = tt
 
 -- ---- the program of lines
 
-pub checks_behind : (lines : Lines) (ts : List Token) (result : Result Checked CheckFault) → AreTokens lines.lines ts
+pub checks_behind : (lines : Lines) (ts : List Token) (result : Result Checked CheckFault)
+    → AreTokens lines.lines ts
     → ChecksTokens ts lines.dynamic result → Checks lines result
 checks_behind lines ts (Ok it) are typed = record { tokens = ts; are_tokens = are; typed = typed }
 checks_behind lines ts (Err (Source kind place)) are breaks = behind_bytes ts are breaks

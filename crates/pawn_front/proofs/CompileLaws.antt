@@ -1,7 +1,9 @@
 -- What `compile` answers, by what the preprocessor does, and what the layers behind it do.
-use Rattle.std.proofs.Common.{◌≡◌, ℕ, List, Option, Some, Result, Ok, Err, refl, sym, subst}
+use Rattle.std.proofs.Common.{◌≡◌, ◌∙◌, ℕ, List, Option, Some, Result, Ok, Err, refl, sym, ap}
+use Rattle.std.proofs.Common.{subst}
 use Rattle.pawn_cells.specs.declared.place.Place.{Place}
 use Rattle.pawn_outside.specs.Held.{Held}
+use Rattle.pawn_outside.specs.OnlyRead.{OnlyRead}
 use Rattle.pawn_pre.specs.declared.fault.PreFault.{PreFault}
 use Rattle.pawn_pre.specs.declared.fault.PreFault.TheVariants as pre
 use Rattle.pawn_pre.specs.declared.line.Lines.{Lines}
@@ -18,7 +20,8 @@ use Rattle.pawn_front.specs.Means.{ComesTo}
 
 -- ---- of lines
 
-pub refuses_lines : (lines : Lines) (kind : ℕ) (place : Place) (fault : CompileFault) → Breaks lines kind place → Refuses lines.files kind place fault
+pub refuses_lines : (lines : Lines) (kind : ℕ) (place : Place) (fault : CompileFault)
+    → Breaks lines kind place → Refuses lines.files kind place fault
     → RefusesLines lines fault
 refuses_lines lines kind place (compile.Refused number file line) breaks it =
     let P : ℕ → Type 0 = λ n. Breaks lines n place in
@@ -30,20 +33,24 @@ refuses_lines lines kind place compile.Memory breaks it = tt
 
 -- ---- of a source
 
-pub compiles : (held : Option Held) (name : List ℕ) (lines : Lines) (encoding : Encoding) (result : Result Compiled CompileFault)
-    → ComesTo held name (Whole lines) → CompilesLines lines encoding result → Compiles held name encoding result
+pub compiles : (held : Option Held) (name : List ℕ) (lines : Lines) (encoding : Encoding)
+    (result : Result Compiled CompileFault)
+    → ComesTo held name (Whole lines) → CompilesLines lines encoding result
+    → Compiles held name encoding result
 compiles held name lines encoding (Ok it) comes is = record {
   program = is.program;
   means = record { lines = lines; comes = comes; has = is.is };
   has = is.has;
 }
-compiles held name lines encoding (Err (compile.Refused kind file line)) comes is = behind_lines lines is.place comes is.breaks is.file_is is.line_is
+compiles held name lines encoding (Err (compile.Refused kind file line)) comes is =
+    behind_lines lines is.place comes is.breaks is.file_is is.line_is
 compiles held name lines encoding (Err compile.NoSource) comes is = absurd is
 compiles held name lines encoding (Err (compile.TooLarge file)) comes is = absurd is
 compiles held name lines encoding (Err compile.Files) comes is = tt
 compiles held name lines encoding (Err compile.Memory) comes is = tt
 
-not_by_lines : (held : Option Held) (name : List ℕ) (fault : PreFault) → ((files : Held) → held ≡ Some files → Answers files name (Err fault))
+not_by_lines : (held : Option Held) (name : List ℕ) (fault : PreFault)
+    → ((files : Held) → held ≡ Some files → Answers files name (Err fault))
     → NotCompiled held name (fault_of fault)
 not_by_lines held name (pre.Source kind place file) comes = by_lines place comes refl
 not_by_lines held name pre.NoSource comes = comes
@@ -52,7 +59,56 @@ not_by_lines held name pre.Files comes = tt
 not_by_lines held name pre.Memory comes = tt
 
 pub not_compiled : (held : Option Held) (name : List ℕ) (fault : PreFault) (given : CompileFault)
-    → ((files : Held) → held ≡ Some files → Answers files name (Err fault)) → given ≡ fault_of fault → NotCompiled held name given
+    → ((files : Held) → held ≡ Some files → Answers files name (Err fault)) → given ≡ fault_of fault
+    → NotCompiled held name given
 not_compiled held name fault given comes e =
     let P : CompileFault → Type 0 = NotCompiled held name in
     subst P (sym e) (not_by_lines held name fault comes)
+
+-- ---- of the files
+
+no_files : (lines : Lines) (encoding : Encoding) (result : Result Compiled CompileFault)
+    → CompilesLines lines encoding result
+    → result ≡ Err compile.Files → ⊥
+no_files lines encoding result is e = subst (CompilesLines lines encoding) e is
+
+files_only : (fault : PreFault) → fault_of fault ≡ compile.Files → fault ≡ pre.Files
+files_only (pre.Source kind place file) e = absurd (cc e)
+files_only pre.NoSource e = absurd (cc e)
+files_only (pre.TooLarge file) e = absurd (cc e)
+files_only pre.Files e = refl
+files_only pre.Memory e = absurd (cc e)
+
+module _ {F : Type 0} {held : F → Option Held} {faults : F → ℕ} {never_fails : F → Type 0}
+    {old new : F} where
+  -- they were read before
+  pub read_before : (lines : Lines) (encoding : Encoding) (result : Result Compiled CompileFault)
+      → CompilesLines lines encoding result
+      → {made : Result Lines PreFault} → made ≡ Ok lines
+      → OnlyRead held faults never_fails old new (made ≡ Err pre.Files)
+      → OnlyRead held faults never_fails old new (result ≡ Err compile.Files)
+  read_before lines encoding result is good it = record {
+    same = it.same;
+    steady = λ none. it.steady (λ e. absurd (cc (good, e)));
+    cause = λ fails. absurd (no_files lines encoding result is fails);
+    unfailing = λ never. ((it.unfailing never).0, no_files lines encoding result is);
+  }
+
+  -- their fault is told as one
+  pub read_fault : (fault : PreFault) (given : CompileFault) {made : Result Lines PreFault}
+      {result : Result Compiled CompileFault}
+      → given ≡ fault_of fault → made ≡ Err fault → result ≡ Err given
+      → OnlyRead held faults never_fails old new (made ≡ Err pre.Files)
+      → OnlyRead held faults never_fails old new (result ≡ Err compile.Files)
+  read_fault fault given {made} {result} is failed told it =
+      let before : result ≡ Err compile.Files → made ≡ Err pre.Files =
+      λ e. let file : given ≡ compile.Files = cc (told, e) in failed
+      ∙ ap Err (files_only fault (sym is ∙ file)) in
+      let behind : made ≡ Err pre.Files → result ≡ Err compile.Files =
+      λ e. let file : fault ≡ pre.Files = cc (failed, e) in told
+      ∙ ap Err (is ∙ ap fault_of file) in record {
+        same = it.same;
+        steady = λ none. it.steady (λ e. none (behind e));
+        cause = λ e. it.cause (before e);
+        unfailing = λ never. ((it.unfailing never).0, λ e. (it.unfailing never).1 (before e));
+      }

@@ -10,7 +10,8 @@ use Rattle.pawn_front.specs.Compiled.{HasFile}
 use Rattle.sound_sources.specs.GoodSources.{IsGoodProgram}
 use Rattle.pawn_front.proofs.SizeLaws.{file_small}
 
-pub file_is : (program : Program) (encoding : Encoding) (bytes : List ℕ) (amx : Amx) → IsGoodProgram program → Agrees program amx
+pub file_is : (program : Program) (encoding : Encoding) (bytes : List ℕ) (amx : Amx)
+    → IsGoodProgram program → Agrees program amx
     → IsWritten encoding amx bytes → HasFile program encoding bytes
 file_is program encoding bytes amx good agrees it =
     let written = written_sorted encoding amx bytes agrees.shape.writable it in

@@ -1,5 +1,6 @@
--- A file of a good program has at most 67,108,864 bytes, whatever its encoding.
-use Rattle.std.proofs.Common.{◌≡◌, ◌+◌, ◌-◌, ◌*◌, ◌≤◌, ◌∙◌, ℕ, zero, suc, List, [], ◌∷◌, ◌++◌, length, map, refl, ap, arith, length-append}
+-- A file of a good program has no more bytes than a file may have, whatever its encoding.
+use Rattle.std.proofs.Common.{◌≡◌, ◌+◌, ◌-◌, ◌*◌, ◌≤◌, ◌∙◌, ℕ, zero, suc, List, [], ◌∷◌, ◌++◌}
+use Rattle.std.proofs.Common.{length, map, refl, ap, arith, length-append}
 use Rattle.std.specs.Prelude.{All, sum_by}
 use Rattle.std.proofs.lemmas.List.Sums.{sum_by-append, sum_by-cons}
 use Rattle.pawn_cells.specs.Cells.{cell_of}
@@ -7,10 +8,13 @@ use Rattle.pawn_program.specs.Names.{IsName, names_of}
 use Rattle.pawn_program.specs.Program.{Program, Public, Tag}
 use Rattle.amx_ops.specs.declared.amx.Amx.{Amx}
 use Rattle.amx_ops.specs.declared.amx.Record.{Record}
-use Rattle.amx_ops.specs.Writable.{table_size, names_size, over_tables, name_place, names_end, code_place, cells_of}
+use Rattle.amx_ops.specs.Writable.{table_size, names_size, over_tables, name_place, names_end}
+use Rattle.amx_ops.specs.Writable.{code_place, cells_of}
 use Rattle.amx_format.specs.declared.encoding.Encoding.{Encoding}
+use Rattle.amx_format.specs.declared.header.TheConstants.{FILE_LIMIT}
 use Rattle.amx_format.specs.Layout as layout
-use Rattle.amx_format.specs.Layout.{half, zeros, all_records, header_bytes, layout_header, table, IsRow, IsLayout}
+use Rattle.amx_format.specs.Layout.{half, zeros, all_records, header_bytes, layout_header, table}
+use Rattle.amx_format.specs.Layout.{IsRow, IsLayout}
 use Rattle.amx_format.proofs.HeaderLaws.{length-header}
 use Rattle.amx_format.proofs.RowLaws.{names_size-append, row_short}
 use Rattle.amx_format.proofs.TableLaws.{length-table, length-names}
@@ -29,10 +33,17 @@ count : (all : List (List ℕ)) → All IsName all → length all ≤ bytes_in a
 count [] h = omega arith
 count (name ∷ all) h =
     let here : IsName name = h 0 name (omega arith) in
-    omega (arith, sum_by-cons (λ (n : List ℕ). length n) name all, here.least, count all (λ i d k. h (suc i) d (omega (arith, k))))
+    omega (
+      arith,
+      sum_by-cons (λ (n : List ℕ). length n) name all,
+      here.least,
+      count all (λ i d k. h (suc i) d (omega (arith, k))),
+    )
 
 -- the records of a table, and their names with a zero behind each
-records_size : (records : List Record) → table_size records + names_size records ≡ 9 * length (names records) + bytes_in (names records)
+records_size : (records : List Record)
+    → table_size records + names_size records
+    ≡ 9 * length (names records) + bytes_in (names records)
 records_size [] = refl
 records_size (x ∷ xs) =
     omega (
@@ -46,11 +57,14 @@ natives_named : (all : List (List ℕ)) → names (map native_record all) ≡ al
 natives_named [] = refl
 natives_named (name ∷ all) = ap (λ l. name ∷ l) (natives_named all)
 
-tags_named : (tags : List Tag) → names (map (λ (it : Tag). record { address = cell_of it.number; name = it.name }) tags) ≡ map (λ (it : Tag). it.name) tags
+tags_named : (tags : List Tag)
+    → names (map (λ (it : Tag). record { address = cell_of it.number; name = it.name }) tags)
+    ≡ map (λ (it : Tag). it.name) tags
 tags_named [] = refl
 tags_named (tag ∷ tags) = ap (λ l. tag.name ∷ l) (tags_named tags)
 
-module _ (program : Program) (amx : Amx) (good : IsGoodProgram program) (agrees : Agrees program amx) where
+module _ (program : Program) (amx : Amx) (good : IsGoodProgram program)
+    (agrees : Agrees program amx) where
   abbrev natives : List (List ℕ)
   natives = program.natives
 
@@ -79,12 +93,14 @@ module _ (program : Program) (amx : Amx) (good : IsGoodProgram program) (agrees 
         sum_by-append (λ (n : List ℕ). length n) publics tags,
       )
 
-  natives_size : table_size amx.natives + names_size amx.natives ≡ 9 * length natives + bytes_in natives
+  natives_size : table_size amx.natives + names_size amx.natives
+      ≡ 9 * length natives + bytes_in natives
   natives_size =
       let e : names amx.natives ≡ natives = ap names agrees.shape.natives ∙ natives_named natives in
       records_size amx.natives ∙ ap (λ l. 9 * length l + bytes_in l) e
 
-  publics_size : table_size amx.publics + names_size amx.publics ≡ 9 * length publics + bytes_in publics
+  publics_size : table_size amx.publics + names_size amx.publics
+      ≡ 9 * length publics + bytes_in publics
   publics_size = records_size amx.publics ∙ ap (λ l. 9 * length l + bytes_in l) agrees.shape.publics
 
   tags_size : table_size amx.tags + names_size amx.tags ≡ 9 * length tags + bytes_in tags
@@ -121,23 +137,35 @@ length-half : (x : ℕ) → length (half x) ≡ 2
 unfolding half
 length-half x = refl
 
-long_of : (a b c d e f : List ℕ) → length (a ++ (b ++ (c ++ (d ++ (e ++ f))))) ≡ length a + (length b + (length c + (length d + (length e + length f))))
+long_of : (a b c d e f : List ℕ)
+    → length (a ++ (b ++ (c ++ (d ++ (e ++ f)))))
+    ≡ length a + (length b + (length c + (length d + (length e + length f))))
 long_of a b c d e f = simp length-append refl
 
-module _ (encoding : Encoding) (amx : Amx) (row : List ℕ) (is_row : IsRow encoding (amx.code ++ amx.store) row) where
+module _ (encoding : Encoding) (amx : Amx) (row : List ℕ)
+    (is_row : IsRow encoding (amx.code ++ amx.store) row) where
   short : length row ≤ 5 * cells_of amx
-  short = omega (arith, row_short encoding (amx.code ++ amx.store) row is_row, length-append amx.code amx.store)
+  short =
+      omega (
+        arith,
+        row_short encoding (amx.code ++ amx.store) row is_row,
+        length-append amx.code amx.store,
+      )
 
-  all_count : length (all_records amx) ≡ length amx.publics + (length amx.natives + (length amx.libraries + (length amx.variables + length amx.tags)))
+  all_count : length (all_records amx)
+      ≡ length amx.publics + (length amx.natives
+      + (length amx.libraries + (length amx.variables + length amx.tags)))
   all_count = simp length-append refl
 
   all_names : names_size (all_records amx)
-      ≡ names_size amx.publics + (names_size amx.natives + (names_size amx.libraries + (names_size amx.variables + names_size amx.tags)))
+      ≡ names_size amx.publics + (names_size amx.natives
+      + (names_size amx.libraries + (names_size amx.variables + names_size amx.tags)))
   all_names = simp names_size-append refl
 
   long : length (layout.layout encoding amx row) ≡ code_place amx + length row
   long =
-      long_of (header_bytes (layout_header encoding amx (length row))) (table (name_place amx + 2) (all_records amx)) (half 31)
+      long_of (header_bytes (layout_header encoding amx (length row)))
+      (table (name_place amx + 2) (all_records amx)) (half 31)
       (layout.names (all_records amx)) (zeros (code_place amx - names_end amx)) row
       ∙ omega (
         arith,
@@ -150,8 +178,9 @@ module _ (encoding : Encoding) (amx : Amx) (row : List ℕ) (is_row : IsRow enco
         all_names,
       )
 
-pub file_small : (program : Program) (amx : Amx) (encoding : Encoding) (bytes : List ℕ) → IsGoodProgram program → Agrees program amx
-    → IsLayout encoding amx bytes → length bytes ≤ 67108864
+pub file_small : (program : Program) (amx : Amx) (encoding : Encoding) (bytes : List ℕ)
+    → IsGoodProgram program → Agrees program amx
+    → IsLayout encoding amx bytes → length bytes ≤ FILE_LIMIT
 file_small program amx encoding bytes good agrees it =
     omega (
       arith,

@@ -7,6 +7,7 @@ use Rattle.amx_ops.specs.declared.amx.Amx.{Amx}
 use Rattle.amx_format.specs.File.{IsFile}
 use Rattle.amx_format.specs.Layout.{IsLayout}
 use Rattle.amx_format.specs.declared.encoding.Encoding.{Encoding}
+use Rattle.amx_format.specs.declared.header.TheConstants.{FILE_LIMIT}
 use Rattle.gen_agrees.specs.Agrees.{Agrees}
 use Rattle.pawn_front.specs.declared.compiled.Compiled.{Compiled}
 use Rattle.pawn_front.specs.declared.fault.CompileFault.{CompileFault}
@@ -14,13 +15,14 @@ use Rattle.pawn_front.specs.Checks.{RefusesLines}
 use Rattle.pawn_front.specs.Faults.{NotCompiled}
 use Rattle.pawn_front.specs.Means.{HasProgram, Means}
 
--- bytes of a file that does what a program means, in the writer's layout, 67,108,864 at most
+-- bytes of a file that does what a program means, in the writer's layout; there are no more than a
+-- file may have
 pub record HasFile (program : Program) (encoding : Encoding) (bytes : List ℕ) : Type 0 where
   pub amx : Amx
   pub agrees : Agrees program amx
   pub file : IsFile bytes amx
   pub layout : IsLayout encoding amx bytes
-  pub small : length bytes ≤ 67108864
+  pub small : length bytes ≤ FILE_LIMIT
 
 -- the file of a source, and its warnings
 pub record IsCompiled (held : Option Held) (name : List ℕ) (encoding : Encoding) (it : Compiled)
@@ -29,6 +31,7 @@ pub record IsCompiled (held : Option Held) (name : List ℕ) (encoding : Encodin
   pub means : Means held name program it.warnings
   pub has : HasFile program encoding it.bytes
 
+-- an answer agrees with what the source means
 abbrev pub Compiles : Option Held → List ℕ → Encoding → Result Compiled CompileFault → Type 0
 Compiles held name encoding (Ok it) = IsCompiled held name encoding it
 Compiles held name encoding (Err fault) = NotCompiled held name fault

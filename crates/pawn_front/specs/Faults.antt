@@ -13,7 +13,8 @@ use Rattle.pawn_grammar.specs.Spells.{IsParse}
 use Rattle.pawn_parse.specs.Parses.{HasNoTree}
 use Rattle.pawn_typed.specs.IsTyped.{IsFault}
 use Rattle.pawn_front.specs.declared.fault.CompileFault.{CompileFault}
-use Rattle.pawn_front.specs.declared.fault.CompileFault.TheVariants.{Refused, NoSource, TooLarge, Files, Memory}
+use Rattle.pawn_front.specs.declared.fault.CompileFault.TheVariants.{Refused, NoSource, TooLarge}
+use Rattle.pawn_front.specs.declared.fault.CompileFault.TheVariants.{Files, Memory}
 use Rattle.pawn_front.specs.Means.{ComesTo}
 use Rattle.pawn_front.specs.Places.{place_at}
 

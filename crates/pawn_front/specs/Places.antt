@@ -3,11 +3,8 @@ use Rattle.std.specs.Prelude.{◌-◌, ℕ, List, Option, None, Some, length, sl
 use Rattle.pawn_cells.specs.declared.place.Place.{Place}
 use Rattle.pawn_pre.specs.Outcome.{name_of}
 use Rattle.pawn_lex.specs.declared.token.Token.{Token}
+use Rattle.pawn_typed.specs.Whole.{first_line}
 use Rattle.pawn_front.specs.declared.compiled.Warning.{Warning}
-
--- the source's first line
-abbrev pub first_line : Place
-first_line = record { file = 0; line = 1 }
 
 -- the place of a token, if there is one
 abbrev pub place_by : Option Token → Place → Place

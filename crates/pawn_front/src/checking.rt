@@ -1,7 +1,8 @@
 ghost use Rattle.std.specs.Prelude.{◌≡◌, ◌<◌, ◌≤◌, ◌-◌, ◌^◌, length, slice_get, IfOk};
 ghost use Rattle.pawn_pre.specs.Bounds.{IsBounded, bytes_of};
 ghost use Rattle.pawn_front.specs.Checks.{Checks, ChecksTokens, Cuts, Grows};
-ghost use Rattle.pawn_front.specs.Places.{first_line, place_at, place_by};
+ghost use Rattle.pawn_typed.specs.Whole.{first_line};
+ghost use Rattle.pawn_front.specs.Places.{place_at, place_by};
 
 use pawn_cells::Place;
 use pawn_check::{CheckFault, Checked, check};

@@ -1,7 +1,11 @@
--- The words that are a command: its word, its plain words in order, then options in any order, each at most once.
-use Rattle.std.specs.Prelude.{ℕ, List, [], ◌∷◌, Bool, true, false, not, Option, None, Some, codes, take, bytes_eq, unwrap_or, is_some, option_map, option_and_then, if◌then◌else◌}
+-- The words that are a command: its word, its plain words in order, then options in any order, each
+-- at most once.
+use Rattle.std.specs.Prelude.{ℕ, List, [], ◌∷◌, Bool, true, false, not, Option, None, Some, codes}
+use Rattle.std.specs.Prelude.{take, bytes_eq, unwrap_or, is_some, option_map, option_and_then}
+use Rattle.std.specs.Prelude.{if◌then◌else◌}
 use Rattle.pawn_words.specs.declared.command.Command.{Command}
-use Rattle.pawn_words.specs.declared.command.Command.TheVariants.{Compile, Verify, List as Lists, Run, Resume, Go}
+use Rattle.pawn_words.specs.declared.command.Command.TheVariants.{Compile, Verify, List as Lists}
+use Rattle.pawn_words.specs.declared.command.Command.TheVariants.{Run, Resume, Go}
 use Rattle.pawn_words.specs.declared.options.Options.{Options}
 use Rattle.pawn_words.specs.declared.options.TheConstants.{DEFAULT_STEPS, DEFAULT_SLEEPS, MAIN}
 use Rattle.pawn_words.specs.Options.{no_options, options_from}
@@ -50,43 +54,58 @@ compact_of [] = Some false
 compact_of (word ∷ []) = compact_word word
 compact_of (word ∷ next ∷ words) = None
 
+-- `compile`: a source, the file of its program, and whether its cells are compact
 abbrev pub compile_of : List (List ℕ) → Option Command
-compile_of words = named (λ src. named (λ amx more. option_map (Compile src amx) (compact_of more))) words
+compile_of words =
+    named (λ src. named (λ amx more. option_map (Compile src amx) (compact_of more))) words
 
+-- `verify`: the file of a program
 abbrev pub verify_of : List (List ℕ) → Option Command
 verify_of words = named (λ amx. alone (Verify amx)) words
 
+-- `list`: the file of a program
 abbrev pub list_of : List (List ℕ) → Option Command
 list_of words = named (λ amx. alone (Lists amx)) words
 
+-- a run of a program with a script and an image of memory, for so many steps, from an entry
 abbrev pub run_with : List ℕ → List ℕ → List ℕ → Options → Option Command
 run_with amx script image o =
     if is_some o.sleeps then None
     else Some (Run amx script image (unwrap_or o.steps DEFAULT_STEPS) (unwrap_or o.entry MAIN))
 
+-- `run`: a program, its script, and the image that it may fall asleep to, then options
 abbrev pub run_of : List (List ℕ) → Option Command
-run_of words = named (λ amx. named (λ script. named (λ image. with_options (run_with amx script image)))) words
+run_of words =
+    named (λ amx. named (λ script. named (λ image. with_options (run_with amx script image)))) words
 
+-- a run that goes on from an image: it takes no entry, since the image holds where it stands
 abbrev pub resume_with : List ℕ → List ℕ → List ℕ → Options → Option Command
 resume_with amx script image o =
     if is_some o.sleeps then None
     else if is_some o.entry then None
     else Some (Resume amx script image (unwrap_or o.steps DEFAULT_STEPS))
 
+-- `resume`: a program, its script, and the image that it goes on from, then options
 abbrev pub resume_of : List (List ℕ) → Option Command
-resume_of words = named (λ amx. named (λ script. named (λ image. with_options (resume_with amx script image)))) words
+resume_of words =
+    named (λ amx. named (λ script. named (λ image. with_options (resume_with amx script image))))
+    words
 
+-- a source compiled and run from `main` on, over so many sleeps, with a script or without one
 abbrev pub go_with : List ℕ → List ℕ → Option (List ℕ) → Options → Option Command
 go_with src amx script o =
     if is_some o.entry then None
-    else Some (Go src amx script (unwrap_or o.steps DEFAULT_STEPS) (unwrap_or o.sleeps DEFAULT_SLEEPS))
+    else Some (Go src amx script (unwrap_or o.steps DEFAULT_STEPS)
+    (unwrap_or o.sleeps DEFAULT_SLEEPS))
 
+-- `go`: a source, the file of its program, and perhaps a script, then options
 abbrev pub go_of : List (List ℕ) → Option Command
 go_of words = named (λ src. named (λ amx more.
     with_options (go_with src amx (optional_plain more).0) (optional_plain more).1)) words
 
 -- ---- by its word
 
+-- the command by its own word and those behind it
 abbrev pub command_by : List ℕ → List (List ℕ) → Option Command
 command_by word words =
     if bytes_eq word (codes "verify") then verify_of words
@@ -97,6 +116,7 @@ command_by word words =
     else if bytes_eq word (codes "compile") then compile_of words
     else None
 
+-- no command without a word
 abbrev pub command_of : List (List ℕ) → Option Command
 command_of [] = None
 command_of (word ∷ words) = command_by word words

@@ -1,14 +1,17 @@
 -- The options of commands, each a word that begins with two hyphens and a value.
-use Rattle.std.specs.Prelude.{◌&&◌, ℕ, List, [], ◌∷◌, Option, None, Some, codes, nat_le, bytes_eq, option_map, option_and_then, if◌then◌else◌}
+use Rattle.std.specs.Prelude.{◌&&◌, ℕ, List, [], ◌∷◌, Option, None, Some, codes, nat_le, bytes_eq}
+use Rattle.std.specs.Prelude.{option_map, option_and_then, if◌then◌else◌}
 use Rattle.std.specs.Fmt.{decimal}
 use Rattle.std.specs.Str.Parse.{digits_value}
 use Rattle.pawn_words.specs.declared.options.Options.{Options}
 use Rattle.pawn_words.specs.declared.options.TheConstants.{MOST_STEPS, MOST_SLEEPS}
 
+-- before any option is read
 abbrev pub no_options : Options
 no_options = record { steps = None; sleeps = None; entry = None }
 
--- the number that a word is the decimal form of, without a zero at its front, where it isn't above a limit
+-- the number that a word is the decimal form of, without a zero at its front, where it isn't above
+-- a limit
 abbrev pub number_up_to : ℕ → List ℕ → Option ℕ
 number_up_to most word =
     if nat_le (digits_value 10 word) most && bytes_eq (decimal (digits_value 10 word)) word
@@ -19,10 +22,12 @@ abbrev pub once : {A B : Type 0} → Option A → Option B → Option B
 once None given = given
 once (Some before) given = None
 
+-- the most steps between two sleeps
 abbrev pub with_steps : List ℕ → Options → Option Options
 with_steps value given = once given.steps
     (option_map (λ n. record given { steps = Some n }) (number_up_to MOST_STEPS value))
 
+-- the most sleeps behind which a program goes on
 abbrev pub with_sleeps : List ℕ → Options → Option Options
 with_sleeps value given = once given.sleeps
     (option_map (λ n. record given { sleeps = Some n }) (number_up_to MOST_SLEEPS value))

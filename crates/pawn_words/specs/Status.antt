@@ -1,7 +1,11 @@
 -- The numbers of the statuses.
 use Rattle.std.specs.Prelude.{ℕ}
 use Rattle.pawn_words.specs.declared.status.Status.{Status}
-use Rattle.pawn_words.specs.declared.status.Status.TheVariants.{Ok, Refused, BadWords, NoFile, TooLarge, FileFault, SinkFault, Invalid, BadScript, BadImage, NoEntry, Unregistered, Ended, Steps, Asleep, NoMemory}
+use Rattle.pawn_words.specs.declared.status.Status.TheVariants.{Ok, Refused, BadWords, NoFile}
+use Rattle.pawn_words.specs.declared.status.Status.TheVariants.{TooLarge, FileFault, SinkFault}
+use Rattle.pawn_words.specs.declared.status.Status.TheVariants.{Invalid, BadScript, BadImage}
+use Rattle.pawn_words.specs.declared.status.Status.TheVariants.{NoEntry, Unregistered, Ended, Steps}
+use Rattle.pawn_words.specs.declared.status.Status.TheVariants.{Asleep, NoMemory}
 
 -- the number that the program ends with
 abbrev pub status_number : Status → ℕ

@@ -8,6 +8,7 @@ use Rattle.pawn_words.specs.declared.status.Status.TheVariants as status
 use Rattle.pawn_words.specs.declared.stop.Stop.{Stop}
 use Rattle.pawn_words.specs.declared.stop.Stop.TheVariants as stop
 
+-- by the kind of stop alone
 abbrev pub status_of : Stop → Status
 status_of (stop.Refused kind file line) = status.Refused
 status_of stop.BadWords = status.BadWords
@@ -41,9 +42,11 @@ field_text field.Error = codes "error"
 abbrev pub named_line : List ℕ → List ℕ → List ℕ
 named_line front name = front ++ (name ++ codes "\n")
 
+-- the kind of stop, with its numbers and names
 abbrev pub line_of : Stop → List ℕ
 line_of (stop.Refused kind file line) =
-    codes "refused " ++ (decimal kind ++ (codes " at " ++ (file ++ (codes ":" ++ (decimal line ++ codes "\n")))))
+    codes "refused " ++ (decimal kind
+    ++ (codes " at " ++ (file ++ (codes ":" ++ (decimal line ++ codes "\n")))))
 line_of stop.BadWords = codes "bad words\n"
 line_of (stop.NoFile name) = named_line (codes "no file ") name
 line_of (stop.TooLarge name) = named_line (codes "too large ") name

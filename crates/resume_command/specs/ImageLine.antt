@@ -12,7 +12,8 @@ use Rattle.command_parts.specs.Told.{Told, Writes, status_told}
 -- a register by its number, behind a blank
 abbrev pub register_named : ℕ → List ℕ
 register_named number =
-    if number == register.HEA then codes " HEA" else if number == register.STK then codes " STK" else codes " CIP"
+    if number == register.HEA then codes " HEA" else if number == register.STK then codes " STK"
+    else codes " CIP"
 
 -- the register that is refused, if it is one
 abbrev pub register_text : ImageFault → List ℕ
@@ -25,11 +26,13 @@ register_text fault.Length = []
 register_text fault.DeadCell = []
 register_text fault.LiveLength = []
 
+-- the fault's number, and the register that has it
 abbrev pub image_line : ImageFault → List ℕ
 image_line f = codes "bad image " ++ (decimal (number_of f) ++ (register_text f ++ codes "\n"))
 
 -- it was written, or a front of it
-pub record TellsImage {S : Type 0} (f : ImageFault) (writes : Writes S) (old new : S) (answer : Status) : Type 0 where
+pub record TellsImage {S : Type 0} (f : ImageFault) (writes : Writes S) (old new : S)
+    (answer : Status) : Type 0 where
   pub told : Told
   pub written : writes old new (image_line f) told
   pub is : answer ≡ status_told status.BadImage told

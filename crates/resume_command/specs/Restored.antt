@@ -31,6 +31,7 @@ pub record HasAll (program : Program) (m : Machine) (position : ℕ) (ready : Re
   pub room : CELLS + 4 * length m.state.cells ≤ ready.buffer.room
   pub served : IsServed program
 
+-- it was made ready, or a native isn't served
 abbrev pub IsReadyFor : Program → Machine → ℕ → Result Ready Stop → Type 0
 IsReadyFor program m position (Ok ready) = HasAll program m position ready
 IsReadyFor program m position (Err stop) = Unserved program stop

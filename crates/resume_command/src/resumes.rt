@@ -3,7 +3,7 @@ ghost use Rattle.host_script.specs.Ranges.{IsScript};
 ghost use Rattle.amx_format.specs.Limits.{IsWithinLimits};
 ghost use Rattle.pawn_outside.specs.Said.{Said};
 ghost use Rattle.amx_machine.specs.Machine.{first};
-ghost use Rattle.command_parts.specs.Calls.{Calls};
+ghost use Rattle.command_parts.specs.Calls.{CommandCalls};
 ghost use Rattle.resume_command.specs.Resumes.{Resumes, ResumesImage, ResumesProgram, ResumesState};
 ghost use Rattle.resume_command.specs.Restored.{IsRestored, IsReadyFor};
 
@@ -32,7 +32,7 @@ pub fn resume<F: Files, S: Sink>(
 ) -> Status
     ensures answer { Resumes (Said S.taken S.faults S.has_room) words.entry (F.held files.old)
         (F.held files.new) out.old out.new result }
-    ensures calls { Calls F.faults F.never_fails files.old files.new (result ≡ Status.FileFault) }
+    ensures calls { CommandCalls F.faults F.never_fails files.old files.new result }
 {
     match read_program(alloc, words.amx.as_str(), words.script.as_str(), files) {
         Ok(program) => resume_program(alloc, &program, words, files, out),
@@ -52,7 +52,7 @@ fn resume_program<F: Files, S: Sink>(
     requires script { IsScript program.now.script }
     ensures answer { ResumesProgram (Said S.taken S.faults S.has_room) program.now words.entry
         (F.held files.old) (F.held files.new) out.old out.new result }
-    ensures calls { Calls F.faults F.never_fails files.old files.new (result ≡ Status.FileFault) }
+    ensures calls { CommandCalls F.faults F.never_fails files.old files.new result }
 {
     match read_bytes(alloc, words.image.as_str(), IMAGE_LIMIT, files) {
         Ok(image) => resume_image(alloc, image.as_slice(), program, words, files, out),
@@ -73,7 +73,7 @@ fn resume_image<F: Files, S: Sink>(
     requires script { IsScript program.now.script }
     ensures answer { ResumesImage (Said S.taken S.faults S.has_room) program.now words.entry
         image.now (F.held files.old) (F.held files.new) out.old out.new result }
-    ensures calls { Calls F.faults F.never_fails files.old files.new (result ≡ Status.FileFault) }
+    ensures calls { CommandCalls F.faults F.never_fails files.old files.new result }
 {
     match Machine::load(alloc, &program.file) {
         Ok(machine) => restore(alloc, machine, image, program, words, files, out),
@@ -96,7 +96,7 @@ fn restore<F: Files, S: Sink>(
     requires loaded { machine ≡ first program.now.file }
     ensures answer { ResumesImage (Said S.taken S.faults S.has_room) program.now words.entry
         image.now (F.held files.old) (F.held files.new) out.old out.new result }
-    ensures calls { Calls F.faults F.never_fails files.old files.new (result ≡ Status.FileFault) }
+    ensures calls { CommandCalls F.faults F.never_fails files.old files.new result }
 {
     let mut machine = machine;
     match restore_into(&mut machine, &program.file, &program.digest, image) {
@@ -120,7 +120,7 @@ fn go_on<F: Files, S: Sink>(
     requires restored { IsRestored program.now.file machine }
     ensures answer { ResumesState (Said S.taken S.faults S.has_room) program.now words.entry
         machine.entry.state at (F.held files.old) (F.held files.new) out.old out.new result }
-    ensures calls { Calls F.faults F.never_fails files.old files.new (result ≡ Status.FileFault) }
+    ensures calls { CommandCalls F.faults F.never_fails files.old files.new result }
 {
     let _ = runnable(&program.file);
     match prepare(alloc, machine, at, program) {

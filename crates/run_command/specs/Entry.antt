@@ -1,5 +1,6 @@
 -- Where a run begins: at main for its own name, else at the first public with the name.
-use Rattle.std.specs.Prelude.{◌≡◌, ℕ, ℤ, List, Option, None, Some, bytes_eq, option_map, option_and_then, if◌then◌else◌}
+use Rattle.std.specs.Prelude.{◌≡◌, ℕ, ℤ, List, Option, None, Some, bytes_eq, option_map}
+use Rattle.std.specs.Prelude.{option_and_then, if◌then◌else◌}
 use Rattle.std.specs.List.{position_from}
 use Rattle.amx_ops.specs.declared.amx.Amx.{Amx}
 use Rattle.amx_ops.specs.declared.amx.Record.{Record}
@@ -11,6 +12,7 @@ use Rattle.pawn_words.specs.declared.options.TheConstants.{MAIN}
 abbrev pub public_named : List Record → List ℕ → Option ℕ
 public_named publics name = position_from (λ (it : Record). bytes_eq it.name name) 0 publics
 
+-- a public whose name is main's is never meant
 abbrev pub entry_named : Amx → List ℕ → Option Entry
 entry_named amx name =
     if bytes_eq name MAIN then Some Main

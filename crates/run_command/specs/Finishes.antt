@@ -33,25 +33,32 @@ status_of_end (end.Exit value tag) = status.Ok
 status_of_end (end.Error code) = status.Ended
 status_of_end end.Stray = status.Ended
 
+-- by why the trace stopped
 abbrev pub status_of_stop : Stop End → Status
 status_of_stop Steps = status.Steps
 status_of_stop Asleep = status.Asleep
 status_of_stop (Over_by e) = status_of_end e
 
 -- an image is put under a name, or it isn't and a line tells why
-pub data Keeps {S : Type 0} (writes : Writes S) (held after : Option Held) (image bytes : List ℕ) (old new : S) : Status → Type 0 where
-  kept : after ≡ with_put held image bytes → new ≡ old → Keeps writes held after image bytes old new status.Asleep
-  unkept : (cause : Cause) (answer : Status) → NotPut held after image cause → TellsStop cause writes old new answer
+pub data Keeps {S : Type 0} (writes : Writes S) (held after : Option Held) (image bytes : List ℕ)
+    (old new : S) : Status → Type 0 where
+  kept : after ≡ with_put held image bytes → new ≡ old
+      → Keeps writes held after image bytes old new status.Asleep
+  unkept : (cause : Cause) (answer : Status) → NotPut held after image cause
+      → TellsStop cause writes old new answer
       → Keeps writes held after image bytes old new answer
 
--- the sink fails in the text, and no file is put; or the text is written, and only at a sleep is the image
--- put behind it
-pub data Finishes {S : Type 0} (writes : Writes S) (held after : Option Held) (image digest : List ℕ) (stop : Stop End) (c : Config)
+-- the sink fails in the text, and no file is put; or the text is written, and only at a sleep is
+-- the image put behind it
+pub data Finishes {S : Type 0} (writes : Writes S) (held after : Option Held)
+    (image digest : List ℕ) (stop : Stop End) (c : Config)
     (old new : S) : Status → Type 0 where
   cut_off : (fault : SinkFault) → writes old new (run_text c stop) (Err fault) → after ≡ held
       → Finishes writes held after image digest stop c old new status.SinkFault
   ended : stop ≢ Asleep → writes old new (run_text c stop) (Ok tt) → after ≡ held
       → Finishes writes held after image digest stop c old new (status_of_stop stop)
-  asleep : (mid : S) (bytes : List ℕ) (answer : Status) → stop ≡ Asleep → writes old mid (run_text c stop) (Ok tt)
-      → IsImage Live c.state c.position digest bytes → Keeps writes held after image bytes mid new answer
+  asleep : (mid : S) (bytes : List ℕ) (answer : Status) → stop ≡ Asleep
+      → writes old mid (run_text c stop) (Ok tt)
+      → IsImage Live c.state c.position digest bytes
+      → Keeps writes held after image bytes mid new answer
       → Finishes writes held after image digest stop c old new answer

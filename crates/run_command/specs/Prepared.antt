@@ -1,5 +1,6 @@
 -- A machine of a program before its start, with its natives bound, and what keeps a run from it.
-use Rattle.std.specs.Prelude.{◌≡◌, ◌+◌, ◌*◌, ◌≤◌, ℕ, ℤ, List, Option, None, Some, Result, Ok, Err, length}
+use Rattle.std.specs.Prelude.{◌≡◌, ◌+◌, ◌*◌, ◌≤◌, ℕ, ℤ, List, Option, None, Some, Result, Ok, Err}
+use Rattle.std.specs.Prelude.{length}
 use Rattle.amx_ops.specs.declared.amx.Amx.{Amx}
 use Rattle.amx_ops.specs.Keeps.{IsRunnable}
 use Rattle.amx_ops.specs.Moves.{name_of}
@@ -25,14 +26,17 @@ pub data Unserved (program : Program) : Stop → Type 0 where
       → Unserved program (Unregistered (name_of program.file.natives number))
   no_memory : Unserved program NoMemory
 
+-- the natives were bound, or one isn't served
 abbrev pub IsBound : Program → Result (List BoundNative) Stop → Type 0
-IsBound program (Ok bound) = IsServed program × (bound ≡ bound_of program.script program.file.natives)
+IsBound program (Ok bound) =
+    IsServed program × (bound ≡ bound_of program.script program.file.natives)
 IsBound program (Err stop) = Unserved program stop
 
 -- the entry is looked up before the natives
 pub data NoStart (program : Program) (entry : List ℕ) : Stop → Type 0 where
   no_entry : address_named program.file entry ≡ None → NoStart program entry (NoEntry entry)
-  no_native : (address : ℤ) (stop : Stop) → address_named program.file entry ≡ Some address → Unserved program stop
+  no_native : (address : ℤ) (stop : Stop) → address_named program.file entry ≡ Some address
+      → Unserved program stop
       → NoStart program entry stop
   wants_memory : NoStart program entry NoMemory
 
@@ -49,6 +53,7 @@ pub record IsPrepared (program : Program) (ready : Ready) : Type 0 where
   pub room : CELLS + 4 * length ready.machine.state.cells ≤ ready.buffer.room
   pub served : IsServed program
 
+-- it was made ready, or a native isn't served
 abbrev pub IsPreparedFor : Program → Result Ready Stop → Type 0
 IsPreparedFor program (Ok ready) = IsPrepared program ready
 IsPreparedFor program (Err stop) = Unserved program stop

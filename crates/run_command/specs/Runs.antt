@@ -17,26 +17,32 @@ use Rattle.command_parts.specs.Told.{Writes, TellsStop}
 
 -- of a file in its own room, under a script, from an address on, with one bound
 abbrev pub trace_of : Program → ℤ → ℕ → Traced Config End
-trace_of program address steps = trace_from program.file program.file.room program.script address steps []
+trace_of program address steps =
+    trace_from program.file program.file.room program.script address steps []
 
 -- ---- a program
 
 -- it is stopped before its first step: no file is put
-pub record IsStopped {S : Type 0} (writes : Writes S) (cause : Stop → Type 0) (held after : Option Held) (old new : S) (answer : Status) : Type 0 where
+pub record IsStopped {S : Type 0} (writes : Writes S) (cause : Stop → Type 0)
+    (held after : Option Held) (old new : S) (answer : Status) : Type 0 where
   pub stop : Stop
   pub comes : cause stop
   pub kept : after ≡ held
   pub tells : TellsStop stop writes old new answer
 
 -- the entry is there and the natives are served, and it ends as its trace does
-pub record RunsFile {S : Type 0} (writes : Writes S) (program : Program) (words : RunWords) (held after : Option Held) (old new : S) (answer : Status) : Type 0 where
+pub record RunsFile {S : Type 0} (writes : Writes S) (program : Program) (words : RunWords)
+    (held after : Option Held) (old new : S) (answer : Status) : Type 0 where
   pub address : ℤ
   pub entry : address_named program.file words.entry.now ≡ Some address
   pub served : IsServed program
   pub finishes : let trace = trace_of program address words.steps in
-      Finishes writes held after words.image.now program.digest trace.stop trace.config old new answer
+      Finishes writes held after words.image.now program.digest trace.stop trace.config old
+      new answer
 
-abbrev pub RunsProgram : {S : Type 0} → Writes S → Program → RunWords → Option Held → Option Held → S → S → Status → Type 0
+-- it runs, or something keeps it from its start
+abbrev pub RunsProgram : {S : Type 0} → Writes S → Program → RunWords → Option Held → Option Held
+    → S → S → Status → Type 0
 RunsProgram writes program words held after old new answer =
     IsStopped writes (NoStart program words.entry.now) held after old new answer
     ⊎ RunsFile writes program words held after old new answer
@@ -44,12 +50,15 @@ RunsProgram writes program words held after old new answer =
 -- ---- the whole command
 
 -- its files are good, and it runs what they are
-pub record RunsGood {S : Type 0} (writes : Writes S) (words : RunWords) (held after : Option Held) (old new : S) (answer : Status) : Type 0 where
+pub record RunsGood {S : Type 0} (writes : Writes S) (words : RunWords) (held after : Option Held)
+    (old new : S) (answer : Status) : Type 0 where
   pub program : Program
   pub good : IsProgram held words.amx.now words.script.now program
   pub runs : RunsProgram writes program words held after old new answer
 
-abbrev pub Runs : {S : Type 0} → Writes S → RunWords → Option Held → Option Held → S → S → Status → Type 0
+-- nothing is put where the file or the script isn't good
+abbrev pub Runs : {S : Type 0} → Writes S → RunWords → Option Held → Option Held → S → S → Status
+    → Type 0
 Runs writes words held after old new answer =
     IsStopped writes (NoProgram held words.amx.now words.script.now) held after old new answer
     ⊎ RunsGood writes words held after old new answer

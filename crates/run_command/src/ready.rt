@@ -1,7 +1,6 @@
-ghost use Rattle.std.specs.Prelude.{◌≡◌};
 ghost use Rattle.pawn_outside.specs.Said.{Said};
 ghost use Rattle.host_run.specs.Segments.{Place, segment_of};
-ghost use Rattle.command_parts.specs.Calls.{Calls};
+ghost use Rattle.command_parts.specs.Calls.{CommandCalls};
 ghost use Rattle.run_command.specs.Finishes.{Finishes, Keeps};
 ghost use Rattle.run_command.specs.Ready.{IsReady, place_of};
 
@@ -37,7 +36,7 @@ pub fn run_on<F: Files, S: Sink>(
     ensures answer { let made = segment_of program.now.script (place_of ready.entry) steps in
         Finishes (Said S.taken S.faults S.has_room) (F.held files.old) (F.held files.new)
         image.now program.now.digest made.stop made.config out.old out.new result }
-    ensures calls { Calls F.faults F.never_fails files.old files.new (result ≡ Status.FileFault) }
+    ensures calls { CommandCalls F.faults F.never_fails files.old files.new result }
 {
     let Ready {
         mut machine,
@@ -63,7 +62,7 @@ pub fn run_on<F: Files, S: Sink>(
 fn keep<F: Files, S: Sink>(image: &str, bytes: &[u8], files: &mut F, out: &mut S) -> Status
     ensures answer { Keeps (Said S.taken S.faults S.has_room) (F.held files.old) (F.held files.new)
         image.now bytes.now out.old out.new result }
-    ensures calls { Calls F.faults F.never_fails files.old files.new (result ≡ Status.FileFault) }
+    ensures calls { CommandCalls F.faults F.never_fails files.old files.new result }
 {
     match put(image, bytes, files) {
         Ok(()) => Status::Asleep,

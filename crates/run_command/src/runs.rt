@@ -3,7 +3,7 @@ ghost use Rattle.host_script.specs.Ranges.{IsScript};
 ghost use Rattle.amx_format.specs.Limits.{IsWithinLimits};
 ghost use Rattle.pawn_outside.specs.Said.{Said};
 ghost use Rattle.pawn_files.specs.Unread.{IsStopOf};
-ghost use Rattle.command_parts.specs.Calls.{Calls};
+ghost use Rattle.command_parts.specs.Calls.{CommandCalls};
 ghost use Rattle.run_command.specs.Entry.{IsEntryOf};
 ghost use Rattle.run_command.specs.Prepared.{CanRun, IsPrepared, IsPreparedFor};
 ghost use Rattle.run_command.specs.Runs.{Runs, RunsProgram, RunsFile};
@@ -33,7 +33,7 @@ pub fn run<F: Files, S: Sink>(
 ) -> Status
     ensures answer { Runs (Said S.taken S.faults S.has_room) words.entry (F.held files.old)
         (F.held files.new) out.old out.new result }
-    ensures calls { Calls F.faults F.never_fails files.old files.new (result ≡ Status.FileFault) }
+    ensures calls { CommandCalls F.faults F.never_fails files.old files.new result }
 {
     match read_program(alloc, words.amx.as_str(), words.script.as_str(), files) {
         Ok(program) => run_program(alloc, &program, words, files, out),
@@ -53,7 +53,7 @@ fn run_program<F: Files, S: Sink>(
     requires script { IsScript program.now.script }
     ensures answer { RunsProgram (Said S.taken S.faults S.has_room) program.now words.entry
         (F.held files.old) (F.held files.new) out.old out.new result }
-    ensures calls { Calls F.faults F.never_fails files.old files.new (result ≡ Status.FileFault) }
+    ensures calls { CommandCalls F.faults F.never_fails files.old files.new result }
 {
     match entry_of(runnable(&program.file), words.entry) {
         Some(entry) => run_entry(alloc, entry, program, words, files, out),
@@ -76,7 +76,7 @@ fn run_entry<F: Files, S: Sink>(
     requires there { IsEntryOf program.now.file words.entry.now (Some entry) }
     ensures answer { RunsProgram (Said S.taken S.faults S.has_room) program.now words.entry
         (F.held files.old) (F.held files.new) out.old out.new result }
-    ensures calls { Calls F.faults F.never_fails files.old files.new (result ≡ Status.FileFault) }
+    ensures calls { CommandCalls F.faults F.never_fails files.old files.new result }
 {
     match prepare(alloc, program) {
         Ok(ready) => start(ready, entry, program, words, files, out),
@@ -127,7 +127,7 @@ fn start<F: Files, S: Sink>(
     requires there { IsEntryOf program.now.file words.entry.now (Some entry) }
     ensures answer { RunsFile (Said S.taken S.faults S.has_room) program.now words.entry
         (F.held files.old) (F.held files.new) out.old out.new result }
-    ensures calls { Calls F.faults F.never_fails files.old files.new (result ≡ Status.FileFault) }
+    ensures calls { CommandCalls F.faults F.never_fails files.old files.new result }
 {
     let mut ready = ready;
     match ready.machine.start(entry, &[]) {

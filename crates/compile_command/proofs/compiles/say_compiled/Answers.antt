@@ -10,5 +10,6 @@ returns-in-Ok g c =
 
 pub returns-in-Err : goal.returns-in-Err
 returns-in-Err g c =
-    said_as (ap (λ w. warning_lines w ++ ok_line (length c.args.compiled.now.bytes)) c.as_slice.ensures)
+    said_as (ap (λ w. warning_lines w ++ ok_line (length c.args.compiled.now.bytes))
+    c.as_slice.ensures)
     (said_cut (ok_line (length c.args.compiled.now.bytes)) _ refl c.in-Err.ensures)

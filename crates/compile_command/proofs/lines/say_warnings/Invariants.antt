@@ -1,9 +1,10 @@
 use Rattle.std.proofs.Common.{drop}
 use Rattle.compile_command.specs.Lines.{warning_lines}
-use Rattle.compile_command.proofs.LineLaws.{SoFar}
+use Rattle.pawn_outside.proofs.SoFarLaws.{SoFar}
 use Rattle.compile_command.proofs.lines.say_warnings.Given as goal
 
 abbrev pub invariant-loop-warning : goal.invariant-loop-warning
 invariant-loop-warning g l =
     let sink = g.S.Sink in
-    SoFar sink.taken sink.faults sink.has_room l.initial.out l.out (warning_lines (drop l.warning-index l.warnings)) (warning_lines l.warnings)
+    SoFar sink.taken sink.faults sink.has_room l.initial.out l.out
+    (warning_lines (drop l.warning-index l.warnings)) (warning_lines l.warnings)

@@ -5,7 +5,8 @@ use Rattle.go_command.proofs.goes.go.Goals as goal
 
 pub returns-in-Ok-clause-answer : goal.returns-in-Ok-clause-answer
 returns-in-Ok-clause-answer g c =
-    goes_good c.args.words _ _ _ c.in-Ok.prepared c.make.result c.in-Ok.ensures.answer c.in-Ok.ensures.ranges c.in-Ok.ensures.calls.same
+    goes_good c.args.words _ _ _ c.in-Ok.prepared c.make.result c.in-Ok.ensures.answer
+    c.in-Ok.ensures.ranges c.in-Ok.ensures.calls.same
     c.make.ensures.answer
 
 pub returns-in-Ok-clause-calls : goal.returns-in-Ok-clause-calls
@@ -13,8 +14,10 @@ returns-in-Ok-clause-calls g c = calls_then (only_calls c.in-Ok.ensures.calls) c
 
 pub returns-in-Err-clause-answer : goal.returns-in-Err-clause-answer
 returns-in-Err-clause-answer g c =
-    goes_nowhere c.args.words _ _ c.in-Err.stop c.tell_stop.result c.in-Err.ensures.answer c.in-Err.ensures.calls.same c.tell_stop.ensures
+    goes_nowhere c.args.words _ _ c.in-Err.stop c.tell_stop.result c.in-Err.ensures.answer
+    c.in-Err.ensures.calls.same c.tell_stop.ensures
 
 pub returns-in-Err-clause-calls : goal.returns-in-Err-clause-calls
 returns-in-Err-clause-calls g c =
-    calls_stopped c.in-Err.stop c.tell_stop.result (only_calls c.in-Err.ensures.calls) refl c.tell_stop.ensures
+    calls_stopped c.in-Err.stop c.tell_stop.result
+    (only_calls c.in-Err.ensures.calls) refl c.tell_stop.ensures

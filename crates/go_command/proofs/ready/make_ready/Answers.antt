@@ -6,7 +6,8 @@ use Rattle.go_command.proofs.ready.make_ready.Goals as goal
 pub returns-in-None : goal.returns-in-None
 returns-in-None c =
     let fits : FitsSigned w32 c.amx.result.now.entry = search rules in
-    main_missing c.args.file.now c.args.script.now c.amx.result.now c.no_main.result c.amx.ensures.value
+    main_missing c.args.file.now c.args.script.now c.amx.result.now c.no_main.result
+    c.amx.ensures.value
     (rw (to_z-of_z w32 c.amx.result.now.entry fits) at c.in-None.ensures) c.no_main.ensures
 
 pub returns-in-Some : goal.returns-in-Some

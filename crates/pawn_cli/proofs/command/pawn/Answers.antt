@@ -8,9 +8,11 @@ returns-in-Ok-clause-answer g c = rw c.in-Ok.ensures (inr c.serve.ensures.answer
 
 pub returns-in-Err-clause-answer : goal.returns-in-Err-clause-answer
 returns-in-Err-clause-answer g c =
-    answers_unread _ c.in-Err.fault c.stop_of.result c.tell_stop.result c.in-Err.ensures c.stop_of.ensures c.tell_stop.ensures
+    answers_unread _ c.in-Err.fault c.stop_of.result c.tell_stop.result c.in-Err.ensures
+    c.stop_of.ensures c.tell_stop.ensures
 
 pub returns-in-Err-clause-calls : goal.returns-in-Err-clause-calls
 returns-in-Err-clause-calls g c =
     calls_nothing c.args.files.now
-    (stop_no_fault c.stop_of.result c.tell_stop.result (words_no_fault c.in-Err.fault c.stop_of.result c.stop_of.ensures) c.tell_stop.ensures)
+    (stop_no_fault c.stop_of.result c.tell_stop.result
+    (words_no_fault c.in-Err.fault c.stop_of.result c.stop_of.ensures) c.tell_stop.ensures)

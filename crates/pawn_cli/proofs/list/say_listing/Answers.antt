@@ -6,7 +6,7 @@ pub returns-in-Taken : goal.returns-in-Taken
 returns-in-Taken g c = record {
   whole = c.in-Taken.ensures.answer;
   front = all_written _ _ _ c.in-Taken.ensures.answer;
-  later = c.in-Taken.ensures.later;
+  steady = c.in-Taken.ensures.steady refl;
   cause = tt;
   unfailing = λ rest room. ((c.in-Taken.ensures.unfailing rest room).0, refl);
 }
@@ -15,7 +15,7 @@ pub returns-in-Failed : goal.returns-in-Failed
 returns-in-Failed g c = record {
   whole = tt;
   front = c.in-Failed.ensures.answer;
-  later = c.in-Failed.ensures.later;
+  steady = tt;
   cause = c.in-Failed.ensures.cause refl;
   unfailing = λ rest room. absurd (cc ((c.in-Failed.ensures.unfailing rest room).1));
 }

@@ -9,7 +9,8 @@ pub returns-in-Some : goal.returns-in-Some
 returns-in-Some c =
     let fits : FitsSigned w64 c.place_of.result = search rules in
     ap (λ z. InvalidAt c.in-Some.kind z) (to_z-of_z w64 c.place_of.result fits)
-    ∙ ap (λ n. invalid_by n c.place_of.result) c.in-Some.ensures ∙ ap (invalid_by (number_of c.args.fault)) c.place_of.ensures
+    ∙ ap (λ n. invalid_by n c.place_of.result) c.in-Some.ensures
+    ∙ ap (invalid_by (number_of c.args.fault)) c.place_of.ensures
 
 pub returns-in-None : goal.returns-in-None
 returns-in-None c = ap (λ n. invalid_by n (place_of c.args.fault)) c.in-None.ensures

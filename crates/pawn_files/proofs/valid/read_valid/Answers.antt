@@ -7,7 +7,7 @@ use Rattle.pawn_files.proofs.valid.read_valid.Goals as goal
 pub returns-in_err-bytes-clause-calls : goal.returns-in_err-bytes-clause-calls
 returns-in_err-bytes-clause-calls g c =
     let p = err_from_is_err_and c.from_residual.result c.from_residual.ensures.1 in
-    only_as (λ e. ap Err (cc (p.1, p.2, e))) c.in_err-bytes.ensures.calls
+    only_as (λ e. ap Err (cc (p.1, p.2, e))) (λ e. cc (p.1, p.2, e)) c.in_err-bytes.ensures.calls
 
 pub returns-in_err-bytes-clause-answer : goal.returns-in_err-bytes-clause-answer
 returns-in_err-bytes-clause-answer g c =
@@ -16,9 +16,11 @@ returns-in_err-bytes-clause-answer g c =
 
 pub returns-clause-calls : goal.returns-clause-calls
 returns-clause-calls g c =
-    only_other (file_no_fault c.as_slice.result.now c.valid_file.result c.valid_file.ensures) c.in_ok-bytes.ensures.calls
+    only_other (file_no_fault c.as_slice.result.now c.valid_file.result c.valid_file.ensures)
+    c.in_ok-bytes.ensures.calls
 
 pub returns-clause-answer : goal.returns-clause-answer
 returns-clause-answer g c =
-    named_by _ c.args.name.now c.in_ok-bytes.bytes c.as_slice.result.now c.valid_file.result c.in_ok-bytes.ensures.answer c.as_slice.ensures
+    named_by _ c.args.name.now c.in_ok-bytes.bytes c.as_slice.result.now c.valid_file.result
+    c.in_ok-bytes.ensures.answer c.as_slice.ensures
     c.valid_file.ensures

@@ -6,5 +6,6 @@ use Rattle.pawn_front.proofs.checking.checked.Goals as goal
 pub returns-in-Ok : goal.returns-in-Ok
 returns-in-Ok c =
     let fits : FitsSigned w32 c.args.lines.now.dynamic = search rules in
-    checks_behind c.args.lines.now c.in-Ok.tokens.list c.checked_tokens.result c.in-Ok.ensures.answer
+    checks_behind c.args.lines.now c.in-Ok.tokens.list c.checked_tokens.result
+    c.in-Ok.ensures.answer
     (rw (to_z-of_z w32 c.args.lines.now.dynamic fits) at c.checked_tokens.ensures)

@@ -7,7 +7,8 @@ use Rattle.pawn_front.specs.Good.{AreBytes}
 use Rattle.pawn_front.proofs.good.are_byte_lines.Goals as goal
 
 -- what holds of those before and of this one holds of those before the next
-more : (lines : List Line) (i : ℕ) (it : Line) → i < length lines → it ≡ get_or lines i it → AreBytes it.bytes
+more : (lines : List Line) (i : ℕ) (it : Line) → i < length lines → it ≡ get_or lines i it
+    → AreBytes it.bytes
     → ((k : ℕ) (d : Line) → k < i → AreBytes (get_or lines k d).bytes)
     → (k : ℕ) (d : Line) → k < i + 1 → AreBytes (get_or lines k d).bytes
 more lines i it there is bytes before k d h = elim (cases_lt k i) [

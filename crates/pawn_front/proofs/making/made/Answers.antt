@@ -3,4 +3,5 @@ use Rattle.pawn_front.proofs.making.made.Goals as goal
 
 pub write-requires : goal.write-requires
 write-requires c =
-    writable_sorted c.in-Ok.amx (c.in-Ok.ensures.agrees c.requires.valid c.requires.limits c.requires.names).shape.writable
+    writable_sorted c.in-Ok.amx (c.in-Ok.ensures.agrees c.requires.valid c.requires.limits
+    c.requires.names).shape.writable

@@ -4,5 +4,7 @@ use Rattle.pawn_front.proofs.source.fault_in.Goals as goal
 
 pub returns-in-Source : goal.returns-in-Source
 returns-in-Source c =
-    let breaks : Breaks c.args.lines.now c.in-Source.kind c.in-Source.place = rw c.in-Source.is at c.requires in
-    refuses_lines c.args.lines.now c.in-Source.kind c.in-Source.place c.refused.result breaks c.refused.ensures
+    let breaks : Breaks c.args.lines.now c.in-Source.kind c.in-Source.place =
+    rw c.in-Source.is at c.requires in
+    refuses_lines c.args.lines.now c.in-Source.kind c.in-Source.place c.refused.result breaks
+    c.refused.ensures

@@ -3,7 +3,9 @@ use Rattle.pawn_words.proofs.WordLaws.{alone_is, alone_no}
 use Rattle.pawn_words.proofs.words.alone.Goals as goal
 
 pub returns-then-is_empty : goal.returns-then-is_empty
-returns-then-is_empty c = alone_is string_bytes c.args.command c.args.words.now c.if-is_empty.ensures
+returns-then-is_empty c =
+    alone_is string_bytes c.args.command c.args.words.now c.if-is_empty.ensures
 
 pub returns-else-is_empty : goal.returns-else-is_empty
-returns-else-is_empty c = alone_no string_bytes c.args.command c.args.words.now c.if-is_empty.ensures
+returns-else-is_empty c =
+    alone_no string_bytes c.args.command c.args.words.now c.if-is_empty.ensures

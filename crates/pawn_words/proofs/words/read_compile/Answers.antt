@@ -10,11 +10,15 @@ returns-in_err-src c =
 
 pub returns-in_err-amx : goal.returns-in_err-amx
 returns-in_err-amx c =
-    let p = err_from_is_err_and c.from_residual-in_err-amx.result c.from_residual-in_err-amx.ensures.1 in
+    let p =
+    err_from_is_err_and c.from_residual-in_err-amx.result
+    c.from_residual-in_err-amx.ensures.1 in
     rw (c.in_ok-src.ensures.plain, p.1, p.2) (none_then _ _ _ c.in_err-amx.ensures.bad)
 
 pub returns-in-Some : goal.returns-in-Some
-returns-in-Some c = rw (c.in_ok-src.ensures.plain, c.in_ok-amx.ensures.plain, ← c.in-Some.ensures) refl
+returns-in-Some c =
+    rw (c.in_ok-src.ensures.plain, c.in_ok-amx.ensures.plain, ← c.in-Some.ensures) refl
 
 pub returns-in-None : goal.returns-in-None
-returns-in-None c = rw (c.in_ok-src.ensures.plain, c.in_ok-amx.ensures.plain, ← c.in-None.ensures) refl
+returns-in-None c =
+    rw (c.in_ok-src.ensures.plain, c.in_ok-amx.ensures.plain, ← c.in-None.ensures) refl

@@ -11,7 +11,9 @@ returns-in_err-bound c =
 
 pub returns-in_err-buffer : goal.returns-in_err-buffer
 returns-in_err-buffer c =
-    let p = err_from_is_err_and c.from_residual-in_err-buffer.result c.from_residual-in_err-buffer.ensures.1 in
+    let p =
+    err_from_is_err_and c.from_residual-in_err-buffer.result
+    c.from_residual-in_err-buffer.ensures.1 in
     rw (p.1, p.2) no_memory
 
 pub returns : goal.returns

@@ -5,8 +5,10 @@ use Rattle.resume_command.specs.Resumes.{wants_memory}
 use Rattle.resume_command.proofs.resumes.resume_image.Goals as goal
 
 pub returns-in-Err-clause-answer : goal.returns-in-Err-clause-answer
-returns-in-Err-clause-answer g c = inl (record { stop = NoMemory; comes = wants_memory; kept = refl; tells = c.tell_stop.ensures })
+returns-in-Err-clause-answer g c =
+    inl (record { stop = NoMemory; comes = wants_memory; kept = refl; tells = c.tell_stop.ensures })
 
 pub returns-in-Err-clause-calls : goal.returns-in-Err-clause-calls
 returns-in-Err-clause-calls g c =
-    calls_nothing c.args.files.now (stop_no_fault NoMemory c.tell_stop.result (λ f. absurd (cc f)) c.tell_stop.ensures)
+    calls_nothing c.args.files.now
+    (stop_no_fault NoMemory c.tell_stop.result (λ f. absurd (cc f)) c.tell_stop.ensures)

@@ -10,7 +10,9 @@ pub returns-in-Ok-clause-calls : goal.returns-in-Ok-clause-calls
 returns-in-Ok-clause-calls g c = calls_other (λ e. absurd (cc e)) c.in-Ok.ensures.calls
 
 pub returns-in-Err-clause-answer : goal.returns-in-Err-clause-answer
-returns-in-Err-clause-answer g c = unkept c.in-Err.stop c.tell_stop.result c.in-Err.ensures.answer c.tell_stop.ensures
+returns-in-Err-clause-answer g c =
+    unkept c.in-Err.stop c.tell_stop.result c.in-Err.ensures.answer c.tell_stop.ensures
 
 pub returns-in-Err-clause-calls : goal.returns-in-Err-clause-calls
-returns-in-Err-clause-calls g c = calls_stopped c.in-Err.stop c.tell_stop.result c.in-Err.ensures.calls refl c.tell_stop.ensures
+returns-in-Err-clause-calls g c =
+    calls_stopped c.in-Err.stop c.tell_stop.result c.in-Err.ensures.calls refl c.tell_stop.ensures

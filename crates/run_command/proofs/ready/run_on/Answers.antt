@@ -15,8 +15,10 @@ returns-in-Done-clause-answer g c =
     let held = g.F.Files.held c.args.files.now in
     let made = segment_of c.args.program.now.script (place_of c.args.ready) c.args.steps in
     let is = rw c.in-Done.is at c.session-end.ensures.answer in
-    over g.S.Sink.taken g.S.Sink.faults g.S.Sink.has_room held held c.args.image.now c.args.program.now.digest made
-    (end.Done c.in-Done.field-0) status.Ok is.answer refl (rw c.in-Done.is at c.session-end.ensures.text) refl
+    over g.S.Sink.taken g.S.Sink.faults g.S.Sink.has_room held held c.args.image.now
+    c.args.program.now.digest made
+    (end.Done c.in-Done.field-0) status.Ok is.answer refl
+    (rw c.in-Done.is at c.session-end.ensures.text) refl
 
 pub returns-in-Done-clause-calls : goal.returns-in-Done-clause-calls
 returns-in-Done-clause-calls g c = calls_nothing c.args.files.now (λ e. absurd (cc e))
@@ -26,8 +28,10 @@ returns-in-Exit-clause-answer g c =
     let held = g.F.Files.held c.args.files.now in
     let made = segment_of c.args.program.now.script (place_of c.args.ready) c.args.steps in
     let is = rw c.in-Exit.is at c.session-end.ensures.answer in
-    over g.S.Sink.taken g.S.Sink.faults g.S.Sink.has_room held held c.args.image.now c.args.program.now.digest made
-    (end.Exit c.in-Exit.value c.in-Exit.tag) status.Ok is.answer refl (rw c.in-Exit.is at c.session-end.ensures.text) refl
+    over g.S.Sink.taken g.S.Sink.faults g.S.Sink.has_room held held c.args.image.now
+    c.args.program.now.digest made
+    (end.Exit c.in-Exit.value c.in-Exit.tag) status.Ok is.answer refl
+    (rw c.in-Exit.is at c.session-end.ensures.text) refl
 
 pub returns-in-Exit-clause-calls : goal.returns-in-Exit-clause-calls
 returns-in-Exit-clause-calls g c = calls_nothing c.args.files.now (λ e. absurd (cc e))
@@ -37,8 +41,10 @@ returns-in-Error-clause-answer g c =
     let held = g.F.Files.held c.args.files.now in
     let made = segment_of c.args.program.now.script (place_of c.args.ready) c.args.steps in
     let is = rw c.in-Error.is at c.session-end.ensures.answer in
-    over g.S.Sink.taken g.S.Sink.faults g.S.Sink.has_room held held c.args.image.now c.args.program.now.digest made
-    (end.Error c.in-Error.field-0) status.Ended is.answer refl (rw c.in-Error.is at c.session-end.ensures.text) refl
+    over g.S.Sink.taken g.S.Sink.faults g.S.Sink.has_room held held c.args.image.now
+    c.args.program.now.digest made
+    (end.Error c.in-Error.field-0) status.Ended is.answer refl
+    (rw c.in-Error.is at c.session-end.ensures.text) refl
 
 pub returns-in-Error-clause-calls : goal.returns-in-Error-clause-calls
 returns-in-Error-clause-calls g c = calls_nothing c.args.files.now (λ e. absurd (cc e))
@@ -48,18 +54,22 @@ returns-in-Steps-clause-answer g c =
     let held = g.F.Files.held c.args.files.now in
     let made = segment_of c.args.program.now.script (place_of c.args.ready) c.args.steps in
     let is = rw c.in-Steps.is at c.session-end.ensures.answer in
-    steps g.S.Sink.taken g.S.Sink.faults g.S.Sink.has_room held held c.args.image.now c.args.program.now.digest made
-    c.say.result c.told.result is.answer c.told.ensures (rw c.in-Steps.is at c.session-end.ensures.text) c.say.ensures refl
+    steps g.S.Sink.taken g.S.Sink.faults g.S.Sink.has_room held held c.args.image.now
+    c.args.program.now.digest made
+    c.say.result c.told.result is.answer c.told.ensures
+    (rw c.in-Steps.is at c.session-end.ensures.text) c.say.ensures refl
 
 pub returns-in-Steps-clause-calls : goal.returns-in-Steps-clause-calls
 returns-in-Steps-clause-calls g c =
-    calls_nothing c.args.files.now (λ e. told_other status.Steps c.say.result (λ f. absurd (cc f)) (sym c.told.ensures ∙ e))
+    calls_nothing c.args.files.now
+    (λ e. told_other status.Steps c.say.result (λ f. absurd (cc f)) (sym c.told.ensures ∙ e))
 
 pub returns-in-SinkFault-clause-answer : goal.returns-in-SinkFault-clause-answer
 returns-in-SinkFault-clause-answer g c =
     let held = g.F.Files.held c.args.files.now in
     let made = segment_of c.args.program.now.script (place_of c.args.ready) c.args.steps in
-    cut g.S.Sink.taken g.S.Sink.faults g.S.Sink.has_room held held c.args.image.now c.args.program.now.digest made
+    cut g.S.Sink.taken g.S.Sink.faults g.S.Sink.has_room held held c.args.image.now
+    c.args.program.now.digest made
     (record {}) (rw c.in-SinkFault.is at c.session-end.ensures.text) refl
 
 pub returns-in-SinkFault-clause-calls : goal.returns-in-SinkFault-clause-calls
@@ -67,28 +77,37 @@ returns-in-SinkFault-clause-calls g c = calls_nothing c.args.files.now (λ e. ab
 
 pub save_into-requires-clause-asleep : goal.save_into-requires-clause-asleep
 save_into-requires-clause-asleep g c =
-    let new : Place = record { machine = c.session-end.new.machine; position = c.session-end.new.at } in
+    let new : Place =
+    record { machine = c.session-end.new.machine; position = c.session-end.new.at } in
     let is = rw c.in-Asleep.is at c.session-end.ensures.answer in
-    mode_is c.args.program.now.script (place_of c.args.ready) new c.args.steps c.session-end.result.0 is.stands is.answer.0
+    mode_is c.args.program.now.script
+    (place_of c.args.ready) new c.args.steps c.session-end.result.0 is.stands is.answer.0
 
 pub save_into-requires-clause-room : goal.save_into-requires-clause-room
 save_into-requires-clause-room g c =
-    let new : Place = record { machine = c.session-end.new.machine; position = c.session-end.new.at } in
+    let new : Place =
+    record { machine = c.session-end.new.machine; position = c.session-end.new.at } in
     let is = rw c.in-Asleep.is at c.session-end.ensures.answer in
-    has_room c.args.program.now.script (place_of c.args.ready) new c.args.steps c.session-end.result.0 is.stands is.answer.0 72
+    has_room c.args.program.now.script
+    (place_of c.args.ready) new c.args.steps c.session-end.result.0 is.stands is.answer.0 72
     c.args.ready.buffer.room c.requires.runnable c.requires.script c.requires.state c.requires.room
 
 pub returns-clause-answer : goal.returns-clause-answer
 returns-clause-answer g c =
     let made = segment_of c.args.program.now.script (place_of c.args.ready) c.args.steps in
-    let new : Place = record { machine = c.session-end.new.machine; position = c.session-end.new.at } in
+    let new : Place =
+    record { machine = c.session-end.new.machine; position = c.session-end.new.at } in
     let is = rw c.in-Asleep.is at c.session-end.ensures.answer in
-    let P : List ℕ → Type 0 = λ bytes. IsImage Live new.machine.state new.position c.args.program.now.digest bytes in
-    sleeps g.S.Sink.taken g.S.Sink.faults g.S.Sink.has_room (g.F.Files.held c.args.files.now) (g.F.Files.held c.keep.new.files)
+    let P : List ℕ → Type 0 =
+    λ bytes. IsImage Live new.machine.state new.position c.args.program.now.digest bytes in
+    sleeps g.S.Sink.taken g.S.Sink.faults g.S.Sink.has_room (g.F.Files.held c.args.files.now)
+    (g.F.Files.held c.keep.new.files)
     c.args.image.now c.args.program.now.digest made c.bytes.result.now c.keep.result is.answer.0
     (rw c.in-Asleep.is at c.session-end.ensures.text)
-    (image_is c.args.program.now.script (place_of c.args.ready) new c.args.steps c.session-end.result.0 is.stands is.answer.0
-    c.args.program.now.digest c.bytes.result.now (subst P (sym c.bytes.ensures) c.save_into.ensures.image))
+    (image_is c.args.program.now.script
+    (place_of c.args.ready) new c.args.steps c.session-end.result.0 is.stands is.answer.0
+    c.args.program.now.digest c.bytes.result.now
+    (subst P (sym c.bytes.ensures) c.save_into.ensures.image))
     c.keep.ensures.answer
 
 pub returns-clause-calls : goal.returns-clause-calls

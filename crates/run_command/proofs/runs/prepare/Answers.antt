@@ -11,12 +11,16 @@ returns-in_err-bound c =
 
 pub returns-in_err-machine : goal.returns-in_err-machine
 returns-in_err-machine c =
-    let p = err_from_is_err_and c.from_residual-in_err-machine.result c.from_residual-in_err-machine.ensures.1 in
+    let p =
+    err_from_is_err_and c.from_residual-in_err-machine.result
+    c.from_residual-in_err-machine.ensures.1 in
     rw (p.1, p.2) no_memory
 
 pub returns-in_err-buffer : goal.returns-in_err-buffer
 returns-in_err-buffer c =
-    let p = err_from_is_err_and c.from_residual-in_err-buffer.result c.from_residual-in_err-buffer.ensures.1 in
+    let p =
+    err_from_is_err_and c.from_residual-in_err-buffer.result
+    c.from_residual-in_err-buffer.ensures.1 in
     rw (p.1, p.2) no_memory
 
 pub returns : goal.returns

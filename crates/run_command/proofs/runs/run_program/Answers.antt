@@ -15,10 +15,12 @@ run_entry-requires-clause-there g c =
 
 pub returns-in-None-clause-answer : goal.returns-in-None-clause-answer
 returns-in-None-clause-answer g c =
-    stops_at_entry c.args.program.now c.args.words _ c.no_entry.result c.tell_stop.result (rw c.runnable.ensures.value at c.in-None.ensures)
+    stops_at_entry c.args.program.now c.args.words _ c.no_entry.result c.tell_stop.result
+    (rw c.runnable.ensures.value at c.in-None.ensures)
     c.no_entry.ensures c.tell_stop.ensures
 
 pub returns-in-None-clause-calls : goal.returns-in-None-clause-calls
 returns-in-None-clause-calls g c =
     calls_nothing c.args.files.now
-    (stop_no_fault c.no_entry.result c.tell_stop.result (entry_no_fault _ c.no_entry.result c.no_entry.ensures) c.tell_stop.ensures)
+    (stop_no_fault c.no_entry.result c.tell_stop.result
+    (entry_no_fault _ c.no_entry.result c.no_entry.ensures) c.tell_stop.ensures)

@@ -10,7 +10,8 @@ returns-clause-can c =
     let amx = c.args.file.now in
     let memory = c.amx-amx.ensures.memory in
     let code : All IsCell amx.code = rw c.amx-amx.ensures.value at c.as_slice-code.ensures.fits in
-    let store : All IsCell amx.store = rw c.amx-amx.ensures.value at c.as_slice-store.ensures.fits in
+    let store : All IsCell amx.store =
+    rw c.amx-amx.ensures.value at c.as_slice-store.ensures.fits in
     let runs : IsRunnable amx = record {
       code = code;
       store = store;

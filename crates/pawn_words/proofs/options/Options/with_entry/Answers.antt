@@ -8,4 +8,5 @@ returns-then-is_some c = once_no c.args.self.entry _ c.if-is_some.ensures
 pub returns : goal.returns
 returns c =
     once_is c.args.self.entry _ c.if-is_some.ensures
-    ∙ ap (λ e. Some (record c.args.self { entry = Some e })) (sym (c.in_ok-from_slice.ensures ∙ c.as_bytes.ensures.value))
+    ∙ ap (λ e. Some (record c.args.self { entry = Some e }))
+    (sym (c.in_ok-from_slice.ensures ∙ c.as_bytes.ensures.value))

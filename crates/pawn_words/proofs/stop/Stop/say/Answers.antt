@@ -5,6 +5,8 @@ use Rattle.pawn_words.proofs.stop.Stop.say.Goals as goal
 
 pub returns-in-Unregistered : goal.returns-in-Unregistered
 returns-in-Unregistered g c =
-    let line : named_line (codes "unregistered ") c.as_slice-in-Unregistered.result.now ≡ line_of c.args.self.now =
-    rw c.in-Unregistered.is (ap (named_line (codes "unregistered ")) c.as_slice-in-Unregistered.ensures) in
+    let line : named_line (codes "unregistered ") c.as_slice-in-Unregistered.result.now
+    ≡ line_of c.args.self.now =
+    rw c.in-Unregistered.is (ap (named_line (codes "unregistered "))
+    c.as_slice-in-Unregistered.ensures) in
     said_as line c.say_named-in-Unregistered.ensures
