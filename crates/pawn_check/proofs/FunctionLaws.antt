@@ -1,7 +1,7 @@
 -- Names of functions beside the program of a tree.
 use Rattle.std.proofs.Common.{◌≡◌, ◌+◌, ℕ, suc, ℤ, List, [], ◌∷◌, Bool, true, false, if◌then◌else◌}
 use Rattle.std.proofs.Common.{map, length, Some, refl, sym, ap, subst, ◌∙◌, arith}
-use Rattle.std.specs.Prelude.{slice_get, option_map}
+use Rattle.std.specs.Prelude.{slice_get, option_map, Result, Ok, Err, IfOk}
 use Rattle.std.specs.List.{AllByRecursion}
 use Rattle.std.proofs.lemmas.List.{length-map}
 use Rattle.std.proofs.lemmas.Option.{slice_get-map}
@@ -146,8 +146,15 @@ module _ (tree : Tree) (dynamic : ℤ) where
       (λ ok2. within_sums (checked_of tree dynamic it))
       (λ ok2. sums_names it))
 
-pub are_names : (tree : Tree) (list : List (List ℕ)) → list ≡ function_names tree
+are_names : (tree : Tree) (list : List (List ℕ)) → list ≡ function_names tree
     → (dynamic : ℤ) (it : Checked)
     → typed tree dynamic ≡ Stands it → AreNames it.program list
 are_names tree list e dynamic it h =
     subst (AreNames it.program) (sym e) ((typed_names tree dynamic).of it h)
+
+pub are_names_where : {E : Type 0} (tree : Tree) (result : Result (List (List ℕ)) E)
+    → IfOk result (λ (list : List (List ℕ)). list ≡ function_names tree)
+    → IfOk result (λ (list : List (List ℕ)). (dynamic : ℤ) (it : Checked)
+    → typed tree dynamic ≡ Stands it → AreNames it.program list)
+are_names_where tree (Ok list) h = are_names tree list h
+are_names_where tree (Err e) h = tt

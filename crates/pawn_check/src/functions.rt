@@ -19,7 +19,6 @@ use std::alloc::Global;
 /// # Errors
 ///
 /// `Memory` for want of memory.
-#[tactic(auto, using(crate::proofs::FunctionLaws::are_names))]
 pub fn function_names(alloc: Global, tree: &Tree) -> Result<List<Bytes>, Memory>
     ensures names { IfOk result (λ list. list ≡ spec.function_names (tree_view tree.now)) }
     ensures program { IfOk result (λ list. (dynamic : ℤ) (it : PlainChecked)
