@@ -33,17 +33,34 @@ fn push_boxed(links: &mut List<Link>, link: Box<Link>) -> Result<(), Memory>
 }
 
 impl<'a> Parser<'a> {
-    /// A comparison by this sign, in a box, which takes less room on the way through nested chains.
-    fn boxed_link(&self, sign: Sign, x: Part) -> Result<Got<Box<Link>>, ReadFault>
+    /// A comparison in a box, which takes less room on the way through nested chains.
+    fn boxed_link(
+        &self,
+        link: Link,
+        height: usize,
+        stop: usize,
+    ) -> Result<Got<Box<Link>>, ReadFault>
+        ensures { let ts = self.now.tokens.now in
+            Answers ts (got_view link_view_in) (Some (got (link_view link) height stop)) result }
+    {
+        Ok(Got {
+            tree: Box::new(self.alloc, link)?,
+            height,
+            stop,
+        })
+    }
+
+    /// The comparison by this sign.
+    fn compared(&self, sign: Sign, x: Part) -> Result<Got<Box<Link>>, ReadFault>
         ensures { let ts = self.now.tokens.now in
             Answers ts (got_view link_view_in)
             (Some (got (plain.Compare sign (expr_view x.tree.value)) x.height x.stop)) result }
     {
-        Ok(Got {
-            tree: Box::new(self.alloc, Link::Compare(sign, Box::into_inner(x.tree)))?,
-            height: x.height,
-            stop: x.stop,
-        })
+        self.boxed_link(
+            Link::Compare(sign, Box::into_inner(x.tree)),
+            x.height,
+            x.stop,
+        )
     }
 
     /// The list of one comparison.
@@ -74,7 +91,7 @@ impl<'a, F: Fn(Parser<'a>, u16, bool, usize, usize) -> Result<Part, ReadFault>> 
         match self.parser.word(start) {
             Word::Sign(sign) => {
                 let x = self.sub(tags, 8, start + 1)?;
-                self.parser.boxed_link(sign, x)
+                self.parser.compared(sign, x)
             }
             _ => Err(self.parser.stuck(start)),
         }

@@ -9,6 +9,38 @@ use pawn_cells::Place;
 use pawn_grammar::Word;
 use pawn_token::{Key, Sign, TokenKind};
 use pawn_tree::{At, Name, Text};
+use std::alloc::Global;
+
+/// The value of a kind, if it is a number.
+fn value_of(kind: &TokenKind) -> i32
+    ensures { result ≡ tok.value_of kind.now }
+{
+    match kind {
+        TokenKind::Number(value) => *value,
+        _ => 0,
+    }
+}
+
+/// The bytes of a kind, if it is a name or a text.
+fn spelling_of(alloc: Global, kind: &TokenKind) -> Result<Bytes, Memory>
+    ensures { IfOk result (λ bytes. bytes ≡ tok.spelling_of kind.now) }
+{
+    match kind {
+        TokenKind::Name(bytes) => Bytes::from_slice(alloc, bytes.as_slice()),
+        TokenKind::Text { bytes, .. } => Bytes::from_slice(alloc, bytes.as_slice()),
+        _ => Ok(Bytes::new(alloc)),
+    }
+}
+
+/// Whether a kind is a packed text.
+fn packed_of(kind: &TokenKind) -> bool
+    ensures { result ≡ tok.packed_of kind.now }
+{
+    match kind {
+        TokenKind::Text { packed, .. } => *packed,
+        _ => false,
+    }
+}
 
 impl<'a> Parser<'a> {
     /// Whether it is the first on its line. What stands behind the last token is.
@@ -67,10 +99,7 @@ impl<'a> Parser<'a> {
         ensures { result ≡ tok.value self.now.tokens.now at }
     {
         match self.tokens.get(at) {
-            Some(token) => match &token.kind {
-                TokenKind::Number(value) => *value,
-                _ => 0,
-            },
+            Some(token) => value_of(&token.kind),
             None => 0,
         }
     }
@@ -81,11 +110,7 @@ impl<'a> Parser<'a> {
         ensures { IfOk result (λ bytes. bytes ≡ tok.spelling self.now.tokens.now at) }
     {
         match self.tokens.get(at) {
-            Some(token) => match &token.kind {
-                TokenKind::Name(bytes) => Bytes::from_slice(self.alloc, bytes.as_slice()),
-                TokenKind::Text { bytes, .. } => Bytes::from_slice(self.alloc, bytes.as_slice()),
-                _ => Ok(Bytes::new(self.alloc)),
-            },
+            Some(token) => spelling_of(self.alloc, &token.kind),
             None => Ok(Bytes::new(self.alloc)),
         }
     }
@@ -96,10 +121,7 @@ impl<'a> Parser<'a> {
         ensures { result ≡ tok.is_packed self.now.tokens.now at }
     {
         match self.tokens.get(at) {
-            Some(token) => match &token.kind {
-                TokenKind::Text { packed, .. } => *packed,
-                _ => false,
-            },
+            Some(token) => packed_of(&token.kind),
             None => false,
         }
     }
@@ -202,10 +224,7 @@ impl<'a> Parser<'a> {
         ensures value { result ≡ spec.pair self.now.tokens.now at }
         ensures inside { IsTrue result → suc at < length self.now.tokens.now }
     {
-        if !self.sees(Sign::OpenBracket, at) {
-            return false;
-        }
-        self.sees(Sign::CloseBracket, at + 1)
+        self.sees(Sign::OpenBracket, at) && self.sees(Sign::CloseBracket, at + 1)
     }
 
     /// How many `[]` stand there, two at most, and the token behind them.

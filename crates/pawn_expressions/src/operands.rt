@@ -3,6 +3,8 @@ ghost use Rattle.pawn_grammar.specs.Tokens as tok;
 ghost use Rattle.pawn_grammar.specs.ReadExpressions as spec;
 ghost use Rattle.pawn_grammar.specs.declared.word.Word.TheVariants as word;
 ghost use Rattle.pawn_tree.specs.Expressions as plain;
+ghost use Rattle.pawn_tree.specs.declared.expression.TagofOperand.TheVariants as tagof_operand;
+ghost use Rattle.pawn_grammar.specs.Readers.{got, guard};
 ghost use Rattle.pawn_expressions.specs.Answers.{Answers, IsStuck, part_view, as_is};
 ghost use Rattle.pawn_expressions.specs.Nests.{Nests};
 
@@ -72,17 +74,33 @@ impl<'a> Parser<'a> {
                 stop: start + 2,
             });
         }
-        if tags && self.is_blank(start) {
-            return Err(self.stuck(start + 1));
-        }
+        self.tagof_name(tags, start)
+    }
+
+    /// The name that `tagof` takes.
+    fn tagof_name(&self, tags: bool, start: usize) -> Result<Got<TagofOperand>, ReadFault>
+        ensures { let ts = self.now.tokens.now in
+            Answers ts as_is (guard (tok.is_name (tok.word ts start))
+            (Some (got (tagof_operand.Name (tok.name_at ts start)) 0 (suc start)))) result }
+    {
         if !self.is_name(start) {
-            return Err(self.stuck(start));
+            return Err(self.no_name(tags, start));
         }
         Ok(Got {
             tree: TagofOperand::Name(self.name_at(start)?),
             height: 0,
             stop: start + 1,
         })
+    }
+
+    /// That no name stands there. Where tags may stand, a lone `_` could have been one.
+    fn no_name(&self, tags: bool, start: usize) -> ReadFault
+        ensures { IsStuck (length self.now.tokens.now) result }
+    {
+        if tags && self.is_blank(start) {
+            return self.stuck(start + 1);
+        }
+        self.stuck(start)
     }
 }
 

@@ -1,4 +1,4 @@
-ghost use Rattle.std.specs.Prelude.{◌<◌, length};
+ghost use Rattle.std.specs.Prelude.{◌≡◌, ◌<◌, length, nat_le};
 ghost use Rattle.pawn_grammar.specs.Levels as levels;
 ghost use Rattle.pawn_grammar.specs.ReadExpressions as spec;
 ghost use Rattle.pawn_grammar.specs.Tokens as tok;
@@ -13,6 +13,13 @@ use super::rules::Rules;
 use pawn_grammar::{Joint, Word};
 use pawn_token::Sign;
 use pawn_tree::Expr;
+
+/// Whether an operand of this level may stand in an operation of that one.
+fn is_at_most(level: usize, most: usize) -> bool
+    ensures { result ≡ nat_le level most }
+{
+    level <= most
+}
 
 /// What a sign does with the expression before it, `left`, which begins at `start`.
 impl<'a, F: Fn(Parser<'a>, u16, bool, usize, usize) -> Result<Part, ReadFault>> Rules<'a, F> {
@@ -99,7 +106,7 @@ impl<'a, F: Fn(Parser<'a>, u16, bool, usize, usize) -> Result<Part, ReadFault>> 
             Answers ts part_view
             (spec.binary ts (spec.expr ts d) d tags start level sign (part_view left)) result }
     {
-        if left.level > level {
+        if !is_at_most(left.level, level) {
             return Err(self.parser.stuck(left.stop));
         }
         let y = self.sub(tags, level.saturating_sub(1), left.stop + 1)?;

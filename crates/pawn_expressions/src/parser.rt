@@ -1,4 +1,4 @@
-ghost use Rattle.std.specs.Prelude.{◌≡◌, ◌<◌, ◌^◌, length, IsTrue};
+ghost use Rattle.std.specs.Prelude.{◌≡◌, ◌≤◌, ◌<◌, ◌^◌, length, IsTrue};
 ghost use Rattle.pawn_grammar.specs.Tokens as tok;
 ghost use Rattle.pawn_expressions.specs.Answers.{Expects, IsInside, IsStuck};
 
@@ -97,7 +97,7 @@ impl<'a> Parser<'a> {
         if self.sees(sign, at) {
             Ok(at + 1)
         } else {
-            Err(self.stuck(at))
+            Err(ReadFault::Syntax(self.no_further(at)))
         }
     }
 
@@ -105,6 +105,13 @@ impl<'a> Parser<'a> {
     pub fn stuck(&self, at: usize) -> ReadFault
         ensures { IsStuck (length self.now.tokens.now) result }
     {
-        ReadFault::Syntax(at.min(self.tokens.len()))
+        ReadFault::Syntax(self.no_further(at))
+    }
+
+    /// This number, or that of tokens where it is beyond them.
+    fn no_further(&self, at: usize) -> usize
+        ensures { result ≤ length self.now.tokens.now }
+    {
+        at.min(self.tokens.len())
     }
 }

@@ -1,4 +1,4 @@
-ghost use Rattle.std.specs.Prelude.{Some};
+ghost use Rattle.std.specs.Prelude.{◌≡◌, ◌≤◌, Some, IsTrue, nat_le};
 ghost use Rattle.pawn_tree.specs.View.{expr_view};
 ghost use Rattle.pawn_grammar.specs.ReadExpressions as spec;
 ghost use Rattle.pawn_expressions.specs.Answers.{Answers, part_view};
@@ -44,13 +44,29 @@ impl<'a, F: Fn(Parser<'a>, u16, bool, usize, usize) -> Result<Part, ReadFault>> 
             Answers ts part_view
             (spec.operation d (expr_view tree) level under stop) result }
     {
-        if under > usize::from(self.height) {
+        if !self.is_low(under) {
             return Err(self.parser.stuck(deepest_token(&tree)));
         }
+        self.made(tree, level, under + 1, stop)
+    }
+
+    /// Whether a node may stand above so many levels.
+    fn is_low(&self, under: usize) -> bool
+        ensures value { result ≡ nat_le under self.now.height }
+        ensures fits { IsTrue result → under ≤ self.now.height }
+    {
+        under <= usize::from(self.height)
+    }
+
+    /// A node of this height.
+    fn made(&self, tree: Expr, level: usize, height: usize, stop: usize) -> Result<Part, ReadFault>
+        ensures { let ts = self.now.parser.tokens.now in
+            Answers ts part_view (Some (spec.part (expr_view tree) level height stop)) result }
+    {
         Ok(Part {
             tree: Box::new(self.parser.alloc, tree)?,
             level,
-            height: under + 1,
+            height,
             stop,
         })
     }
@@ -60,11 +76,6 @@ impl<'a, F: Fn(Parser<'a>, u16, bool, usize, usize) -> Result<Part, ReadFault>> 
         ensures { let ts = self.now.parser.tokens.now in
             Answers ts part_view (Some (spec.part (expr_view tree) level 1 stop)) result }
     {
-        Ok(Part {
-            tree: Box::new(self.parser.alloc, tree)?,
-            level,
-            height: 1,
-            stop,
-        })
+        self.made(tree, level, 1, stop)
     }
 }

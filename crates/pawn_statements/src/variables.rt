@@ -24,15 +24,14 @@ impl<'a> Reader<'a> {
             Answers ts (got_view dim_view)
             (spec.dim_end ts (expr ts d) (got_view boxed_expr size)) result }
     {
-        let tree = Box::into_inner(size.tree);
         let height = size.height;
         if self.parser.sees_key(Key::Char, size.stop) {
             let stop = self.parser.expect(Sign::CloseBracket, size.stop + 1)?;
-            let tree = Dim::Chars(tree);
+            let tree = Dim::Chars(Box::into_inner(size.tree));
             return Ok(Got { tree, height, stop });
         }
         let stop = self.parser.expect(Sign::CloseBracket, size.stop)?;
-        let tree = Dim::Cells(tree);
+        let tree = Dim::Cells(Box::into_inner(size.tree));
         Ok(Got { tree, height, stop })
     }
 
@@ -112,10 +111,10 @@ impl<'a> Reader<'a> {
         if !self.parser.is_name(at) {
             return Err(self.nameless(start));
         }
-        let dims = self.dims(at + 1)?;
-        let value = self.first_value(dims.stop)?;
         let tag = self.parser.tag_at(start)?;
         let name = self.parser.name_at(at)?;
+        let dims = self.dims(at + 1)?;
+        let value = self.first_value(dims.stop)?;
         Ok(Got {
             tree: Var {
                 tag,
