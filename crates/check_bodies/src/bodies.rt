@@ -19,10 +19,9 @@ use check_simple::{
     Setting, assert_stmt, do_stmt, empty, exit_stmt, first_done, judge_first, jump, maybe_part,
     part, return_stmt, sleep_stmt, state_stmt,
 };
-use check_statements::Stood;
+use check_statements::{Jump, Stood};
 use check_switches::{CasePart, CaseParts, all_ends, case_told, no_case, switch_told, with_case};
 use pawn_base::List;
-use pawn_program::Stmt as Code;
 use pawn_tree::{At, Case, Expr, First, Stmt};
 use pawn_verdict::CheckFault;
 use std::alloc::Global;
@@ -73,8 +72,8 @@ pub fn stmt<'a>(
         Stmt::Exit(at, e) => exit_stmt(alloc, setting, point, *at, e),
         Stmt::Sleep(at, e) => sleep_stmt(alloc, setting, point, *at, e),
         Stmt::Assert(at, e) => assert_stmt(alloc, setting, point, *at, e),
-        Stmt::Break(at) => jump(alloc, *at, in_loop, Code::Break),
-        Stmt::Continue(at) => jump(alloc, *at, in_loop, Code::Continue),
+        Stmt::Break(at) => jump(alloc, *at, in_loop, Jump::Break),
+        Stmt::Continue(at) => jump(alloc, *at, in_loop, Jump::Continue),
         Stmt::State(at, c, name) => state_stmt(alloc, setting, point, *at, c, name),
         Stmt::Local(at, it) => local_vars(alloc, setting.cx, point, *at, it),
         Stmt::Constant(at, it) => local_constant(alloc, setting.cx, point, *at, it),

@@ -55,7 +55,7 @@ fn if_by(
     ensures { Answers stood_view (after (use_in setting.now at (typed_view c))
         (λ c. Stands (spec.if_rule c (stood_view s) (other_view other)))) result }
 {
-    let c = use_at(at, c)?;
+    let c = use_at(alloc, at, c)?;
     Ok(if_rule(alloc, c, s, other)?)
 }
 
@@ -97,7 +97,7 @@ fn while_by(
     ensures { Answers stood_view (after (use_in setting.now at (typed_view c))
         (λ c. Stands (spec.while_rule c (stood_view s)))) result }
 {
-    let c = use_at(at, c)?;
+    let c = use_at(alloc, at, c)?;
     Ok(while_rule(alloc, c, s)?)
 }
 
@@ -133,7 +133,7 @@ fn do_while_by(
     ensures { Answers stood_view (after (use_in setting.now at (typed_view c))
         (λ c. Stands (spec.do_while_rule (stood_view s) c))) result }
 {
-    let c = use_at(at, c)?;
+    let c = use_at(alloc, at, c)?;
     Ok(do_while_rule(alloc, s, c)?)
 }
 
@@ -173,7 +173,7 @@ fn maybe_use(
     let Some(x) = x else {
         return Ok(Maybe::absent(alloc));
     };
-    Ok(Maybe::present(use_at(at, x)?))
+    Ok(Maybe::present(use_at(alloc, at, x)?))
 }
 
 /// A `for` by its parts, whose values are one cell each.

@@ -123,9 +123,10 @@ fn judged(
         filling.slots,
         filling.rest,
     )?;
+    let code = Box::new(alloc, call_code(callee.is_native, callee.number, args))?;
     Ok(Typed {
         at,
-        form: Form::Value(call_code(callee.is_native, callee.number, args)),
+        form: Form::Value(code),
         tag: callee.tag,
         value: None,
         made: filling.made,
@@ -181,7 +182,7 @@ pub fn call(
         Some(head) => judged(alloc, cx, at, callee, offers, head),
         None => Ok(Typed {
             at,
-            form: Form::Value(Expr::Const(0)),
+            form: Form::Value(Box::new(alloc, Expr::Const(0))?),
             tag: callee.tag,
             value: None,
             made: made_in(alloc, offers)?,

@@ -1,8 +1,10 @@
-ghost use Rattle.std.specs.Prelude.{◌≡◌, List, Option, map, option_map, slice_get, IfOk};
-ghost use Rattle.pawn_program.specs.View.{args_view, arg_view};
+ghost use Rattle.std.specs.Prelude.{◌≡◌, [], ◌∷◌, ◌++◌, List, Option, map};
+ghost use Rattle.std.specs.Prelude.{option_map, slice_get, IfOk};
+ghost use Rattle.pawn_program.specs.View.{args_view};
 ghost use Rattle.pawn_calls.specs.Defaults as spec;
 ghost use Rattle.pawn_verdict.specs.Answers.{Answers};
 ghost use Rattle.check_types.specs.ContextView.{around_view, param_view};
+ghost use Rattle.check_given.specs.GivenView.{arg_code};
 ghost use Rattle.check_calls.specs.declared.filling.Filled.{Filled as Held};
 ghost use Rattle.check_calls.specs.FillingView.{filled_view, slots_view};
 ghost use Rattle.check_calls.specs.Shown.{shown_in, size_shown, tag_shown};
@@ -91,17 +93,20 @@ fn default_arg(
     param: &Param,
     value: i32,
     tag: u32,
-) -> Result<Arg, Memory>
-    ensures { IfOk result (λ arg. arg_view arg ≡
+) -> Result<Box<Arg>, Memory>
+    ensures { IfOk result (λ arg. arg_code arg ≡
         spec.default_arg (around_view cx.now) (param_view param.now) value tag) }
 {
     let code = Expr::Const(value);
     if param.reference {
-        return Ok(Arg::Temp(code));
+        return Ok(Box::new(alloc, Arg::Temp(code))?);
     }
     match converter_to(cx, param.tags.as_slice(), tag) {
-        None => Ok(Arg::Value(code)),
-        Some(function) => Ok(Arg::Value(Expr::OperateOne(function, Box::new(alloc, code)?))),
+        None => Ok(Box::new(alloc, Arg::Value(code))?),
+        Some(function) => {
+            let code = Expr::OperateOne(function, Box::new(alloc, code)?);
+            Ok(Box::new(alloc, Arg::Value(code))?)
+        }
     }
 }
 
@@ -114,9 +119,9 @@ fn default_of(
     params: &[Param],
     shown: &[Option<Shown>],
     param: &Param,
-) -> Result<Arg, CheckFault>
+) -> Result<Box<Arg>, CheckFault>
     ensures { (slots : List (Option Held)) → shown.now ≡ map shown_in slots →
-        Answers arg_view (spec.default_of (around_view cx.now) at (map param_view params.now)
+        Answers arg_code (spec.default_of (around_view cx.now) at (map param_view params.now)
         (slots_view slots) (param_view param.now) (param_view param.now).default) result }
 {
     match param.default {
@@ -142,9 +147,9 @@ fn arg_of(
     shown: &[Option<Shown>],
     param: &Param,
     it: Option<Filled>,
-) -> Result<Arg, CheckFault>
+) -> Result<Box<Arg>, CheckFault>
     ensures { (slots : List (Option Held)) → shown.now ≡ map shown_in slots →
-        Answers arg_view (spec.arg_of (around_view cx.now) at (map param_view params.now)
+        Answers arg_code (spec.arg_of (around_view cx.now) at (map param_view params.now)
         (slots_view slots) (param_view param.now) (option_map filled_view it)) result }
 {
     match it {
@@ -152,6 +157,13 @@ fn arg_of(
         None => default_of(alloc, cx, at, params, shown, param),
         Some(Filled::Default) => default_of(alloc, cx, at, params, shown, param),
     }
+}
+
+/// One more argument.
+fn push_boxed(args: &mut List<Arg>, arg: Box<Arg>) -> Result<(), Memory>
+    ensures { IfOk result (λ ok. args.new ≡ args.old ++ arg.value ∷ []) }
+{
+    args.push(Box::into_inner(arg))
 }
 
 /// The arguments in the order of the parameters, and behind them others.
@@ -182,7 +194,7 @@ pub fn args(
         }
         let it = mem::replace(&mut slots[i], None);
         let arg = arg_of(alloc, cx, at, params, shown, param, it)?;
-        args.push(arg)?;
+        push_boxed(&mut args, arg)?;
     }
     args.append(others)?;
     Ok(args)

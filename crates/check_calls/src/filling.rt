@@ -151,7 +151,7 @@ fn for_rest(
         Some(tags) => {
             let it = rest_given(alloc, cx, tags.as_slice(), x)?;
             let mut rest = done.rest;
-            rest.push(it.argued.code)?;
+            rest.push(Box::into_inner(it.argued.code))?;
             Ok(Filling {
                 next: one_more(done.next)?,
                 slots: done.slots,

@@ -4,6 +4,7 @@ ghost use Rattle.pawn_program.specs.View.{expr_view, links_view, object_view};
 ghost use Rattle.pawn_typing.specs.Typed.{Value};
 ghost use Rattle.pawn_typing.specs.Chains as spec;
 ghost use Rattle.pawn_verdict.specs.Answers.{Answers};
+ghost use Rattle.check_types.specs.CodeView.{code_view};
 ghost use Rattle.check_types.specs.ContextView.{around_view};
 ghost use Rattle.check_types.specs.TypedView.{typed_view};
 ghost use Rattle.check_chains.specs.Compared.{compared_view};
@@ -157,16 +158,22 @@ fn push_link(links: List<Link>, it: Link) -> Result<List<Link>, Memory>
 
 /// With one more link.
 #[tactic(auto, using(pawn_verdict::proofs::VerdictLaws::verdicts))]
-fn with_link(cx: &Context, at: At, done: Begun, it: Compared) -> Result<Begun, CheckFault>
+fn with_link(
+    alloc: Global,
+    cx: &Context,
+    at: At,
+    done: Begun,
+    it: Compared,
+) -> Result<Begun, CheckFault>
     ensures { Answers begun_view
         (link_step (around_view cx.now) at (begun_view done) (compared_view it)) result }
 {
     let by = link_choice(cx, done.left, &it);
     let x = it.operand;
-    let code = cell(at, x.form)?;
+    let code = cell(alloc, at, x.form)?;
     let tested = test_link(cx, done.made, done.left, x.tag, x.at, by)?;
     let made = tested.then(x.made)?;
-    let links = push_link(done.links, make_link(it.sign, code, by))?;
+    let links = push_link(done.links, make_link(it.sign, Box::into_inner(code), by))?;
     Ok(Begun {
         left: x.tag,
         links,
@@ -216,10 +223,10 @@ fn first_operand(alloc: Global, tag: u32, value: Option<i32>, made: Made) -> Beg
 
 /// A chain that has no more links, as a value.
 #[tactic(auto, using(crate::proofs::LinkLaws::chains))]
-fn ended(alloc: Global, at: At, first: Expr, tag: u32, done: Begun) -> Result<Typed, Memory>
+fn ended(alloc: Global, at: At, first: Box<Expr>, tag: u32, done: Begun) -> Result<Typed, Memory>
     ensures { IfOk result (λ x. typed_view x ≡ record {
       at = at;
-      form = Value (Chain (expr_view first) (links_view done.links));
+      form = Value (Chain (code_view first) (links_view done.links));
       tag = tag;
       value = begun.ended_value done.value;
       literals = map object_view done.made.literals;
@@ -227,7 +234,7 @@ fn ended(alloc: Global, at: At, first: Expr, tag: u32, done: Begun) -> Result<Ty
     }) }
 {
     let value = ended_value(done.value);
-    let code = Expr::Chain(Box::new(alloc, first)?, done.links);
+    let code = Box::new(alloc, Expr::Chain(first, done.links))?;
     Ok(Typed {
         at,
         form: Form::Value(code),
@@ -255,10 +262,10 @@ pub fn chain(
         (map compared_view links.items)) result }
 {
     let tag = chain_tag(cx, x.tag, links.as_slice());
-    let first = cell(at, x.form)?;
+    let first = cell(alloc, at, x.form)?;
     let mut done = first_operand(alloc, x.tag, x.value, x.made);
     for it in links {
-        done = with_link(cx, at, done, it)?;
+        done = with_link(alloc, cx, at, done, it)?;
     }
     let typed = ended(alloc, at, first, tag, done)?;
     Ok(typed)

@@ -44,7 +44,7 @@ pub fn expr(
     ensures behind { Judged result (objects.new ≡ objects.old + literals (expr_view e.now)) }
 {
     match e {
-        Expr::Number(at, value) => Ok(number_of(alloc, *at, *value)),
+        Expr::Number(at, value) => Ok(number_of(alloc, *at, *value)?),
         Expr::Text(at, bytes, packed) => text_of(alloc, objects, *at, bytes, *packed),
         Expr::Name(at, it) => name_of(alloc, scopes, *at, it),
         Expr::Paren(at, e) => {

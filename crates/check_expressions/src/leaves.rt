@@ -1,4 +1,4 @@
-ghost use Rattle.std.specs.Prelude.{◌≡◌, ◌+◌, ℕ, List, map, option_map, length, pos};
+ghost use Rattle.std.specs.Prelude.{◌≡◌, ◌+◌, ℕ, List, map, option_map, length, pos, IfOk};
 ghost use Rattle.pawn_cells.specs.Cells.{cell_of};
 ghost use Rattle.pawn_tags.specs.Tags.{untagged};
 ghost use Rattle.pawn_scopes.specs.Verdict.{Verdict, Stands, after};
@@ -21,7 +21,7 @@ use check_places::text;
 use check_scopes::{Scopes, Sight};
 use check_types::{Context, Typed};
 use part_verdict::PartFault;
-use pawn_base::Bytes;
+use pawn_base::{Bytes, Memory};
 use pawn_tree::{At, SizeofOperand, TagofOperand};
 use pawn_verdict::CheckFault;
 use std::alloc::Global;
@@ -29,8 +29,8 @@ use std::alloc::Global;
 // ---- numbers, texts, names
 
 /// A number or a character.
-pub fn number_of(alloc: Global, at: At, value: i32) -> Typed
-    ensures { typed_view result ≡ names.number_rule at value }
+pub fn number_of(alloc: Global, at: At, value: i32) -> Result<Typed, Memory>
+    ensures { IfOk result (λ x. typed_view x ≡ names.number_rule at value) }
 {
     make_number(alloc, at, value)
 }
@@ -208,7 +208,7 @@ pub fn tagof_rule(
 {
     match x {
         TagofOperand::Name(it) => tag_of_name(alloc, scopes, at, &it.bytes),
-        TagofOperand::Tag(it) => Ok(tagof_tag(alloc, cx, at, it.bytes.as_slice())),
+        TagofOperand::Tag(it) => Ok(tagof_tag(alloc, cx, at, it.bytes.as_slice())?),
     }
 }
 

@@ -45,7 +45,6 @@ pub fn compare(sign: Sign, x: Result<Typed, PartFault>) -> Result<Compared, Part
 }
 
 /// One more link.
-#[tactic(auto, using(crate::proofs::PairLaws::pairs, crate::proofs::SoFarLaws::lists))]
 pub fn with_link(
     all: Result<Vec<Compared>, PartFault>,
     it: Result<Compared, PartFault>,
@@ -87,7 +86,6 @@ pub fn named<'a>(name: &'a Bytes, x: Result<Typed, PartFault>) -> Result<Offer<'
 }
 
 /// One more argument.
-#[tactic(auto, using(crate::proofs::PairLaws::pairs, crate::proofs::SoFarLaws::lists))]
 pub fn with_offer<'a>(
     all: Result<Vec<Offer<'a>>, PartFault>,
     it: Result<Offer<'a>, PartFault>,

@@ -61,7 +61,7 @@ fn single_typed(
         Single::Paren => Ok(paren(at, x)),
         Single::Prefix(sign) => prefix(alloc, cx, at, sign, x),
         Single::Tagged(tag) => Ok(with_tag(cx, at, tag, x)),
-        Single::Postfix(sign) => postfix(cx, at, sign, x),
+        Single::Postfix(sign) => postfix(alloc, cx, at, sign, x),
     }
 }
 
@@ -116,7 +116,6 @@ fn double_typed(
 }
 
 /// A node of two operands.
-#[tactic(auto, using(part_verdict::proofs::PartLaws::parts, crate::proofs::PairLaws::pairs))]
 pub fn with_operands(
     alloc: Global,
     cx: &Context,
@@ -137,7 +136,6 @@ pub fn with_operands(
 // ---- chains and choices
 
 /// A chain of comparisons behind its first operand.
-#[tactic(auto, using(part_verdict::proofs::PartLaws::parts, crate::proofs::PairLaws::pairs))]
 pub fn chained(
     alloc: Global,
     cx: &Context,
@@ -156,7 +154,6 @@ pub fn chained(
 }
 
 /// `? :`, by its condition and both values.
-#[tactic(auto, using(part_verdict::proofs::PartLaws::parts, crate::proofs::PairLaws::pairs))]
 fn chosen(
     alloc: Global,
     cx: &Context,

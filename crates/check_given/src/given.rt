@@ -1,9 +1,10 @@
 ghost use Rattle.std.specs.Prelude.{◌≡◌, IfOk};
 ghost use Rattle.std.specs.Option.{option_to_list};
 ghost use Rattle.std.specs.Str.{bytes_eq};
-ghost use Rattle.pawn_program.specs.View.{scalar_view, array_view, expr_view, arg_view};
+ghost use Rattle.pawn_program.specs.View.{scalar_view, array_view, arg_view};
 ghost use Rattle.pawn_calls.specs.Given as spec;
 ghost use Rattle.pawn_verdict.specs.Answers.{Answers};
+ghost use Rattle.check_types.specs.CodeView.{code_view};
 ghost use Rattle.check_types.specs.ContextView.{around_view, param_view};
 ghost use Rattle.check_types.specs.ExtentView.{extent_view};
 ghost use Rattle.check_types.specs.TypedView.{form_view, typed_view};
@@ -22,7 +23,7 @@ use std::alloc::Global;
 /// An argument in the program, and what `sizeof` and `tagof` of its parameter are with it.
 #[derive(Drop)]
 pub struct Argued {
-    pub code: Arg,
+    pub code: Box<Arg>,
     pub size: u32,
     pub tag: u32,
 }
@@ -36,12 +37,12 @@ pub struct Given {
 
 // ---- a plain parameter
 
-fn value(at: At, form: Form) -> Result<Expr, CheckFault>
-    ensures { Answers expr_view (spec.value_in at (form_view form)) result }
+fn value(alloc: Global, at: At, form: Form) -> Result<Box<Expr>, CheckFault>
+    ensures { Answers code_view (spec.value_in at (form_view form)) result }
 {
     match form {
         Form::Value(code) => Ok(code),
-        Form::Place(place, _) => Ok(Expr::Read(place)),
+        Form::Place(place, _) => Ok(Box::new(alloc, Expr::Read(place))?),
         Form::Whole(..) => Err(broken(ARGUMENT_KIND, at.place)),
         Form::Literal(..) => Err(broken(ARGUMENT_KIND, at.place)),
     }
@@ -59,15 +60,17 @@ fn plain_given(
         (spec.plain_given (around_view cx.now) at (param_view param.now) (typed_view x)) result }
     ensures literals { IfOk result (λ it. it.made.literals ≡ x.made.literals) }
 {
-    let code = value(at, x.form)?;
+    let code = value(alloc, at, x.form)?;
     let sent = send(alloc, cx, param.tags.as_slice(), x.tag, code)?;
+    let made = x.made.tested_first(alloc, sent.passed, x.at)?;
+    let code = Box::new(alloc, Arg::Value(Box::into_inner(sent.code)))?;
     Ok(Given {
         argued: Argued {
-            code: Arg::Value(sent.code),
+            code,
             size: 1,
             tag: x.tag,
         },
-        made: x.made.tested_first(alloc, sent.passed, x.at)?,
+        made,
     })
 }
 
@@ -143,13 +146,15 @@ fn reference_given(
 {
     let place = place(at, param.constant, x.form)?;
     let passed = matches(&cx.tags, param.tags.as_slice(), x.tag);
+    let made = x.made.tested_first(alloc, passed, x.at)?;
+    let code = Box::new(alloc, Arg::Ref(place))?;
     Ok(Given {
         argued: Argued {
-            code: Arg::Ref(place),
+            code,
             size: 1,
             tag: x.tag,
         },
-        made: x.made.tested_first(alloc, passed, x.at)?,
+        made,
     })
 }
 
@@ -284,13 +289,15 @@ fn array_given(
 {
     let it = array(at, param.constant, wanted, x.form)?;
     let passed = matches(&cx.tags, param.tags.as_slice(), x.tag);
+    let made = x.made.tested_first(alloc, passed, x.at)?;
+    let code = Box::new(alloc, Arg::Whole(it.array))?;
     Ok(Given {
         argued: Argued {
-            code: Arg::Whole(it.array),
+            code,
             size: it.size,
             tag: x.tag,
         },
-        made: x.made.tested_first(alloc, passed, x.at)?,
+        made,
     })
 }
 
@@ -342,7 +349,7 @@ fn rest_arg(form: Form) -> Arg
     ensures { arg_view result ≡ spec.rest_arg (form_view form) }
 {
     match form {
-        Form::Value(code) => Arg::Temp(code),
+        Form::Value(code) => Arg::Temp(Box::into_inner(code)),
         Form::Place(place, constant) => rest_place(constant, place),
         Form::Whole(array, _, _) => Arg::Whole(array),
         Form::Literal(object, _) => Arg::Whole(Array::Object(object)),
@@ -357,12 +364,14 @@ pub fn rest_given(alloc: Global, cx: &Context, tags: &[u32], x: Typed) -> Result
     ensures literals { IfOk result (λ it. it.made.literals ≡ x.made.literals) }
 {
     let passed = matches(&cx.tags, tags, x.tag);
+    let made = x.made.tested_first(alloc, passed, x.at)?;
+    let code = Box::new(alloc, rest_arg(x.form))?;
     Ok(Given {
         argued: Argued {
-            code: rest_arg(x.form),
+            code,
             size: 1,
             tag: x.tag,
         },
-        made: x.made.tested_first(alloc, passed, x.at)?,
+        made,
     })
 }

@@ -39,7 +39,11 @@ fn new_cell(alloc: Global, point: &Point, it: LocalValue) -> Result<Stood, Memor
         made: it.made,
         returns: List::new(alloc),
     };
-    Ok(Stood::with(alloc, Stmt::Local(point.slots, it.code), parts)?)
+    Ok(Stood::with(
+        alloc,
+        Stmt::Local(point.slots, Box::into_inner(it.code)),
+        parts,
+    )?)
 }
 
 /// An object, with the warnings of what it begins with.

@@ -1,4 +1,4 @@
-ghost use Rattle.std.specs.Prelude.{◌≡◌, option_map};
+ghost use Rattle.std.specs.Prelude.{◌≡◌, option_map, IfOk};
 ghost use Rattle.pawn_typing.specs.Names as spec;
 ghost use Rattle.pawn_typing.specs.Operators as operators;
 ghost use Rattle.pawn_verdict.specs.Answers.{Answers};
@@ -8,6 +8,7 @@ ghost use Rattle.check_types.specs.TypedView.{typed_view};
 
 use super::tags::{UNTAGGED, tag_number};
 use check_types::{Context, Form, Made, Meaning, Typed};
+use pawn_base::Memory;
 use pawn_program::Expr;
 use pawn_tree::At;
 use pawn_typing::UNDEFINED;
@@ -15,21 +16,22 @@ use pawn_verdict::{CheckFault, broken};
 use std::alloc::Global;
 
 /// A constant with its tag.
-pub fn make_constant(alloc: Global, at: At, value: i32, tag: u32) -> Typed
-    ensures { typed_view result ≡ spec.constant_value at value tag }
+pub fn make_constant(alloc: Global, at: At, value: i32, tag: u32) -> Result<Typed, Memory>
+    ensures { IfOk result (λ x. typed_view x ≡ spec.constant_value at value tag) }
 {
-    Typed {
+    let code = Box::new(alloc, Expr::Const(value))?;
+    Ok(Typed {
         at,
-        form: Form::Value(Expr::Const(value)),
+        form: Form::Value(code),
         tag,
         value: Some(value),
         made: Made::nothing(alloc),
-    }
+    })
 }
 
 /// A number or a character.
-pub fn make_number(alloc: Global, at: At, value: i32) -> Typed
-    ensures { typed_view result ≡ spec.number_rule at value }
+pub fn make_number(alloc: Global, at: At, value: i32) -> Result<Typed, Memory>
+    ensures { IfOk result (λ x. typed_view x ≡ spec.number_rule at value) }
 {
     make_constant(alloc, at, value, UNTAGGED)
 }
@@ -43,7 +45,9 @@ pub fn name(alloc: Global, at: At, means: Option<Meaning>) -> Result<Typed, Chec
     ensures { Answers typed_view (spec.name_rule at (option_map meaning_view means)) result }
 {
     let (form, tag) = match means {
-        Some(Meaning::Constant(value, tag)) => return Ok(make_constant(alloc, at, value, tag)),
+        Some(Meaning::Constant(value, tag)) => {
+            return Ok(make_constant(alloc, at, value, tag)?);
+        }
         Some(Meaning::Variable(place, tag, constant)) => {
             (Form::Place(place.scalar(), constant), tag)
         }

@@ -1,4 +1,4 @@
-ghost use Rattle.std.specs.Prelude.{◌≡◌, pos, length, option_map};
+ghost use Rattle.std.specs.Prelude.{◌≡◌, pos, length, option_map, IfOk};
 ghost use Rattle.pawn_scopes.specs.Verdict.{Stands, after};
 ghost use Rattle.pawn_cells.specs.Cells.{cell_of};
 ghost use Rattle.pawn_tags.specs.Tags.{untagged};
@@ -15,6 +15,7 @@ use super::names::make_constant;
 use super::tags::{UNTAGGED, tag_number};
 use super::texts::text_size;
 use check_types::{Context, Extent, Meaning, Typed};
+use pawn_base::Memory;
 use pawn_tree::At;
 use pawn_typing::{NOT_AN_ARRAY, UNDEFINED};
 use pawn_verdict::{CheckFault, broken};
@@ -58,7 +59,7 @@ fn sized(alloc: Global, at: At, size: usize) -> Result<Typed, CheckFault>
 {
     match i32::try_from(size) {
         Err(_) => Err(CheckFault::Memory),
-        Ok(size) => Ok(make_constant(alloc, at, size, UNTAGGED)),
+        Ok(size) => Ok(make_constant(alloc, at, size, UNTAGGED)?),
     }
 }
 
@@ -127,14 +128,14 @@ pub fn tagof_name(alloc: Global, at: At, means: Option<Meaning>) -> Result<Typed
         (λ tag. Stands (spec.constant_value at (cell_of tag) untagged))) result }
 {
     let tag = tag_of(at, means)?;
-    Ok(make_constant(alloc, at, tag.cast_signed(), UNTAGGED))
+    Ok(make_constant(alloc, at, tag.cast_signed(), UNTAGGED)?)
 }
 
 /// `tagof` of a tag.
-pub fn tagof_tag(alloc: Global, cx: &Context, at: At, name: &[u8]) -> Typed
-    ensures { typed_view result ≡
+pub fn tagof_tag(alloc: Global, cx: &Context, at: At, name: &[u8]) -> Result<Typed, Memory>
+    ensures { IfOk result (λ x. typed_view x ≡
         spec.constant_value at (cell_of (around.tag_number (around_view cx.now) name.now))
-        untagged }
+        untagged) }
 {
     make_constant(alloc, at, tag_number(cx, name).cast_signed(), UNTAGGED)
 }

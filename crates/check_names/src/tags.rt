@@ -2,9 +2,9 @@ ghost use Rattle.std.specs.Prelude.{◌≡◌, ◌∷◌, [], ◌||◌, nat_eq, 
 ghost use Rattle.std.specs.List.{list_any};
 ghost use Rattle.pawn_tags.specs.Matching.{matches as is_match};
 ghost use Rattle.pawn_tree.specs.declared.name.At.{At as Place};
-ghost use Rattle.pawn_program.specs.View.{expr_view};
 ghost use Rattle.pawn_typing.specs.Around as around;
 ghost use Rattle.pawn_typing.specs.Tests as tests;
+ghost use Rattle.check_types.specs.CodeView.{code_view};
 ghost use Rattle.check_types.specs.ContextView.{around_view};
 
 use check_types::Context;
@@ -88,7 +88,7 @@ pub fn converter_to(cx: &Context, formal: &[u32], actual: u32) -> Option<u32>
 /// A value on its way to a target, and whether its tag fits there.
 #[derive(Drop)]
 pub struct Sent {
-    pub code: Expr,
+    pub code: Box<Expr>,
     pub passed: bool,
 }
 
@@ -99,11 +99,11 @@ pub fn send(
     cx: &Context,
     formal: &[u32],
     actual: u32,
-    code: Expr,
+    code: Box<Expr>,
 ) -> Result<Sent, Memory>
     ensures { IfOk result (λ it. (at : Place) →
-        tests.sent (around_view cx.now) formal.now actual at (expr_view code)
-        ≡ record { code = expr_view it.code; warned = tests.unless_passed it.passed at }) }
+        tests.sent (around_view cx.now) formal.now actual at (code_view code)
+        ≡ record { code = code_view it.code; warned = tests.unless_passed it.passed at }) }
 {
     match converter_to(cx, formal, actual) {
         None => Ok(Sent {
@@ -111,7 +111,7 @@ pub fn send(
             passed: matches(&cx.tags, formal, actual),
         }),
         Some(function) => Ok(Sent {
-            code: Expr::OperateOne(function, Box::new(alloc, code)?),
+            code: Box::new(alloc, Expr::OperateOne(function, code))?,
             passed: true,
         }),
     }

@@ -31,11 +31,11 @@ fn assign_cell(alloc: Global, cx: &Context, at: At, x: Typed, y: Typed) -> Resul
         (spec.assign_cell (around_view cx.now) at (typed_view x) (typed_view y)) result }
 {
     let place = target(at, x.form)?;
-    let code = cell(at, y.form)?;
+    let code = cell(alloc, at, y.form)?;
     let sent = send(alloc, cx, &[x.tag], y.tag, code)?;
     let second = y.made.tested_first(alloc, sent.passed, y.at)?;
     let made = x.made.then(second)?;
-    let code = Expr::Assign(place, Box::new(alloc, sent.code)?);
+    let code = Box::new(alloc, Expr::Assign(place, sent.code))?;
     Ok(make_value(at, code, x.tag, None, made))
 }
 
@@ -150,11 +150,8 @@ fn copy(alloc: Global, cx: &Context, at: At, x: Typed, y: Typed) -> Result<Typed
     let passed = matches(&cx.tags, &[x.tag], y.tag);
     let second = y.made.tested_first(alloc, passed, y.at)?;
     let made = x.made.then(second)?;
-    let code = Expr::Copy(
-        Box::new(alloc, to.array)?,
-        Box::new(alloc, from.array)?,
-        from.cells,
-    );
+    let (to, source) = (Box::new(alloc, to.array)?, Box::new(alloc, from.array)?);
+    let code = Box::new(alloc, Expr::Copy(to, source, from.cells))?;
     Ok(make_value(at, code, x.tag, None, made))
 }
 

@@ -1,8 +1,8 @@
 ghost use Rattle.std.specs.Prelude.{◌≡◌, [], IfOk};
 ghost use Rattle.std.specs.Option.{option_to_list};
 ghost use Rattle.pawn_typing.specs.Indexes as spec;
-ghost use Rattle.pawn_program.specs.View.{expr_view};
 ghost use Rattle.pawn_verdict.specs.Answers.{Answers};
+ghost use Rattle.check_types.specs.CodeView.{code_view};
 ghost use Rattle.check_types.specs.ExtentView.{extent_view};
 ghost use Rattle.check_types.specs.TypedView.{form_view, typed_view};
 ghost use Rattle.check_rules.specs.OperandView.{operand_view};
@@ -48,15 +48,15 @@ fn part_extent(size: u32, third: Option<u32>) -> Extent
 }
 
 /// An element, or a part with its own elements.
-fn part(alloc: Global, held: Held, code: Expr) -> Result<Form, Memory>
+fn part(alloc: Global, held: Held, code: Box<Expr>) -> Result<Form, Memory>
     ensures { IfOk result (λ form. form_view form
-        ≡ spec.part (held_view held) (expr_view code) (extent_view held.extent).inner) }
+        ≡ spec.part (held_view held) (code_view code) (extent_view held.extent).inner) }
 {
-    let (array, index) = (Box::new(alloc, held.array)?, Box::new(alloc, code)?);
+    let array = Box::new(alloc, held.array)?;
     Ok(match held.extent.second {
-        None => Form::Place(Scalar::Element(array, index), held.constant),
+        None => Form::Place(Scalar::Element(array, code), held.constant),
         Some(size) => Form::Whole(
-            Array::Row(array, index),
+            Array::Row(array, code),
             part_extent(size, held.extent.third),
             held.constant,
         ),
@@ -87,7 +87,7 @@ pub struct Whole {
 /// 56 for a constant index outside.
 fn reach(alloc: Global, at: At, x: Whole, i: Operand) -> Result<Typed, CheckFault>
     ensures { Answers typed_view (spec.index_in at (whole_view at x) (operand_view i)
-        (held_view x.held) (expr_view i.code)) result }
+        (held_view x.held) (code_view i.code)) result }
 {
     if is_outside(size_known(x.held.extent), i.value) {
         return Err(broken(INDEX_OUTSIDE, at.place));
@@ -111,7 +111,7 @@ pub fn index(alloc: Global, at: At, x: Typed, i: Typed) -> Result<Typed, CheckFa
     ensures { Answers typed_view (spec.index_rule at (typed_view x) (typed_view i)) result }
 {
     let held = array_held(at, x.form)?;
-    let code = cell(at, i.form)?;
+    let code = cell(alloc, at, i.form)?;
     let whole = Whole {
         held,
         tag: x.tag,
@@ -144,13 +144,13 @@ fn characters_known(extent: Extent) -> Option<u64>
 /// 56 for a constant index outside.
 fn reach_character(alloc: Global, at: At, x: Whole, i: Operand) -> Result<Typed, CheckFault>
     ensures { Answers typed_view (spec.character_in at (whole_view at x) (operand_view i)
-        (held_view x.held) (expr_view i.code) []) result }
+        (held_view x.held) (code_view i.code) []) result }
 {
     let held = x.held;
     if is_outside(characters_known(held.extent), i.value) {
         return Err(broken(INDEX_OUTSIDE, at.place));
     }
-    let place = Scalar::Char(Box::new(alloc, held.array)?, Box::new(alloc, i.code)?);
+    let place = Scalar::Char(Box::new(alloc, held.array)?, i.code);
     Ok(Typed {
         at,
         form: Form::Place(place, held.constant),
@@ -167,7 +167,7 @@ fn reach_character(alloc: Global, at: At, x: Whole, i: Operand) -> Result<Typed,
 /// 54 for more dimensions than one, 56 for a constant index outside.
 fn reach_line(alloc: Global, at: At, x: Whole, i: Operand) -> Result<Typed, CheckFault>
     ensures { Answers typed_view (spec.character_in at (whole_view at x) (operand_view i)
-        (held_view x.held) (expr_view i.code) (extent_view x.held.extent).inner) result }
+        (held_view x.held) (code_view i.code) (extent_view x.held.extent).inner) result }
 {
     match x.held.extent.second {
         Some(_) => Err(broken(ARRAY_NOT_INDEXED, at.place)),
@@ -186,7 +186,7 @@ pub fn character(alloc: Global, at: At, x: Typed, i: Typed) -> Result<Typed, Che
     ensures { Answers typed_view (spec.character_rule at (typed_view x) (typed_view i)) result }
 {
     let held = array_held(at, x.form)?;
-    let code = cell(at, i.form)?;
+    let code = cell(alloc, at, i.form)?;
     let whole = Whole {
         held,
         tag: x.tag,

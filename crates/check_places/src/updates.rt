@@ -1,8 +1,9 @@
 ghost use Rattle.std.specs.Prelude.{◌≡◌, ◌++◌, None, IfOk};
-ghost use Rattle.pawn_program.specs.View.{expr_view, scalar_view};
+ghost use Rattle.pawn_program.specs.View.{scalar_view};
 ghost use Rattle.pawn_typing.specs.Assignments as spec;
 ghost use Rattle.pawn_verdict.specs.Answers.{Answers};
 ghost use Rattle.pawn_verdict.specs.SignViews.{between_view};
+ghost use Rattle.check_types.specs.CodeView.{code_view};
 ghost use Rattle.check_types.specs.ContextView.{around_view};
 ghost use Rattle.check_types.specs.TypedView.{typed_view};
 ghost use Rattle.check_rules.specs.OperandView.{operand_view};
@@ -64,7 +65,7 @@ fn update_built_in(
     y: Operand,
 ) -> Result<Typed, CheckFault>
     ensures { Answers typed_view (spec.updated (around_view cx.now) at it (target_view at x)
-        (operand_view y) (scalar_view x.place) (expr_view y.code) None) result }
+        (operand_view y) (scalar_view x.place) (code_view y.code) None) result }
 {
     if divides_by_zero(it, y.value) {
         return Err(broken(CONSTANT_DIVIDE_BY_ZERO, at.place));
@@ -72,7 +73,7 @@ fn update_built_in(
     let passed = takes_either(cx, x.tag, y.tag);
     let second = y.made.tested_first(alloc, passed, y.at)?;
     let made = x.made.then(second)?;
-    let code = Expr::Update(x.place, it, Box::new(alloc, y.code)?);
+    let code = Box::new(alloc, Expr::Update(x.place, it, y.code))?;
     Ok(make_value(at, code, x.tag, None, made))
 }
 
@@ -87,14 +88,14 @@ fn update_by_user(
     y: Operand,
 ) -> Result<Typed, Memory>
     ensures { IfOk result (λ it. typed_view it ≡ updated_by (around_view cx.now) at by
-        (target_view at x) (operand_view y) (scalar_view x.place) (expr_view y.code)) }
+        (target_view at x) (operand_view y) (scalar_view x.place) (code_view y.code)) }
 {
     let given = function_tag(cx, by.function);
     let convert = converter(cx, given, x.tag);
     let second = test_given(alloc, cx, y.made, y.at, x.tag, given, convert)?;
     let made = x.made.then(second)?;
-    let operand = Box::new(alloc, y.code)?;
-    let code = Expr::UpdateBy(x.place, by.function, by.swapped, operand, convert);
+    let code = Expr::UpdateBy(x.place, by.function, by.swapped, y.code, convert);
+    let code = Box::new(alloc, code)?;
     Ok(make_value(at, code, x.tag, None, made))
 }
 
@@ -109,7 +110,7 @@ fn update_chosen(
     y: Operand,
 ) -> Result<Typed, CheckFault>
     ensures { Answers typed_view (spec.updated (around_view cx.now) at it (target_view at x)
-        (operand_view y) (scalar_view x.place) (expr_view y.code) by) result }
+        (operand_view y) (scalar_view x.place) (code_view y.code) by) result }
 {
     match by {
         None => update_built_in(alloc, cx, at, it, x, y),
@@ -140,7 +141,7 @@ fn update(
         (spec.update_rule (around_view cx.now) at it user (typed_view x) (typed_view y)) result }
 {
     let place = target(at, x.form)?;
-    let code = cell(at, y.form)?;
+    let code = cell(alloc, at, y.form)?;
     let by = chosen(cx, user, x.tag, y.tag);
     let to = Target {
         place,

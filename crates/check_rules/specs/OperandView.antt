@@ -1,14 +1,15 @@
 -- An operand whose cell is taken, as the rules of typing see it.
 use Rattle.std.specs.Prelude.{map}
-use Rattle.pawn_program.specs.View.{expr_view, object_view}
+use Rattle.pawn_program.specs.View.{object_view}
 use Rattle.pawn_typing.specs.Typed as plain
+use Rattle.check_types.specs.CodeView.{code_view}
 use Rattle.check_rules.specs.declared.operands.Operand.{Operand}
 
 -- an operand is the value that its cell has
 abbrev pub operand_view : Operand → plain.Typed
 operand_view x = record {
   at = x.at;
-  form = plain.Value (expr_view x.code);
+  form = plain.Value (code_view x.code);
   tag = x.tag;
   value = x.value;
   literals = map object_view x.made.literals;

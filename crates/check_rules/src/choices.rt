@@ -40,14 +40,10 @@ pub fn choice(
         (spec.choice_rule (around_view cx.now) at (typed_view x) (typed_view y)
         (typed_view z)) result }
 {
-    let test = cell(at, x.form)?;
-    let first = cell(at, y.form)?;
-    let second = cell(at, z.form)?;
-    let code = Expr::Cond(
-        Box::new(alloc, test)?,
-        Box::new(alloc, first)?,
-        Box::new(alloc, second)?,
-    );
+    let test = cell(alloc, at, x.form)?;
+    let first = cell(alloc, at, y.form)?;
+    let second = cell(alloc, at, z.form)?;
+    let code = Box::new(alloc, Expr::Cond(test, first, second))?;
     let value = choice_value(x.value, y.value, z.value);
     let passed = takes_either(cx, y.tag, z.tag);
     let second = z.made.tested_first(alloc, passed, z.at)?;

@@ -7,7 +7,7 @@ use pawn_tree::At;
 #[derive(Drop)]
 pub struct Operand {
     pub at: At,
-    pub code: Expr,
+    pub code: Box<Expr>,
     pub tag: u32,
     pub value: Option<i32>,
     pub made: Made,

@@ -5,6 +5,7 @@ ghost use Rattle.pawn_scopes.specs.Verdict.{Stands, after};
 ghost use Rattle.pawn_typing.specs.Operators as spec;
 ghost use Rattle.pawn_typing.specs.Typed as typed;
 ghost use Rattle.pawn_verdict.specs.Answers.{Answers};
+ghost use Rattle.check_types.specs.CodeView.{code_view};
 ghost use Rattle.check_types.specs.ContextView.{around_view};
 ghost use Rattle.check_types.specs.TypedView.{typed_view};
 ghost use Rattle.check_rules.specs.OperandView.{operand_view};
@@ -24,8 +25,8 @@ use pawn_verdict::{Between, CheckFault, between_of, broken};
 use std::alloc::Global;
 
 /// A value and no more.
-pub fn make_value(at: At, code: Expr, tag: u32, value: Option<i32>, made: Made) -> Typed
-    ensures { typed_view result ≡ value_of at (expr_view code) tag value
+pub fn make_value(at: At, code: Box<Expr>, tag: u32, value: Option<i32>, made: Made) -> Typed
+    ensures { typed_view result ≡ value_of at (code_view code) tag value
         (map object_view made.literals) made.warned }
 {
     Typed {
@@ -96,7 +97,7 @@ fn built_in(
     y: Operand,
 ) -> Result<Typed, CheckFault>
     ensures { Answers typed_view (spec.built_in (around_view cx.now) at it
-        (operand_view x) (operand_view y) (expr_view x.code) (expr_view y.code)) result }
+        (operand_view x) (operand_view y) (code_view x.code) (code_view y.code)) result }
 {
     if divides_by_zero(it, y.value) {
         return Err(broken(CONSTANT_DIVIDE_BY_ZERO, at.place));
@@ -104,7 +105,7 @@ fn built_in(
     let passed = takes_either(cx, x.tag, y.tag);
     let second = y.made.tested_first(alloc, passed, y.at)?;
     let made = x.made.then(second)?;
-    let code = Expr::Binary(it, Box::new(alloc, x.code)?, Box::new(alloc, y.code)?);
+    let code = Box::new(alloc, Expr::Binary(it, x.code, y.code))?;
     let value = operator_value(it, x.value, y.value);
     Ok(make_value(at, code, operator_tag(it, x.tag), value, made))
 }
@@ -120,14 +121,14 @@ fn operate_by(
     y: Operand,
 ) -> Result<Typed, CheckFault>
     ensures { Answers typed_view (spec.operate (around_view cx.now) at it
-        (operand_view x) (operand_view y) (expr_view x.code) (expr_view y.code) by) result }
+        (operand_view x) (operand_view y) (code_view x.code) (code_view y.code) by) result }
 {
     match by {
         None => built_in(alloc, cx, at, it, x, y),
         Some(by) => {
             let made = x.made.then(y.made)?;
-            let (l, r) = (Box::new(alloc, x.code)?, Box::new(alloc, y.code)?);
-            let code = Expr::Operate(by.function, l, r, by.swapped);
+            let code = Expr::Operate(by.function, x.code, y.code, by.swapped);
+            let code = Box::new(alloc, code)?;
             Ok(make_value(at, code, function_tag(cx, by.function), None, made))
         }
     }
@@ -151,8 +152,8 @@ fn operate(
     ensures { Answers typed_view
         (spec.operator_rule (around_view cx.now) at it user (typed_view x) (typed_view y)) result }
 {
-    let left = cell(at, x.form)?;
-    let right = cell(at, y.form)?;
+    let left = cell(alloc, at, x.form)?;
+    let right = cell(alloc, at, y.form)?;
     let by = chosen(cx, user, x.tag, y.tag);
     let first = Operand {
         at: x.at,
@@ -181,14 +182,12 @@ fn logical_value(it: Logical, left: Option<i32>, right: Option<i32>) -> Option<i
 }
 
 /// The code of `&&` or `||`.
-fn logical_code(alloc: Global, it: Logical, left: Expr, right: Expr) -> Result<Expr, Memory>
-    ensures { IfOk result (λ code. expr_view code
-        ≡ spec.logical_code it (expr_view left) (expr_view right)) }
+fn logical_code(it: Logical, left: Box<Expr>, right: Box<Expr>) -> Expr
+    ensures { expr_view result ≡ spec.logical_code it (code_view left) (code_view right) }
 {
-    let (l, r) = (Box::new(alloc, left)?, Box::new(alloc, right)?);
     match it {
-        Logical::And => Ok(Expr::And(l, r)),
-        Logical::Or => Ok(Expr::Or(l, r)),
+        Logical::And => Expr::And(left, right),
+        Logical::Or => Expr::Or(left, right),
     }
 }
 
@@ -197,9 +196,9 @@ fn logical_code(alloc: Global, it: Logical, left: Expr, right: Expr) -> Result<E
 fn decide(alloc: Global, at: At, it: Logical, x: Typed, y: Typed) -> Result<Typed, CheckFault>
     ensures { Answers typed_view (spec.logical_rule at it (typed_view x) (typed_view y)) result }
 {
-    let left = cell(at, x.form)?;
-    let right = cell(at, y.form)?;
-    let code = logical_code(alloc, it, left, right)?;
+    let left = cell(alloc, at, x.form)?;
+    let right = cell(alloc, at, y.form)?;
+    let code = Box::new(alloc, logical_code(it, left, right))?;
     let value = logical_value(it, x.value, y.value);
     Ok(make_value(at, code, TRUTH_TAG, value, x.made.then(y.made)?))
 }
@@ -216,9 +215,9 @@ fn last_value(left: Option<i32>, right: Option<i32>) -> Option<i32>
 fn take_last(alloc: Global, at: At, x: Typed, y: Typed) -> Result<Typed, CheckFault>
     ensures { Answers typed_view (spec.comma_rule at (typed_view x) (typed_view y)) result }
 {
-    let left = cell(at, x.form)?;
-    let right = cell(at, y.form)?;
-    let code = Expr::Seq(Box::new(alloc, left)?, Box::new(alloc, right)?);
+    let left = cell(alloc, at, x.form)?;
+    let right = cell(alloc, at, y.form)?;
+    let code = Box::new(alloc, Expr::Seq(left, right))?;
     let value = last_value(x.value, y.value);
     Ok(make_value(at, code, y.tag, value, x.made.then(y.made)?))
 }
@@ -281,14 +280,15 @@ fn operate_one(
         Stands (spec.operate_one (around_view cx.now) at (typed_view x) e
         (spec.unary_value at it tag (typed_view x) e) by))) result }
 {
-    let operand = Box::new(alloc, cell(at, x.form)?)?;
+    let operand = cell(alloc, at, x.form)?;
     match by {
         None => {
             let value = prefix_value(it, x.value);
-            Ok(make_value(at, Expr::Unary(it, operand), tag, value, x.made))
+            let code = Box::new(alloc, Expr::Unary(it, operand))?;
+            Ok(make_value(at, code, tag, value, x.made))
         }
         Some(by) => {
-            let code = Expr::OperateOne(by.function, operand);
+            let code = Box::new(alloc, Expr::OperateOne(by.function, operand))?;
             Ok(make_value(at, code, function_tag(cx, by.function), None, x.made))
         }
     }

@@ -32,8 +32,8 @@ pub fn prefix(
         Sign::Exclamation => negate_truth(alloc, cx, at, x),
         Sign::Minus => negate(alloc, cx, at, x),
         Sign::Tilde => invert(alloc, cx, at, x),
-        Sign::Increment => step(cx, at, true, true, x),
-        Sign::Decrement => step(cx, at, false, true, x),
+        Sign::Increment => step(alloc, cx, at, true, true, x),
+        Sign::Decrement => step(alloc, cx, at, false, true, x),
         _ => Err(broken(UNDEFINED, at.place)),
     }
 }
@@ -44,13 +44,19 @@ pub fn prefix(
 ///
 /// 54 for an array, 52 for what is no place, or a constant one.
 #[tactic(auto, using(crate::proofs::SignLaws::postfix_fails))]
-pub fn postfix(cx: &Context, at: At, sign: Sign, x: Typed) -> Result<Typed, CheckFault>
+pub fn postfix(
+    alloc: Global,
+    cx: &Context,
+    at: At,
+    sign: Sign,
+    x: Typed,
+) -> Result<Typed, CheckFault>
     ensures { Answers typed_view
         (spec.postfix_rule (around_view cx.now) at sign (typed_view x)) result }
 {
     match sign {
-        Sign::Increment => step(cx, at, true, false, x),
-        Sign::Decrement => step(cx, at, false, false, x),
+        Sign::Increment => step(alloc, cx, at, true, false, x),
+        Sign::Decrement => step(alloc, cx, at, false, false, x),
         _ => Err(broken(UNDEFINED, at.place)),
     }
 }

@@ -12,6 +12,7 @@ use pawn_tags::{Choice, Op};
 use pawn_tree::At;
 use pawn_typing::{ARRAY_NOT_INDEXED, NOT_ASSIGNABLE};
 use pawn_verdict::{CheckFault, broken};
+use std::alloc::Global;
 
 /// The one cell that is written.
 ///
@@ -59,12 +60,19 @@ fn step_code(up: bool, is_prefix: bool, place: Scalar, by: Option<Choice>) -> Ex
 
 /// `++` or `--`, before or behind its operand.
 #[tactic(auto, unfolding(pawn_typing::specs::Assignments::step_rule), using(pawn_verdict::proofs::VerdictLaws::verdicts))]
-pub fn step(cx: &Context, at: At, up: bool, is_prefix: bool, x: Typed) -> Result<Typed, CheckFault>
+pub fn step(
+    alloc: Global,
+    cx: &Context,
+    at: At,
+    up: bool,
+    is_prefix: bool,
+    x: Typed,
+) -> Result<Typed, CheckFault>
     ensures { Answers typed_view
         (spec.step_rule (around_view cx.now) at up is_prefix (typed_view x)) result }
 {
     let place = target(at, x.form)?;
     let by = chosen_for_one(cx, step_op(up), x.tag);
-    let code = step_code(up, is_prefix, place, by);
+    let code = Box::new(alloc, step_code(up, is_prefix, place, by))?;
     Ok(make_value(at, code, x.tag, None, x.made))
 }

@@ -1,6 +1,5 @@
 ghost use Rattle.std.specs.Prelude.{◌≡◌, [], ◌∷◌, IfOk};
 ghost use Rattle.pawn_program.specs.Program as code;
-ghost use Rattle.pawn_program.specs.View.{stmt_view as code_view};
 ghost use Rattle.pawn_scopes.specs.Verdict.{Stands, after};
 ghost use Rattle.pawn_tree.specs.View.{expr_view, first_view};
 ghost use Rattle.pawn_values.specs.Parts.{judged};
@@ -12,7 +11,7 @@ ghost use Rattle.check_parts.specs.JudgedView.{judged_view};
 ghost use Rattle.check_types.specs.TypedView.{typed_view};
 ghost use Rattle.check_locals.specs.PointView.{point_view};
 ghost use Rattle.check_locals.specs.Tells.{Tells, told as plain_told};
-ghost use Rattle.check_statements.specs.StoodView.{stood_view};
+ghost use Rattle.check_statements.specs.StoodView.{jump_view, stood_view};
 ghost use Rattle.check_simple.specs.Judging.{behind_first_in, first_done_in, first_part_in};
 ghost use Rattle.check_simple.specs.Judging.{part_in};
 
@@ -20,7 +19,7 @@ use super::setting::Setting;
 use super::simple::do_stmt;
 use super::values::part;
 use check_locals::{Point, judge_behind, locals};
-use check_statements::{Stood, in_a_loop};
+use check_statements::{Jump, Stood, in_a_loop};
 use check_types::{Made, Typed};
 use pawn_program::Stmt as Code;
 use pawn_tree::{At, Expr, First, Storage};
@@ -34,8 +33,8 @@ use std::alloc::Global;
 /// # Errors
 ///
 /// 63 outside of a loop.
-pub fn jump(alloc: Global, at: At, in_loop: bool, s: Code) -> Result<Option<Stood>, CheckFault>
-    ensures { Tells stood_view (spec.in_a_loop at in_loop (code_view s)) result }
+pub fn jump(alloc: Global, at: At, in_loop: bool, s: Jump) -> Result<Option<Stood>, CheckFault>
+    ensures { Tells stood_view (spec.in_a_loop at in_loop (jump_view s)) result }
 {
     Ok(Some(in_a_loop(alloc, at, in_loop, s)?))
 }

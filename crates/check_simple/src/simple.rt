@@ -1,6 +1,6 @@
 ghost use Rattle.std.specs.Prelude.{◌≡◌, [], ◌∷◌, pos, false, true, map, option_map, IfOk};
 ghost use Rattle.pawn_program.specs.Program as code;
-ghost use Rattle.pawn_program.specs.View.{expr_view as code_view, object_view};
+ghost use Rattle.pawn_program.specs.View.{object_view};
 ghost use Rattle.pawn_scopes.specs.Verdict.{Stands, after};
 ghost use Rattle.pawn_tree.specs.View.{expr_view};
 ghost use Rattle.pawn_typing.specs.Tests.{sent};
@@ -10,6 +10,7 @@ ghost use Rattle.pawn_bodies.specs.Points.{beyond};
 ghost use Rattle.pawn_bodies.specs.States as states;
 ghost use Rattle.pawn_bodies.specs.Statements as spec;
 ghost use Rattle.pawn_bodies.specs.Stood.{stood};
+ghost use Rattle.check_types.specs.CodeView.{code_view};
 ghost use Rattle.check_types.specs.ContextView.{around_view};
 ghost use Rattle.check_automata.specs.AutomataView.{automata_view};
 ghost use Rattle.check_locals.specs.PointView.{point_view};
@@ -178,7 +179,8 @@ fn bare_return(alloc: Global, at: At) -> Result<Option<Stood>, CheckFault>
         (Stands (spec.return_rule at false (code.Const (pos 0)) [] [])) result }
 {
     let made = Made::nothing(alloc);
-    Ok(Some(return_rule(alloc, at, false, Code::Const(0), made)?))
+    let zero = Box::new(alloc, Code::Const(0))?;
+    Ok(Some(return_rule(alloc, at, false, zero, made)?))
 }
 
 /// A `return`, whose value is sent to the function's result.

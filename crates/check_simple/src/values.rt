@@ -120,7 +120,7 @@ pub fn value(
     let Some(it) = it else {
         return Ok(None);
     };
-    Ok(Some(use_at(at, it)?))
+    Ok(Some(use_at(alloc, at, it)?))
 }
 
 /// One cell, or 0 where none stands.
@@ -142,7 +142,7 @@ pub fn value_or_zero(
         beyond (point_view point.old) (literals_of (option_map expr_view e.now)) 0) }
 {
     match e {
-        None => Ok(Some(zero_used(alloc, at))),
+        None => Ok(Some(zero_used(alloc, at)?)),
         Some(e) => value(alloc, setting, point, at, e),
     }
 }

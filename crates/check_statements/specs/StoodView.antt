@@ -1,12 +1,19 @@
 -- Typed statements, as the rules of statements see them.
 use Rattle.std.specs.Prelude.{List, Option, None, Some, map}
-use Rattle.pawn_program.specs.Program.{Stmt, no_else, otherwise}
-use Rattle.pawn_program.specs.View.{expr_view, perhaps_view, stmt_view, slot_view, object_view}
+use Rattle.std.specs.declared.alloc.Global.{Global}
+use Rattle.std.specs.declared.boxed.Box.{Box}
+use Rattle.pawn_program.specs.Program as code
+use Rattle.pawn_program.specs.Program.{Stmt, Perhaps, no_else, otherwise}
+use Rattle.pawn_program.specs.View.{stmt_view, slot_view, object_view}
+use Rattle.pawn_program.specs.declared.node.Expr.{Expr}
 use Rattle.pawn_bodies.specs.Stood as plain
 use Rattle.pawn_bodies.specs.Statements as rules
+use Rattle.check_types.specs.CodeView.{code_view}
 use Rattle.check_statements.specs.declared.stood.Returned.{Returned}
 use Rattle.check_statements.specs.declared.stood.Parts.{Parts}
 use Rattle.check_statements.specs.declared.stood.Stood.{Stood}
+use Rattle.check_statements.specs.declared.rules.Jump.{Jump}
+use Rattle.check_statements.specs.declared.rules.Jump.TheVariants as jump
 use Rattle.check_statements.specs.declared.used.Used.{Used}
 use Rattle.check_statements.specs.declared.used.Maybe.{Maybe}
 
@@ -28,22 +35,32 @@ stood_of stmts parts = record {
 abbrev pub stood_view : Stood → plain.Stood
 stood_view it = stood_of (map stmt_view it.stmts.items) it.parts
 
+-- `break` or `continue`
+abbrev pub jump_view : Jump → Stmt
+jump_view jump.Break = code.Break
+jump_view jump.Continue = code.Continue
+
 -- ---- values
 
 -- a value that a statement uses
 abbrev pub used_view : Used → rules.Used
 used_view it = record {
-  expr = expr_view it.expr;
+  expr = code_view it.expr;
   tag = it.tag;
   at = it.at;
   objects = map object_view it.made.literals;
   warned = it.made.warned;
 }
 
+-- the code of a value that may be absent
+abbrev pub perhaps_code : Option (Box Expr Global) → Perhaps
+perhaps_code None = code.Absent
+perhaps_code (Some it) = code.Present (code_view it)
+
 -- a value that may be absent
 abbrev pub maybe_view : Maybe → rules.Maybe
 maybe_view it = record {
-  expr = perhaps_view it.expr;
+  expr = perhaps_code it.expr;
   objects = map object_view it.made.literals;
   warned = it.made.warned;
 }

@@ -1,11 +1,13 @@
 ghost use Rattle.std.specs.Prelude.{◌≡◌, [], ◌∷◌, ◌++◌, map, IfOk};
 ghost use Rattle.pawn_program.specs.Program as code;
-ghost use Rattle.pawn_program.specs.View.{else_view, expr_view, object_view, slot_view, stmt_view};
+ghost use Rattle.pawn_program.specs.View.{else_view, object_view, perhaps_view, slot_view, stmt_view};
 ghost use Rattle.pawn_bodies.specs.Stood.{stood};
 ghost use Rattle.pawn_bodies.specs.Statements as spec;
 ghost use Rattle.pawn_verdict.specs.Answers.{Answers};
-ghost use Rattle.check_statements.specs.StoodView.{maybe_view, other_view, returned_view};
-ghost use Rattle.check_statements.specs.StoodView.{stood_view, used_view};
+ghost use Rattle.check_types.specs.CodeView.{code_view};
+ghost use Rattle.check_statements.specs.StoodView.{jump_view, maybe_view, other_view};
+ghost use Rattle.check_statements.specs.StoodView.{perhaps_code, returned_view, stood_view};
+ghost use Rattle.check_statements.specs.StoodView.{used_view};
 
 use super::stood::{Parts, Returned, Stood, one_of};
 use super::used::{Maybe, Used};
@@ -54,7 +56,7 @@ pub fn otherwise_of(alloc: Global, other: Option<Stood>) -> Result<Otherwise, Me
 pub fn do_rule(alloc: Global, x: Used) -> Result<Stood, Memory>
     ensures { IfOk result (λ it. stood_view it ≡ spec.do_rule (used_view x)) }
 {
-    Ok(Stood::of(alloc, Stmt::Do(x.expr), x.made)?)
+    Ok(Stood::of(alloc, Stmt::Do(Box::into_inner(x.expr)), x.made)?)
 }
 
 /// A block of statements.
@@ -76,7 +78,11 @@ pub fn if_rule(alloc: Global, c: Used, s: Stood, other: Option<Stood>) -> Result
     let other = otherwise_of(alloc, other)?;
     let inner = s.parts.then(other.parts)?;
     let parts = inner.behind(c.made)?;
-    Ok(Stood::with(alloc, Stmt::If(c.expr, body, other.stmt), parts)?)
+    Ok(Stood::with(
+        alloc,
+        Stmt::If(Box::into_inner(c.expr), body, other.stmt),
+        parts,
+    )?)
 }
 
 /// A `while` with its parts.
@@ -86,7 +92,7 @@ pub fn while_rule(alloc: Global, c: Used, s: Stood) -> Result<Stood, Memory>
 {
     let body = Box::new(alloc, one_of(alloc, s.stmts)?)?;
     let parts = s.parts.behind(c.made)?;
-    Ok(Stood::with(alloc, Stmt::While(c.expr, body), parts)?)
+    Ok(Stood::with(alloc, Stmt::While(Box::into_inner(c.expr), body), parts)?)
 }
 
 /// A `do` with its parts.
@@ -96,7 +102,7 @@ pub fn do_while_rule(alloc: Global, s: Stood, c: Used) -> Result<Stood, Memory>
 {
     let body = Box::new(alloc, one_of(alloc, s.stmts)?)?;
     let parts = s.parts.then(Parts::of(alloc, c.made))?;
-    Ok(Stood::with(alloc, Stmt::DoWhile(body, c.expr), parts)?)
+    Ok(Stood::with(alloc, Stmt::DoWhile(body, Box::into_inner(c.expr)), parts)?)
 }
 
 /// What the parts of a `for` make beside its statements.
@@ -116,6 +122,16 @@ fn for_parts(first: Parts, c: Made, step: Made, s: Parts) -> Result<Parts, Memor
     Ok(first.then(inner)?)
 }
 
+/// An expression that may be absent, as a node holds it.
+fn unboxed(code: Option<Box<Expr>>) -> Option<Expr>
+    ensures { perhaps_view result ≡ perhaps_code code }
+{
+    match code {
+        None => None,
+        Some(code) => Some(Box::into_inner(code)),
+    }
+}
+
 /// What is done first, the condition and the step, and the body.
 #[tactic(auto, using(crate::proofs::NodeLaws::nodes))]
 pub fn for_rule(
@@ -131,7 +147,8 @@ pub fn for_rule(
     let parts = for_parts(first.parts, c.made, step.made, s.parts)?;
     let body = Box::new(alloc, one_of(alloc, s.stmts)?)?;
     let stmts = List::from_vec(first.stmts);
-    Ok(Stood::with(alloc, Stmt::For(stmts, c.expr, step.expr, body), parts)?)
+    let stmt = Stmt::For(stmts, unboxed(c.expr), unboxed(step.expr), body);
+    Ok(Stood::with(alloc, stmt, parts)?)
 }
 
 /// A `return` that gives a value or doesn't.
@@ -139,11 +156,11 @@ pub fn return_rule(
     alloc: Global,
     at: At,
     gives: bool,
-    expr: Expr,
+    expr: Box<Expr>,
     made: Made,
 ) -> Result<Stood, Memory>
     ensures { IfOk result (λ it. stood_view it ≡
-        spec.return_rule at gives (expr_view expr) (map object_view made.literals) made.warned) }
+        spec.return_rule at gives (code_view expr) (map object_view made.literals) made.warned) }
 {
     let Parts {
         slots,
@@ -156,34 +173,34 @@ pub fn return_rule(
         made,
         returns,
     };
-    Ok(Stood::with(alloc, Stmt::Return(expr), parts)?)
+    Ok(Stood::with(alloc, Stmt::Return(Box::into_inner(expr)), parts)?)
 }
 
 /// The end of the run.
 pub fn exit_rule(alloc: Global, x: Used) -> Result<Stood, Memory>
     ensures { IfOk result (λ it. stood_view it ≡
-        stood (code.Exit (expr_view x.expr) x.tag ∷ [])
+        stood (code.Exit (code_view x.expr) x.tag ∷ [])
         (map object_view x.made.literals) x.made.warned) }
 {
-    Ok(Stood::of(alloc, Stmt::Exit(x.expr, x.tag), x.made)?)
+    Ok(Stood::of(alloc, Stmt::Exit(Box::into_inner(x.expr), x.tag), x.made)?)
 }
 
 /// A sleep.
 pub fn sleep_rule(alloc: Global, x: Used) -> Result<Stood, Memory>
     ensures { IfOk result (λ it. stood_view it ≡
-        stood (code.Sleep (expr_view x.expr) x.tag ∷ [])
+        stood (code.Sleep (code_view x.expr) x.tag ∷ [])
         (map object_view x.made.literals) x.made.warned) }
 {
-    Ok(Stood::of(alloc, Stmt::Sleep(x.expr, x.tag), x.made)?)
+    Ok(Stood::of(alloc, Stmt::Sleep(Box::into_inner(x.expr), x.tag), x.made)?)
 }
 
 /// A condition that has to hold.
 pub fn assert_rule(alloc: Global, x: Used) -> Result<Stood, Memory>
     ensures { IfOk result (λ it. stood_view it ≡
-        stood (code.Assert (expr_view x.expr) ∷ [])
+        stood (code.Assert (code_view x.expr) ∷ [])
         (map object_view x.made.literals) x.made.warned) }
 {
-    Ok(Stood::of(alloc, Stmt::Assert(x.expr), x.made)?)
+    Ok(Stood::of(alloc, Stmt::Assert(Box::into_inner(x.expr)), x.made)?)
 }
 
 /// A state of an automaton that is reached under a condition.
@@ -191,20 +208,42 @@ pub fn state_rule(alloc: Global, automaton: u32, state: u32, c: Maybe) -> Result
     ensures { IfOk result (λ it. stood_view it ≡
         spec.state_rule (record { automaton = automaton; state = state }) (maybe_view c)) }
 {
-    Ok(Stood::of(alloc, Stmt::State(automaton, state, c.expr), c.made)?)
+    Ok(Stood::of(
+        alloc,
+        Stmt::State(automaton, state, unboxed(c.expr)),
+        c.made,
+    )?)
 }
 
 /// A statement that stands in a loop alone.
+#[derive(Clone, Copy, Debug, PartialEq, Eq)]
+pub enum Jump {
+    Break,
+    Continue,
+}
+
+impl Jump {
+    fn stmt(self) -> Stmt
+        ensures { stmt_view result ≡ jump_view self }
+    {
+        match self {
+            Jump::Break => Stmt::Break,
+            Jump::Continue => Stmt::Continue,
+        }
+    }
+}
+
+/// `break` or `continue` with its surroundings.
 ///
 /// # Errors
 ///
 /// 63 outside of one.
 #[tactic(auto, using(pawn_verdict::proofs::VerdictLaws::verdicts))]
-pub fn in_a_loop(alloc: Global, at: At, in_loop: bool, stmt: Stmt) -> Result<Stood, CheckFault>
-    ensures { Answers stood_view (spec.in_a_loop at in_loop (stmt_view stmt)) result }
+pub fn in_a_loop(alloc: Global, at: At, in_loop: bool, jump: Jump) -> Result<Stood, CheckFault>
+    ensures { Answers stood_view (spec.in_a_loop at in_loop (jump_view jump)) result }
 {
     if in_loop {
-        Ok(Stood::of(alloc, stmt, Made::nothing(alloc))?)
+        Ok(Stood::of(alloc, jump.stmt(), Made::nothing(alloc))?)
     } else {
         Err(broken(OUTSIDE_LOOP, at.place))
     }

@@ -1,4 +1,4 @@
-ghost use Rattle.std.specs.Prelude.{◌≡◌};
+ghost use Rattle.std.specs.Prelude.{◌≡◌, IfOk};
 ghost use Rattle.pawn_scopes.specs.Verdict.{Stands, after};
 ghost use Rattle.pawn_typing.specs.Typed.{cell as plain_cell};
 ghost use Rattle.pawn_bodies.specs.Statements as spec;
@@ -8,6 +8,7 @@ ghost use Rattle.check_statements.specs.StoodView.{maybe_view, used_view};
 
 use check_names::{UNTAGGED, cell};
 use check_types::{Made, Typed};
+use pawn_base::Memory;
 use pawn_program::Expr;
 use pawn_tree::At;
 use pawn_verdict::CheckFault;
@@ -16,7 +17,7 @@ use std::alloc::Global;
 /// A value with its tag and first token, and what was made and found in it.
 #[derive(Drop)]
 pub struct Used {
-    pub expr: Expr,
+    pub expr: Box<Expr>,
     pub tag: u32,
     pub at: At,
     pub made: Made,
@@ -25,7 +26,7 @@ pub struct Used {
 /// A value that may be absent.
 #[derive(Drop)]
 pub struct Maybe {
-    pub expr: Option<Expr>,
+    pub expr: Option<Box<Expr>>,
     pub made: Made,
 }
 
@@ -52,15 +53,16 @@ impl Maybe {
 }
 
 /// 0 without a tag, where no value stands.
-pub fn zero_used(alloc: Global, at: At) -> Used
-    ensures { used_view result ≡ spec.zero_used at }
+pub fn zero_used(alloc: Global, at: At) -> Result<Used, Memory>
+    ensures { IfOk result (λ x. used_view x ≡ spec.zero_used at) }
 {
-    Used {
-        expr: Expr::Const(0),
+    let expr = Box::new(alloc, Expr::Const(0))?;
+    Ok(Used {
+        expr,
         tag: UNTAGGED,
         at,
         made: Made::nothing(alloc),
-    }
+    })
 }
 
 /// One cell, wanted by the node that begins at a token.
@@ -69,11 +71,11 @@ pub fn zero_used(alloc: Global, at: At) -> Used
 ///
 /// 54 for an array.
 #[tactic(auto, using(pawn_verdict::proofs::VerdictLaws::verdicts))]
-pub fn use_at(at: At, x: Typed) -> Result<Used, CheckFault>
+pub fn use_at(alloc: Global, at: At, x: Typed) -> Result<Used, CheckFault>
     ensures { Answers used_view
         (after (plain_cell at (typed_view x)) (λ e. Stands (spec.used (typed_view x) e))) result }
 {
-    let expr = cell(at, x.form)?;
+    let expr = cell(alloc, at, x.form)?;
     Ok(Used {
         expr,
         tag: x.tag,

@@ -3,10 +3,10 @@ use Rattle.std.proofs.Common.{◌≡◌, List, [], ◌∷◌, ◌++◌, map, Opt
 use Rattle.std.specs.declared.boxed.Box.{Box}
 use Rattle.std.specs.declared.alloc.Global.{Global}
 use Rattle.pawn_program.specs.Program as code
-use Rattle.pawn_program.specs.View.{expr_view, stmt_view, cases_view, else_view, slot_view}
+use Rattle.pawn_program.specs.View.{cases_view, else_view, slot_view}
 use Rattle.pawn_program.specs.View.{object_view}
 use Rattle.pawn_program.specs.declared.node.Stmt as held_stmt
-use Rattle.pawn_program.proofs.ViewLaws.{stmt_view-Switch}
+use Rattle.check_types.specs.CodeView.{code_view}
 use Rattle.check_statements.specs.declared.used.Used as held_used
 use Rattle.check_statements.specs.declared.stood.Parts.{Parts}
 use Rattle.check_statements.specs.StoodView.{stood_of, used_view, returned_view}
@@ -53,13 +53,13 @@ pub switch_is : (e : held_used.Used) (it : Cases) (other : Other)
     → map object_view all.made.literals
     ≡ map object_view e.made.literals ++ map object_view inner.made.literals
     → all.returns ≡ inner.returns → all.made.warned ≡ e.made.warned ++ inner.made.warned
-    → stood_of (stmt_view (held_stmt.Switch e.expr it.cases o) ∷ []) all
+    → stood_of (code.Switch (code_view e.expr) (cases_view it.cases) (else_view o) ∷ []) all
     ≡ switch_rule (used_view e) (cased_view it) other
 switch_is e it other o po inner all h s1 o1 r1 w1 s2 o2 r2 w2 s3 o3 r3 w3 =
-    stood_eq (stood_of (stmt_view (held_stmt.Switch e.expr it.cases o) ∷ []) all)
+    stood_eq
+    (stood_of (code.Switch (code_view e.expr) (cases_view it.cases) (else_view o) ∷ []) all)
     (switch_rule (used_view e) (cased_view it) other)
-    (ap (λ s. s ∷ []) (stmt_view-Switch e.expr it.cases o
-    ∙ ap (λ x. code.Switch (expr_view e.expr) (cases_view it.cases) x) h))
+    (ap (λ x. code.Switch (code_view e.expr) (cases_view it.cases) x ∷ []) h)
     (ap (λ xs. map slot_view xs) s3 ∙ s2 ∙ ap (λ xs. map slot_view it.parts.slots ++ xs) s1)
     (o3 ∙ ap (λ xs. map object_view e.made.literals ++ xs)
     (o2 ∙ ap (λ xs. map object_view it.parts.made.literals ++ xs) o1))

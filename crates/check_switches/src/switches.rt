@@ -1,11 +1,12 @@
 ghost use Rattle.std.specs.Prelude.{◌≡◌, map, option_map, IfOk};
 ghost use Rattle.pawn_program.specs.Program as code;
-ghost use Rattle.pawn_program.specs.View.{cases_view, stmt_view};
+ghost use Rattle.pawn_program.specs.View.{cases_view, else_view, stmt_view};
 ghost use Rattle.pawn_scopes.specs.Verdict.{Stands, after, both};
 ghost use Rattle.pawn_typing.specs.Rule.{pair};
 ghost use Rattle.pawn_bodies.specs.Statements as spec;
 ghost use Rattle.pawn_bodies.specs.Switches.{apart as plain_apart};
 ghost use Rattle.pawn_verdict.specs.Answers.{Answers};
+ghost use Rattle.check_types.specs.CodeView.{code_view};
 ghost use Rattle.check_types.specs.ContextView.{around_view};
 ghost use Rattle.check_types.specs.TypedView.{typed_view};
 ghost use Rattle.check_statements.specs.StoodView.{other_view, stood_view, used_view};
@@ -20,7 +21,7 @@ use super::parts::{CasePart, CaseParts};
 use check_statements::{Parts, Stood, Used, one_of, otherwise_of, use_at};
 use check_types::{Context, Made, Typed};
 use pawn_base::{List, Memory};
-use pawn_program::{Case, Stmt};
+use pawn_program::{Case, Expr, Stmt};
 use pawn_tree::At;
 use pawn_verdict::CheckFault;
 use std::alloc::Global;
@@ -132,6 +133,14 @@ fn cased(
     Ok(done)
 }
 
+/// A `switch` as the program holds it.
+fn switch_node(value: Box<Expr>, cases: List<Case>, other: Option<Box<Stmt>>) -> Stmt
+    ensures { stmt_view result ≡
+        code.Switch (code_view value) (cases_view cases) (else_view other) }
+{
+    Stmt::Switch(Box::into_inner(value), cases, other)
+}
+
 /// A `switch` with its parts.
 fn switch_rule(alloc: Global, e: Used, it: Cases, other: Option<Stood>) -> Result<Stood, Memory>
     ensures { IfOk result (λ x. stood_view x ≡
@@ -140,7 +149,8 @@ fn switch_rule(alloc: Global, e: Used, it: Cases, other: Option<Stood>) -> Resul
     let other = otherwise_of(alloc, other)?;
     let inner = it.parts.then(other.parts)?;
     let parts = inner.behind(e.made)?;
-    Ok(Stood::with(alloc, Stmt::Switch(e.expr, it.cases, other.stmt), parts)?)
+    let stmt = switch_node(e.expr, it.cases, other.stmt);
+    Ok(Stood::with(alloc, stmt, parts)?)
 }
 
 /// A `switch` by its parts, whose ranges don't touch.
@@ -164,7 +174,7 @@ fn switch_bare(
         (λ ranges. Stands (spec.switch_rule e it (other_view other))))) result }
 {
     let tag = x.tag;
-    let e = use_at(at, x)?;
+    let e = use_at(alloc, at, x)?;
     let it = cased(alloc, cx, at, tag, parts.items)?;
     apart(alloc, at, it.ranges.as_slice())?;
     Ok(switch_rule(alloc, e, it, other)?)

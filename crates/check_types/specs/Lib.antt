@@ -1,4 +1,5 @@
 pub mod ExtentView
+pub mod CodeView
 pub mod MeaningView
 pub mod TypedView
 pub mod ContextView

@@ -1,15 +1,16 @@
 -- A typed expression, as the rules of typing see it.
 use Rattle.std.specs.Prelude.{map}
-use Rattle.pawn_program.specs.View.{scalar_view, array_view, expr_view, object_view}
+use Rattle.pawn_program.specs.View.{scalar_view, array_view, object_view}
 use Rattle.pawn_typing.specs.Typed as plain
 use Rattle.check_types.specs.declared.typed.Form.{Form}
 use Rattle.check_types.specs.declared.typed.Form.TheVariants as form
 use Rattle.check_types.specs.declared.typed.Typed.{Typed}
 use Rattle.check_types.specs.ExtentView.{extent_view}
+use Rattle.check_types.specs.CodeView.{code_view}
 
 -- what an expression is to its surroundings
 abbrev pub form_view : Form → plain.Form
-form_view (form.Value e) = plain.Value (expr_view e)
+form_view (form.Value e) = plain.Value (code_view e)
 form_view (form.Place place constant) = plain.Place (scalar_view place) constant
 form_view (form.Whole whole extent constant) =
     plain.Whole (array_view whole) (extent_view extent) constant

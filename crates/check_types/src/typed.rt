@@ -7,7 +7,7 @@ use pawn_tree::At;
 #[derive(Drop)]
 pub enum Form {
     /// A value and no more.
-    Value(Expr),
+    Value(Box<Expr>),
     /// A place of one cell, and whether it is constant.
     Place(Scalar, bool),
     /// An array or a part of one, how far it reaches, and whether it is constant.

@@ -1,12 +1,13 @@
 -- Constants, sizes and first values, as the rules of values see them.
 use Rattle.std.specs.Prelude.{[], ◌∷◌, map}
 use Rattle.pawn_arrays.specs.Sizes.{inner_sizes, sizes}
-use Rattle.pawn_program.specs.View.{expr_view, object_view}
+use Rattle.pawn_program.specs.View.{object_view}
 use Rattle.pawn_values.specs.Constants as constants
 use Rattle.pawn_values.specs.Sizes as plain
 use Rattle.pawn_values.specs.FirstValues as firsts
 use Rattle.pawn_values.specs.Arrays as arrays
 use Rattle.pawn_values.specs.Cells as cells
+use Rattle.check_types.specs.CodeView.{code_view}
 use Rattle.check_values.specs.declared.constants.Constant.{Constant}
 use Rattle.check_values.specs.declared.sizes.Dimension.{Dimension}
 use Rattle.check_values.specs.declared.sizes.Given.{Given}
@@ -61,7 +62,7 @@ array_value_view it =
 -- what a local variable begins with
 abbrev pub local_view : LocalValue → cells.LocalValue
 local_view it = record {
-  code = expr_view it.code;
+  code = code_view it.code;
   literals = map object_view it.made.literals;
   warned = it.made.warned;
 }

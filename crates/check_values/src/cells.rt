@@ -31,7 +31,7 @@ fn static_rule(alloc: Global, cx: &Context, at: At, tag: u32, x: Typed) -> Resul
     ensures { Answers first_view
         (spec.static_rule (around_view cx.now) at tag (typed_view x)) result }
 {
-    let code = cell(at, x.form)?;
+    let code = cell(alloc, at, x.form)?;
     let operand = Operand {
         at: x.at,
         code,
@@ -101,7 +101,7 @@ pub fn static_value(
 /// What a local variable of one cell begins with.
 #[derive(Drop)]
 pub struct LocalValue {
-    pub code: Expr,
+    pub code: Box<Expr>,
     pub made: Made,
 }
 
@@ -117,7 +117,7 @@ fn local_rule(
     ensures { Answers local_view
         (spec.local_rule (around_view cx.now) at tag (typed_view x)) result }
 {
-    let code = cell(at, x.form)?;
+    let code = cell(alloc, at, x.form)?;
     let sent = send(alloc, cx, &[tag], x.tag, code)?;
     let made = x.made.tested_first(alloc, sent.passed, x.at)?;
     Ok(LocalValue {
@@ -167,7 +167,7 @@ pub fn local_value(
 {
     match init {
         None => Ok(LocalValue {
-            code: Expr::Const(0),
+            code: Box::new(alloc, Expr::Const(0))?,
             made: Made::nothing(alloc),
         }),
         Some(init) => local_given(alloc, cx, scopes, before, at, tag, init),

@@ -19,7 +19,7 @@ loop-i-preserved c =
     c.as_slice-shown.ensures.value
     ∙ (c.in_ok-all.ensures ∙ ap (λ (slots : List (Option Filled)). map shown_in slots)
     c.as_slice.ensures.value) in
-    rw c.in_ok-push.ensures.ok (args_more _ _ _ _ _ _ _ _ _ c.loop-i.invariant
+    rw c.in_ok-push_boxed.ensures (args_more _ _ _ _ _ _ _ _ _ c.loop-i.invariant
     (omega arith) c.index-params-i.is (omega arith) it
     (c.in_ok-arg.ensures c.args.slots.items shown))
 

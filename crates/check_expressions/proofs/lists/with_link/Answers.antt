@@ -1,12 +1,35 @@
-use Rattle.std.proofs.Common.{map}
+use Rattle.std.proofs.Common.{◌≡◌, Global, Vec}
+use Rattle.std.proofs.lemmas.Result.{err_from_is_err_and}
+use Rattle.check_chains.specs.declared.chains.Compared as held_compared
 use Rattle.check_chains.specs.Compared.{compared_view}
-use Rattle.check_expressions.proofs.SoFarLaws.{list_stands, seen_behind}
+use Rattle.check_expressions.proofs.CountLaws.{links_seen}
+use Rattle.check_expressions.proofs.PairLaws.{judged_fail, judged_stand}
+use Rattle.check_expressions.proofs.SoFarLaws.{list_fails, list_stands, seen_behind}
 use Rattle.check_expressions.proofs.lists.with_link.Goals as goal
+
+pub returns-in_err-all-clause-so_far : goal.returns-in_err-all-clause-so_far
+returns-in_err-all-clause-so_far c =
+    λ whole rest w h k.
+    let p = err_from_is_err_and c.from_residual.result c.from_residual.ensures.1 in
+    rw (p.1, p.2) (list_fails links_seen compared_view whole rest w c.args.all c.args.it _
+    c.in_err-all.ensures h k)
+
+pub returns-in_err-all-clause-judged : goal.returns-in_err-all-clause-judged
+returns-in_err-all-clause-judged c =
+    λ m n h.
+    let p = err_from_is_err_and c.from_residual.result c.from_residual.ensures.1 in
+    rw (p.1, p.2) (judged_fail (m ≡ n) c.args.all c.args.it (Vec held_compared.Compared Global) _
+    c.in_err-all.ensures h)
 
 pub returns-clause-so_far : goal.returns-clause-so_far
 returns-clause-so_far c =
     λ whole rest w h k.
     seen_behind compared_view whole rest c.in_ok-all.all.items c.push.new.self.items c.in_ok-all.it
-    (list_stands (λ all. map compared_view all.items) compared_view whole rest w c.args.all
+    (list_stands links_seen compared_view whole rest w c.args.all
     c.args.it c.in_ok-all.all c.in_ok-all.it c.in_ok-all.ensures h k)
     c.in_ok-push.ensures.items
+
+pub returns-clause-judged : goal.returns-clause-judged
+returns-clause-judged c =
+    λ m n h.
+    judged_stand (m ≡ n) c.args.all c.args.it c.in_ok-all.all c.in_ok-all.it c.in_ok-all.ensures h

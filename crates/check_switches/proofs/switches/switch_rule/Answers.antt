@@ -1,11 +1,12 @@
-use Rattle.std.proofs.Common.{◌∙◌}
-use Rattle.check_statements.specs.StoodView.{other_view}
+use Rattle.std.proofs.Common.{[], ◌∷◌, ap, ◌∙◌}
+use Rattle.check_statements.specs.StoodView.{other_view, stood_of}
 use Rattle.check_switches.proofs.SwitchLaws.{switch_is}
 use Rattle.check_switches.proofs.switches.switch_rule.Goals as goal
 
 pub returns : goal.returns
 returns c =
     c.in_ok-with.ensures
+    ∙ ap (λ s. stood_of (s ∷ []) c.in_ok-parts.parts) c.switch_node-stmt.ensures
     ∙ switch_is c.args.e c.args.it (other_view c.args.other) c.in_ok-other.other.stmt
     c.in_ok-other.other.parts c.in_ok-inner.inner c.in_ok-parts.parts
     c.in_ok-other.ensures.stmt c.in_ok-other.ensures.slots c.in_ok-other.ensures.objects
