@@ -7,8 +7,6 @@ mod instr;
 mod laws;
 mod op;
 mod table;
-#[cfg(test)]
-mod tests;
 
 pub use amx::{Amx, Record};
 pub use instr::{Instr, decode, encode};

@@ -2,6 +2,10 @@
 #![tactic(auto)]
 
 #[cfg(test)]
+mod cells;
+#[cfg(test)]
+mod ground;
+#[cfg(test)]
 mod includes;
 #[cfg(test)]
 mod large;

@@ -1,7 +1,9 @@
 //! An expression of each kind, whose code is taken with ample memory: the emitter gives it, and how
-//! many cells it has. And the data of a small program.
+//! many cells it has. And the data of a small program, and the offsets of arrays.
 #![tactic(auto)]
 
+#[cfg(test)]
+mod arrays;
 #[cfg(test)]
 mod data;
 #[cfg(test)]

@@ -3,8 +3,6 @@
 #![tactic(auto)]
 
 mod shape;
-#[cfg(test)]
-mod tests;
 
 pub use pawn_base::{Cells, Memory};
 pub use shape::{CELL_LIMIT, Shape, cells, inner_row, layout, row};

@@ -7,8 +7,6 @@ mod bytes;
 mod cells;
 mod list;
 mod memory;
-#[cfg(test)]
-mod tests;
 
 pub use bytes::Bytes;
 pub use cells::Cells;

@@ -6,8 +6,6 @@ mod cell;
 mod constant;
 mod operator;
 mod place;
-#[cfg(test)]
-mod tests;
 
 pub use cell::Cell;
 pub use constant::{Constant, predefined};

@@ -1,11 +1,10 @@
-use super::{Cell, Comparison, Logical, Operator, Place, Prefix, predefined};
-use std::test::Fail;
+use pawn_cells::{Cell, Comparison, Logical, Operator, Place, Prefix, predefined};
 
 const LEAST: i32 = i32::MIN;
 
 const GREATEST: i32 = i32::MAX;
 
-/// Operators, their operands and what they give.
+/// Operators with two operands, and what they give.
 const OPERATIONS: [(Operator, i32, i32, Option<i32>); 38] = [
     (Operator::Add, GREATEST, 1, Some(LEAST)),
     (Operator::Add, LEAST, LEAST, Some(0)),
@@ -65,58 +64,81 @@ const CONSTANTS: [(&[u8], i32, bool); 7] = [
     (b"charbits", 8, false),
 ];
 
+/// The first operation that gives another value.
+fn wrong_operation() -> Option<usize> {
+    for (row, (operator, a, b, want)) in OPERATIONS.iter().enumerate() {
+        let cell = operator.apply(Cell(*a), Cell(*b));
+        if cell.map(|cell| cell.0) != *want {
+            return Some(row);
+        }
+    }
+    None
+}
+
 #[test]
 fn operators(rt: HostRuntime) {
-    for (operator, a, b, want) in OPERATIONS {
-        let cell = operator.apply(Cell(a), Cell(b));
-        assert_eq!(rt;
-            cell,
-            want.map(|value| Cell(value)),
-            "{operator:?} of {a} and {b}"
-        );
-    }
+    assert_eq!(rt; wrong_operation(), None);
+}
+
+/// Which comparisons of two numbers hold.
+fn compared(a: Cell, b: Cell) -> [bool; 4] {
+    [
+        Comparison::Less.holds(a, b),
+        Comparison::LessEqual.holds(a, b),
+        Comparison::Greater.holds(a, b),
+        Comparison::GreaterEqual.holds(a, b),
+    ]
 }
 
 #[test]
 fn comparisons(rt: HostRuntime) {
-    for (a, b, want) in COMPARISONS {
-        let (a, b) = (Cell(a), Cell(b));
-        assert_eq!(rt; Comparison::Less.holds(a, b), want[0]);
-        assert_eq!(rt; Comparison::LessEqual.holds(a, b), want[1]);
-        assert_eq!(rt; Comparison::Greater.holds(a, b), want[2]);
-        assert_eq!(rt; Comparison::GreaterEqual.holds(a, b), want[3]);
+    for (a, b, want) in &COMPARISONS {
+        assert!(rt; compared(Cell(*a), Cell(*b)) == *want);
     }
+}
+
+/// Operators with one operand, and those that take cells for truth values.
+fn others_hold() -> bool {
+    Prefix::Negate.apply(Cell(LEAST)).0 == LEAST
+        && Prefix::Invert.apply(Cell(1)).0 == -2
+        && Prefix::Not.apply(Cell(-1)).0 == 0
+        && Logical::And.apply(Cell(2), Cell(4)).0 == 1
+        && Logical::Or.apply(Cell(0), Cell(0)).0 == 0
 }
 
 #[test]
 fn other_operators(rt: HostRuntime) {
-    assert_eq!(rt; Prefix::Negate.apply(Cell(LEAST)), Cell(LEAST));
-    assert_eq!(rt; Prefix::Invert.apply(Cell(1)), Cell(-2));
-    assert_eq!(rt; Prefix::Not.apply(Cell(-1)), Cell(0));
-    assert_eq!(rt; Logical::And.apply(Cell(2), Cell(4)), Cell(1));
-    assert_eq!(rt; Logical::Or.apply(Cell(0), Cell(0)), Cell(0));
-    assert_eq!(rt; Logical::Or.level(), 12);
-    assert_eq!(rt; Operator::Equal.level(), 10);
-    assert_eq!(rt; Place { file: 1, line: 2 }, Place { file: 1, line: 2 });
+    let levels = Logical::Or.level() == 12 && Operator::Equal.level() == 10;
+    let places = Place { file: 1, line: 2 } == Place { file: 1, line: 2 };
+    assert!(rt; others_hold() && levels && places);
+}
+
+/// Whether a name is the constant of this value.
+fn is_constant(name: &[u8], value: i32, is_bool: bool) -> bool {
+    match predefined(name) {
+        Some(found) => found.value == value && found.is_bool == is_bool,
+        None => false,
+    }
 }
 
 #[test]
-fn constants(rt: HostRuntime) -> Result<(), Fail> {
-    for (name, value, is_bool) in CONSTANTS {
-        let found = predefined(name).ok_or("no constant")?;
-        assert_eq!(rt; found.value, value);
-        assert_eq!(rt; found.is_bool, is_bool);
+fn constants(rt: HostRuntime) {
+    for (name, value, is_bool) in &CONSTANTS {
+        assert!(rt; is_constant(*name, *value, *is_bool));
     }
-    assert_eq!(rt; predefined(b"cellMax"), None);
-    Ok(())
+    assert!(rt; predefined(b"cellMax").is_none());
+}
+
+/// The characters of the packed text "abcd", and others in their places.
+fn are_characters() -> bool {
+    let text = Cell(0x6162_6364);
+    text.char_at(0) == b'a'
+        && text.char_at(3) == b'd'
+        && text.with_char(0, 0x80).0.cast_unsigned() == 0x8062_6364
+        && text.with_char(3, 0x80).0 == 0x6162_6380
 }
 
 #[test]
 fn characters(rt: HostRuntime) {
-    // The packed text "abcd".
-    let text = Cell(0x6162_6364);
-    assert_eq!(rt; text.char_at(0), b'a');
-    assert_eq!(rt; text.char_at(3), b'd');
-    assert_eq!(rt; text.with_char(0, 0x80).0.cast_unsigned(), 0x8062_6364);
-    assert_eq!(rt; text.with_char(3, 0x80).0, 0x6162_6380);
+    assert!(rt; are_characters());
 }

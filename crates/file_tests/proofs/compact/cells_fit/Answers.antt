@@ -1,4 +1,4 @@
-use Rattle.amx_compact.proofs.tests.cells_fit.Goals as goal
+use Rattle.file_tests.proofs.compact.cells_fit.Goals as goal
 
 pub fits-requires : goal.fits-requires
 fits-requires c = (

@@ -1,4 +1,4 @@
-use super::{Shape, cells, inner_row, layout, row};
+use pawn_arrays::{Shape, cells, inner_row, layout, row};
 use std::test::Fail;
 
 /// An array of one dimension.

@@ -1,4 +1,4 @@
-use super::{Instr, decode, encode};
+use amx_ops::{Instr, decode, encode};
 use pawn_base::Cells;
 use std::test::Fail;
 
@@ -26,7 +26,7 @@ fn instructions_are_read(rt: HostRuntime) {
 }
 
 #[test]
-#[tactic(auto, unfolding(crate::specs::Table::row_at))]
+#[tactic(auto, unfolding(amx_ops::specs::Table::row_at))]
 fn instructions_are_put(rt: HostRuntime) -> Result<(), Fail> {
     let mut out = Cells::new(rt.alloc());
     encode(39, 7, &mut out)?;

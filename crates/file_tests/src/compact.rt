@@ -1,4 +1,4 @@
-use super::{CompactFault, fits, read_cells, write_cell};
+use amx_compact::{CompactFault, fits, read_cells, write_cell};
 use pawn_base::Bytes;
 use std::alloc::Global;
 use std::test::Fail;
