@@ -15,7 +15,7 @@ use Rattle.pawn_bodies.specs.Counts.{objects_of_vars, slots_in, objects_in, slot
 use Rattle.pawn_bodies.specs.Counts.{objects_in_all, slots_first, objects_first, literals_of}
 use Rattle.pawn_bodies.specs.Points.{Point, beyond, inside, behind, behind_var, behind_vars}
 use Rattle.pawn_bodies.specs.Points.{behind_first}
-use Rattle.check_scopes.specs.Scopes.{scope_view, without, outer_of}
+use Rattle.check_types.specs.Scopes.{scope_view, without, outer_of}
 use Rattle.check_locals.specs.declared.point.Point as held
 use Rattle.check_locals.specs.PointView.{point_view}
 use Rattle.check_locals.proofs.PathLaws.{Extends, extends_none, extends_by, extends_then, forgotten}

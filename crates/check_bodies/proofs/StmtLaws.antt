@@ -22,7 +22,7 @@ use Rattle.pawn_bodies.specs.Switches.{Ends, ends}
 use Rattle.check_locals.specs.Tells.{told}
 use Rattle.check_locals.proofs.ToldLaws.{fails_unless, unless_told}
 use Rattle.check_types.specs.ContextView.{around_view}
-use Rattle.check_automata.specs.AutomataView.{automata_view}
+use Rattle.check_source.specs.AutomataView.{automata_view}
 use Rattle.check_switches.specs.Switching.{switch_in}
 use Rattle.check_bodies.proofs.QuietLaws.{for_judged}
 use Rattle.check_simple.specs.declared.setting.Setting.{Setting}

@@ -10,7 +10,7 @@ use Rattle.pawn_bodies.specs.Stood.{Stood}
 use Rattle.pawn_bodies.specs.Statements as rules
 use Rattle.pawn_bodies.specs.Statements.{Used, Maybe, Other, CasePart}
 use Rattle.check_types.specs.ContextView.{around_view}
-use Rattle.check_automata.specs.AutomataView.{automata_view}
+use Rattle.check_source.specs.AutomataView.{automata_view}
 use Rattle.check_simple.specs.declared.setting.Setting.{Setting}
 
 module _ (it : Setting) where

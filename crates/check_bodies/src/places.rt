@@ -1,6 +1,6 @@
 ghost use Rattle.std.specs.Prelude.{◌≡◌};
 ghost use Rattle.pawn_tree.specs.View.{first_view, stmt_view};
-ghost use Rattle.check_scopes.specs.Scopes.{outer_of, without};
+ghost use Rattle.check_types.specs.Scopes.{outer_of, without};
 ghost use Rattle.check_bodies.specs.Judging.{declares, declares_first};
 
 use check_locals::Point;

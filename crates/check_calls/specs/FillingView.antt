@@ -8,7 +8,7 @@ use Rattle.check_calls.specs.declared.filling.Offer.TheVariants as offer
 use Rattle.check_calls.specs.declared.filling.Filled.{Filled}
 use Rattle.check_calls.specs.declared.filling.Filled.TheVariants as filled
 use Rattle.check_calls.specs.declared.filling.Filling.{Filling}
-use Rattle.check_given.specs.GivenView.{argued_view}
+use Rattle.check_calls.specs.GivenView.{argued_view}
 
 -- an argument as it stands in the call
 abbrev pub offer_view : Offer → plain.Offer

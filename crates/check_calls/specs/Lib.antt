@@ -1,3 +1,4 @@
+pub mod GivenView
 pub mod Empty
 pub mod Numbers
 pub mod FillingView

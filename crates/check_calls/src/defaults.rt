@@ -4,14 +4,13 @@ ghost use Rattle.pawn_program.specs.View.{args_view};
 ghost use Rattle.pawn_calls.specs.Defaults as spec;
 ghost use Rattle.pawn_verdict.specs.Answers.{Answers};
 ghost use Rattle.check_types.specs.ContextView.{around_view, param_view};
-ghost use Rattle.check_given.specs.GivenView.{arg_code};
+ghost use Rattle.check_calls.specs.GivenView.{arg_code};
 ghost use Rattle.check_calls.specs.declared.filling.Filled.{Filled as Held};
 ghost use Rattle.check_calls.specs.FillingView.{filled_view, slots_view};
 ghost use Rattle.check_calls.specs.Shown.{shown_in, size_shown, tag_shown};
 
 use super::filling::Filled;
-use check_names::{UNTAGGED, converter_to, first_tag};
-use check_types::{Context, Param, ParamDefault};
+use check_types::{Context, Param, ParamDefault, UNTAGGED, converter_to, first_tag};
 use pawn_base::{List, Memory};
 use pawn_program::{Arg, Expr};
 use pawn_tree::At;

@@ -13,8 +13,8 @@ ghost use Rattle.check_calls.specs.Numbers.{AreNumbers};
 ghost use Rattle.check_calls.specs.declared.numbers.Numbers.{Numbers as Table};
 ghost use Rattle.check_calls.specs.FillingView.{filled_view, filling_view, offer_view, slots_view};
 
+use super::given::{Argued, give, rest_given};
 use super::numbers::{Numbers, numbers_of};
-use check_given::{Argued, give, rest_given};
 use check_types::{Context, Head, Made, Param, Typed};
 use pawn_base::{Bytes, List, Memory};
 use pawn_program::Arg;

@@ -9,8 +9,8 @@ use Rattle.pawn_scopes.specs.Verdict.{Fault}
 use Rattle.pawn_verdict.specs.declared.fault.CheckFault.{CheckFault}
 use Rattle.pawn_automata.specs.Groups as plain
 use Rattle.pawn_typed.specs.Functions.{clause_faults, has_classifier}
-use Rattle.check_groups.specs.declared.written.Written.{Written}
-use Rattle.check_groups.specs.WrittenView.{written_view}
+use Rattle.check_source.specs.declared.written.Written.{Written}
+use Rattle.check_source.specs.WrittenView.{written_view}
 use Rattle.check_classifiers.specs.Bare.{bodies_by, states_by}
 use Rattle.check_classifiers.specs.Clauses.{clauses_by, places_by}
 use Rattle.check_classifiers.specs.Finds.{Finds}

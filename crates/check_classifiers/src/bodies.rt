@@ -3,13 +3,12 @@ ghost use Rattle.std.specs.List.{list_any};
 ghost use Rattle.std.specs.Str.{bytes_eq};
 ghost use Rattle.pawn_automata.specs.Clauses as clauses;
 ghost use Rattle.pawn_typed.specs.Functions as spec;
-ghost use Rattle.check_groups.specs.WrittenView.{written_view};
+ghost use Rattle.check_source.specs.WrittenView.{written_view};
 ghost use Rattle.check_classifiers.specs.Finds.{Finds};
 ghost use Rattle.check_classifiers.specs.Bare.{bare_by, states_by, bodies_by};
 
 use super::rules::fault_if;
-use check_groups::Written;
-use check_keys::{named_or, states_of};
+use check_source::{Written, named_or, states_of};
 use pawn_tree::StateName;
 use pawn_typing::{MIXED_AUTOMATA, REDEFINED};
 use pawn_verdict::CheckFault;

@@ -3,13 +3,12 @@ ghost use Rattle.std.specs.Prelude.{IfOk, OnOk};
 ghost use Rattle.pawn_automata.specs.Clauses as clauses;
 ghost use Rattle.pawn_states.specs.Classifier.{first_fault};
 ghost use Rattle.pawn_typed.specs.Functions as spec;
-ghost use Rattle.check_groups.specs.GroupsView.{group_view};
-ghost use Rattle.check_groups.specs.WrittenView.{written_view};
+ghost use Rattle.check_source.specs.GroupsView.{group_view};
+ghost use Rattle.check_source.specs.WrittenView.{written_view};
 ghost use Rattle.check_classifiers.specs.Clauses.{Stands, at_place, clauses_by};
 ghost use Rattle.check_classifiers.specs.Finds.{Finds};
 
-use check_groups::{Group, Written};
-use check_keys::{named_or, states_of};
+use check_source::{Group, Written, named_or, states_of};
 use pawn_base::{Bytes, List, Memory};
 use pawn_states::{Clause, StateFault, classify};
 use pawn_tree::{At, StateName};

@@ -8,9 +8,9 @@ use Rattle.pawn_typed.specs.Headings.{Heading, Role, IsNative, IsForward, IsBody
 use Rattle.pawn_typed.specs.Sources.{Source, forward_entry, function_entry, entry_by}
 use Rattle.check_types.specs.MeaningView.{meaning_view}
 use Rattle.check_types.specs.declared.meaning.Meaning.{Meaning}
-use Rattle.check_scopes.specs.declared.scopes.Sight.TheVariants as sight
-use Rattle.check_scopes.specs.Scopes.{Blocks, block_view, entry_view, with_name, scope_view}
-use Rattle.check_scopes.specs.Scopes.{nothing_declared}
+use Rattle.check_types.specs.declared.scopes.Sight.TheVariants as sight
+use Rattle.check_types.specs.Scopes.{Blocks, block_view, entry_view, with_name, scope_view}
+use Rattle.check_types.specs.Scopes.{nothing_declared}
 use Rattle.check_contexts.specs.Declares.{Declares, forward_by, function_by, entering_by}
 
 append_none : (xs : List Entry) → xs ≡ xs ++ []

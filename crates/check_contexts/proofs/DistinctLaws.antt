@@ -14,9 +14,9 @@ use Rattle.pawn_tags.proofs.OverloadLaws.{only_for, itself_for}
 use Rattle.pawn_automata.specs.Keys.{Key, Named, Operates, Enters, Misshapen, same_key}
 use Rattle.pawn_automata.specs.Groups.{Group, Written, number_of, with_body, body_key, grouped}
 use Rattle.pawn_typed.specs.Sources.{Source, operators_from, operator_of}
-use Rattle.check_automata.specs.Update.{updated, with_first}
-use Rattle.check_automata.proofs.PlaceLaws.{place, place_is, position_push, first_new, first_at}
-use Rattle.check_groups.proofs.TableLaws.{equal_keys}
+use Rattle.check_source.specs.Update.{updated, with_first}
+use Rattle.check_source.proofs.PlaceLaws.{place, place_is, position_push, first_new, first_at}
+use Rattle.check_source.proofs.TableLaws.{equal_keys}
 use Rattle.check_contexts.specs.Distinct.{IsDistinct, below, defined_by}
 use Rattle.check_contexts.proofs.OwnLaws.{keyed_at, same_some}
 

@@ -4,7 +4,7 @@ use Rattle.std.proofs.Common.{Some, option_map, refl, sym, ◌∙◌}
 use Rattle.std.specs.Prelude.{find, slice_get}
 use Rattle.std.specs.Option.{option_and_then}
 use Rattle.pawn_automata.specs.Groups.{Group}
-use Rattle.check_automata.proofs.PlaceLaws.{place}
+use Rattle.check_source.proofs.PlaceLaws.{place}
 use Rattle.check_contexts.specs.Own.{HasNumber}
 use Rattle.check_contexts.proofs.OwnLaws.{has_number}
 use Rattle.check_contexts.proofs.StatedLaws.{find_place}

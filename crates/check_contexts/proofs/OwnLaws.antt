@@ -13,10 +13,10 @@ use Rattle.pawn_automata.specs.Keys.{Key, Named, Operates, Enters, Misshapen, sa
 use Rattle.pawn_automata.specs.Groups.{Group, is_entry, number_of}
 use Rattle.pawn_typed.specs.Headings.{Heading, Role, IsNative, IsForward, IsBody, heading_key}
 use Rattle.pawn_typed.specs.Headings.{is_enters, belongs, is_of}
-use Rattle.check_automata.specs.Update.{updated}
-use Rattle.check_automata.proofs.PlaceLaws.{place, place_is, position_push, length_updated}
-use Rattle.check_automata.proofs.PlaceLaws.{same_places, none_passes}
-use Rattle.check_groups.proofs.TableLaws.{equal_keys}
+use Rattle.check_source.specs.Update.{updated}
+use Rattle.check_source.proofs.PlaceLaws.{place, place_is, position_push, length_updated}
+use Rattle.check_source.proofs.PlaceLaws.{same_places, none_passes}
+use Rattle.check_source.proofs.TableLaws.{equal_keys}
 use Rattle.check_contexts.specs.Own.{enters_by, enters_all, own_by, own_key, is_key, is_own}
 use Rattle.check_contexts.specs.Own.{AreFirsts, number_in, noted, own_at, HasNumber, least}
 use Rattle.check_contexts.specs.Own.{first_by}

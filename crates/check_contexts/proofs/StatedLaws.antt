@@ -10,7 +10,7 @@ use Rattle.pawn_automata.specs.Groups.{Group}
 use Rattle.pawn_typed.specs.Headings.{Heading, belongs}
 use Rattle.pawn_typed.specs.Sources.{Source, Stated, stated, first_head, stated_tag, group_tag}
 use Rattle.pawn_typed.specs.Sources.{group_head}
-use Rattle.check_automata.proofs.PlaceLaws.{place, place_is}
+use Rattle.check_source.proofs.PlaceLaws.{place, place_is}
 use Rattle.check_contexts.specs.Stated.{head_at, heading_at, heading_tag, stated_head}
 
 -- what stands at a place

@@ -4,7 +4,7 @@ use Rattle.pawn_automata.specs.Keys.{Key, Named, Operates, Enters, Misshapen, en
 use Rattle.pawn_typing.specs.Scope.{Entry, Function, Entering, Taken}
 use Rattle.pawn_typed.specs.Headings.{Heading, Role, IsNative, IsForward, IsBody}
 use Rattle.pawn_typed.specs.Sources.{name_of}
-use Rattle.check_scopes.specs.Scopes.{Blocks, block_view}
+use Rattle.check_types.specs.Scopes.{Blocks, block_view}
 
 -- these entries stand behind those that stood there, and the outer blocks stay
 pub record Declares (old new : Blocks) (entries : List Entry) : Type 0 where

@@ -5,7 +5,7 @@ use Rattle.std.specs.Prelude.{Option, None, Some, min}
 use Rattle.std.specs.Option.{option_or, option_and_then}
 use Rattle.pawn_automata.specs.Keys.{Key, same_key}
 use Rattle.pawn_automata.specs.Groups.{Group, is_entry, number_of}
-use Rattle.check_automata.specs.Update.{updated}
+use Rattle.check_source.specs.Update.{updated}
 use Rattle.pawn_typed.specs.Headings.{Heading, Role, IsNative, IsForward, IsBody, heading_key}
 use Rattle.pawn_typed.specs.Headings.{is_enters}
 

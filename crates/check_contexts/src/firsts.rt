@@ -2,15 +2,13 @@ ghost use Rattle.std.specs.Prelude.{◌≡◌, [], ◌∷◌, ◌++◌, None, So
 ghost use Rattle.std.specs.Prelude.{position, if◌then◌else◌, replicate, List as ListOf, IfOk};
 ghost use Rattle.std.specs.Option.{option_or};
 ghost use Rattle.pawn_typed.specs.Headings.{Heading as PlainHeading, belongs};
-ghost use Rattle.check_keys.specs.KeyView.{key_view};
-ghost use Rattle.check_groups.specs.GroupsView.{groups_view};
-ghost use Rattle.check_sources.specs.HeadingView.{heading_view};
+ghost use Rattle.check_source.specs.KeyView.{key_view};
+ghost use Rattle.check_source.specs.GroupsView.{groups_view};
+ghost use Rattle.check_source.specs.HeadingView.{heading_view};
 ghost use Rattle.check_contexts.specs.Own as spec;
 ghost use Rattle.check_contexts.specs.Own.{AreFirsts, HasNumber, number_in, noted, least, first_by};
 
-use check_groups::Groups;
-use check_keys::{Key, is_entry};
-use check_sources::{Heading, Role, Source, heading_key};
+use check_source::{Groups, Heading, Key, Role, Source, heading_key, is_entry};
 use pawn_base::Memory;
 use pawn_tags::TagTable;
 use std::alloc::Global;

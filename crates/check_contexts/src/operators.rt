@@ -1,13 +1,12 @@
 ghost use Rattle.std.specs.Prelude.{◌≡◌, IfOk, OnOk};
 ghost use Rattle.pawn_typed.specs.Sources as spec;
-ghost use Rattle.check_keys.specs.KeyView.{key_view};
-ghost use Rattle.check_groups.specs.GroupsView.{groups_view};
-ghost use Rattle.check_sources.specs.SourceView.{source_view};
+ghost use Rattle.check_source.specs.KeyView.{key_view};
+ghost use Rattle.check_source.specs.GroupsView.{groups_view};
+ghost use Rattle.check_source.specs.SourceView.{source_view};
 ghost use Rattle.check_contexts.specs.Distinct.{IsDistinct, defined_by};
 
 use super::callables::told;
-use check_keys::Key;
-use check_sources::Source;
+use check_source::{Key, Source};
 use pawn_base::Memory;
 use pawn_tags::Operators;
 use std::alloc::Global;

@@ -1,13 +1,13 @@
 ghost use Rattle.std.specs.Prelude.{◌≡◌, map, option_map, slice_get, IfOk};
 ghost use Rattle.std.specs.Option.{option_and_then};
 ghost use Rattle.check_types.specs.ContextView.{callable_view, head_view};
-ghost use Rattle.check_sources.specs.HeadingView.{heading_view};
-ghost use Rattle.check_sources.specs.SourceView.{source_view};
+ghost use Rattle.check_source.specs.HeadingView.{heading_view};
+ghost use Rattle.check_source.specs.SourceView.{source_view};
 ghost use Rattle.check_contexts.specs.HeadsView.{heads_view};
 ghost use Rattle.check_contexts.specs.Stated as spec;
 
 use super::copies::copied;
-use check_sources::{Heading, Source};
+use check_source::{Heading, Source};
 use check_types::{Callable, Head};
 use pawn_base::Memory;
 use pawn_sight::{UNTAGGED, tag_number};

@@ -10,15 +10,15 @@ use Rattle.pawn_typed.specs.Declarations.{Done}
 use Rattle.pawn_verdict.specs.declared.fault.CheckFault.{CheckFault}
 use Rattle.pawn_verdict.specs.Answers.{Fails}
 use Rattle.pawn_verdict.proofs.VerdictLaws.{fails_first}
-use Rattle.check_parts.specs.JudgedView.{judged_view}
+use Rattle.check_values.specs.JudgedView.{judged_view}
 use Rattle.check_heads.specs.declared.headed.Headed as held_head
 use Rattle.check_heads.specs.HeadedView.{headed_view}
 use Rattle.check_statements.specs.declared.stood.Stood as held_stood
 use Rattle.check_statements.specs.StoodView.{stood_view}
 use Rattle.check_locals.specs.Tells.{Tells, told}
 use Rattle.check_locals.proofs.ToldLaws.{fails_unless}
-use Rattle.check_done.specs.declared.done.Done as held
-use Rattle.check_done.specs.DoneView.{done_view}
+use Rattle.check_whole.specs.declared.done.Done as held
+use Rattle.check_whole.specs.DoneView.{done_view}
 use Rattle.check_declarations.proofs.ToldLaws.{exit_tells}
 
 told_pair : {C : Type 0} (x : Option (Unit {0})) (y : Option held_stood.Stood) (node : Verdict C)

@@ -12,8 +12,8 @@ use Rattle.pawn_typing.specs.Around.{Around}
 use Rattle.pawn_typing.specs.Scope.{Scope, Entry, with_entries}
 use Rattle.pawn_bodies.specs.Counts.{objects_in, objects_of_var, objects_of_vars}
 use Rattle.pawn_bodies.specs.Points.{Point, behind, behind_var, behind_vars, beyond}
-use Rattle.check_scopes.specs.Scopes.{Block as Held, Blocks, block_view, outer_by, outer_of}
-use Rattle.check_scopes.specs.Scopes.{scope_view}
+use Rattle.check_types.specs.Scopes.{Block as Held, Blocks, block_view, outer_by, outer_of}
+use Rattle.check_types.specs.Scopes.{scope_view}
 use Rattle.check_locals.specs.declared.point.Point as held
 use Rattle.check_locals.specs.PointView.{point_view}
 

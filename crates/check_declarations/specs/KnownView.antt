@@ -9,8 +9,8 @@ use Rattle.pawn_bodies.specs.Stood.{Stood}
 use Rattle.pawn_typed.specs.Declarations.{body_point}
 use Rattle.check_types.specs.ContextView.{around_view}
 use Rattle.pawn_typed.specs.Sources.{Source}
-use Rattle.check_automata.specs.AutomataView.{automata_view}
-use Rattle.check_groups.specs.GroupsView.{groups_view}
+use Rattle.check_source.specs.AutomataView.{automata_view}
+use Rattle.check_source.specs.GroupsView.{groups_view}
 use Rattle.check_declarations.specs.declared.known.Known.{Known}
 
 -- without the headings and the names that are called

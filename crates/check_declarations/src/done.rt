@@ -4,10 +4,10 @@ ghost use Rattle.pawn_typed.specs.Declarations as spec;
 ghost use Rattle.check_statements.specs.StoodView.{stood_view};
 ghost use Rattle.check_locals.specs.Rows.{joined};
 ghost use Rattle.check_locals.specs.Tells.{told as plain_told};
-ghost use Rattle.check_done.specs.DoneView.{done_view};
+ghost use Rattle.check_whole.specs.DoneView.{done_view};
 
-use check_done::Done;
 use check_statements::Stood;
+use check_whole::Done;
 use pawn_base::Memory;
 use std::alloc::Global;
 

@@ -9,14 +9,14 @@ ghost use Rattle.pawn_typed.specs.Declarations as spec;
 ghost use Rattle.check_types.specs.ContextView.{around_view};
 ghost use Rattle.check_locals.specs.PointView.{point_view};
 ghost use Rattle.check_locals.specs.Tells.{Tells};
-ghost use Rattle.check_done.specs.DoneView.{done_view};
+ghost use Rattle.check_whole.specs.DoneView.{done_view};
 ghost use Rattle.check_declarations.specs.KnownView.{source_view};
 
 use super::done::{objects_of, then_maybe};
 use super::known::Known;
-use check_done::Done;
 use check_locals::{Point, declare_var, judge_vars, local_by};
 use check_types::Context;
+use check_whole::Done;
 use pawn_base::Memory;
 use pawn_tree::{At, Storage, Var};
 use pawn_verdict::CheckFault;

@@ -1,8 +1,8 @@
 ghost use Rattle.pawn_typed.specs.Declarations as spec;
 ghost use Rattle.pawn_verdict.specs.Answers.{Answers};
-ghost use Rattle.check_keys.specs.KeyView.{key_view};
+ghost use Rattle.check_source.specs.KeyView.{key_view};
 
-use check_keys::Key;
+use check_source::Key;
 use pawn_tree::{At, HeadName};
 use pawn_typing::BAD_OPERATOR;
 use pawn_verdict::{CheckFault, broken};

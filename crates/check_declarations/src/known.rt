@@ -1,5 +1,4 @@
-use check_automata::Automata;
-use check_groups::Groups;
+use check_source::{Automata, Groups};
 use check_types::Context;
 
 /// What is known of a source where its declarations are judged: the whole, its automata, its

@@ -13,7 +13,7 @@ mod paths;
 mod slots;
 mod whole;
 
-pub use check_done::{Bodied, Done};
+pub use check_whole::{Bodied, Done};
 pub use decls::declarations;
 pub use known::Known;
 pub use part_verdict::PartFault;

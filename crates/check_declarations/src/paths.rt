@@ -9,10 +9,8 @@ ghost use Rattle.check_locals.specs.PointView.{point_view};
 
 use super::constants::declare_constant;
 use super::globals::declare_vars;
-use check_enums::declare_enum;
-use check_heads::head_of;
-use check_locals::{Point, tag_of};
-use check_objects::objects_in;
+use check_heads::{declare_enum, head_of};
+use check_locals::{Point, objects_in, tag_of};
 use check_types::{Context, Head as Typed};
 use pawn_base::{List, Memory};
 use pawn_tree::{At, Decl, Head, Item, Name};

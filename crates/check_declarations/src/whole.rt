@@ -7,13 +7,13 @@ ghost use Rattle.pawn_verdict.specs.Answers.{Answers};
 ghost use Rattle.check_heads.specs.HeadedView.{headed_view};
 ghost use Rattle.check_statements.specs.StoodView.{returned_view, stood_view};
 ghost use Rattle.check_locals.specs.Tells.{Tells, told as plain_told};
-ghost use Rattle.check_done.specs.DoneView.{done_view};
+ghost use Rattle.check_whole.specs.DoneView.{done_view};
 ghost use Rattle.check_declarations.specs.Fits.{fits_in};
 
 use super::slots::slots_again;
-use check_done::{Bodied, Done};
 use check_heads::Headed;
 use check_statements::{Stood, one_of};
+use check_whole::{Bodied, Done};
 use pawn_base::{List, Memory};
 use pawn_meaning::locals_fit;
 use pawn_program::{Body, Slot, Stmt};

@@ -24,8 +24,8 @@ use Rattle.part_verdict.specs.declared.fault.PartFault.{PartFault}
 use Rattle.part_verdict.specs.PartAnswers.{PartAnswers, Judged}
 use Rattle.check_types.specs.declared.typed.Typed as held
 use Rattle.check_types.specs.TypedView.{typed_view}
-use Rattle.check_chains.specs.declared.chains.Compared as held_compared
-use Rattle.check_chains.specs.Compared.{compared_view}
+use Rattle.check_rules.specs.declared.chains.Compared as held_compared
+use Rattle.check_rules.specs.Compared.{compared_view}
 use Rattle.check_calls.specs.declared.filling.Offer as held_offer
 use Rattle.check_calls.specs.FillingView.{offer_view}
 use Rattle.check_expressions.specs.Links.{operand_in, sign_in}

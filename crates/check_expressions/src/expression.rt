@@ -7,8 +7,8 @@ ghost use Rattle.pawn_calls.specs.Expressions as spec;
 ghost use Rattle.part_verdict.specs.PartAnswers.{Judged, PartAnswers};
 ghost use Rattle.check_types.specs.ContextView.{around_view};
 ghost use Rattle.check_types.specs.TypedView.{typed_view};
-ghost use Rattle.check_scopes.specs.Scopes.{scope_view};
-ghost use Rattle.check_chains.specs.Compared.{compared_view};
+ghost use Rattle.check_types.specs.Scopes.{scope_view};
+ghost use Rattle.check_rules.specs.Compared.{compared_view};
 ghost use Rattle.check_calls.specs.FillingView.{offer_view};
 ghost use Rattle.check_expressions.specs.Links.{operand_in};
 
@@ -16,9 +16,8 @@ use super::leaves::{call_of, name_of, number_of, sizeof_rule, tagof_rule, text_o
 use super::lists::{compare, named, positional, sign_of, with_link, with_offer};
 use super::nodes::{Double, Single, chained, choose, with_operand, with_operands};
 use check_calls::Offer;
-use check_chains::Compared;
-use check_scopes::Scopes;
-use check_types::{Context, Typed};
+use check_rules::Compared;
+use check_types::{Context, Scopes, Typed};
 use part_verdict::PartFault;
 use pawn_base::List;
 use pawn_tree::{Arg, Expr, Link};

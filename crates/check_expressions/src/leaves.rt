@@ -11,15 +11,16 @@ ghost use Rattle.pawn_verdict.specs.Answers.{Answers};
 ghost use Rattle.part_verdict.specs.PartAnswers.{Judged, PartAnswers};
 ghost use Rattle.check_types.specs.ContextView.{around_view};
 ghost use Rattle.check_types.specs.TypedView.{typed_view};
-ghost use Rattle.check_scopes.specs.Scopes.{scope_view, sight_view};
+ghost use Rattle.check_types.specs.Scopes.{scope_view, sight_view};
 ghost use Rattle.check_calls.specs.CalleeView.{callee_view};
 ghost use Rattle.check_calls.specs.FillingView.{offer_view};
 
 use check_calls::{Callee, Offer, call, find_callee};
-use check_names::{make_number, name, sizeof_name, sizeof_text, tagof_name, tagof_tag};
 use check_places::text;
-use check_scopes::{Scopes, Sight};
-use check_types::{Context, Typed};
+use check_types::{
+    Context, Scopes, Sight, Typed, make_number, name, sizeof_name, sizeof_text, tagof_name,
+    tagof_tag,
+};
 use part_verdict::PartFault;
 use pawn_base::{Bytes, Memory};
 use pawn_tree::{At, SizeofOperand, TagofOperand};

@@ -8,14 +8,14 @@ ghost use Rattle.pawn_calls.specs.Filling.{Offer as PlainOffer};
 ghost use Rattle.pawn_calls.specs.Filling as filling;
 ghost use Rattle.part_verdict.specs.PartAnswers.{Judged, PartAnswers};
 ghost use Rattle.check_types.specs.TypedView.{typed_view};
-ghost use Rattle.check_chains.specs.Compared.{compared_view};
+ghost use Rattle.check_rules.specs.Compared.{compared_view};
 ghost use Rattle.check_calls.specs.FillingView.{offer_view};
 ghost use Rattle.check_expressions.specs.Links.{sign_in};
 ghost use Rattle.check_expressions.specs.SoFar.{SoFar};
 
 use super::faults::both;
 use check_calls::Offer;
-use check_chains::{Compared, link};
+use check_rules::{Compared, link};
 use check_types::Typed;
 use part_verdict::PartFault;
 use pawn_base::Bytes;

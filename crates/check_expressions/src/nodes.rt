@@ -10,15 +10,13 @@ ghost use Rattle.pawn_verdict.specs.Answers.{Answers};
 ghost use Rattle.part_verdict.specs.PartAnswers.{Judged, PartAnswers};
 ghost use Rattle.check_types.specs.ContextView.{around_view};
 ghost use Rattle.check_types.specs.TypedView.{typed_view};
-ghost use Rattle.check_chains.specs.Compared.{compared_view};
+ghost use Rattle.check_rules.specs.Compared.{compared_view};
 ghost use Rattle.check_expressions.specs.Nodes.{double_rule, single_rule};
 
 use super::faults::both;
-use check_chains::{Compared, chain};
-use check_names::{paren, tagged};
 use check_places::{assign, character, index};
-use check_rules::{binary, choice, postfix, prefix};
-use check_types::{Context, Typed};
+use check_rules::{Compared, binary, chain, choice, postfix, prefix};
+use check_types::{Context, Typed, paren, tagged};
 use part_verdict::PartFault;
 use pawn_base::Bytes;
 use pawn_token::Sign;

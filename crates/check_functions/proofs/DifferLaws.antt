@@ -11,7 +11,7 @@ use Rattle.pawn_verdict.specs.declared.fault.CheckFault.{CheckFault}
 use Rattle.pawn_verdict.specs.declared.fault.CheckFault.TheVariants.{Source as Broken, Memory}
 use Rattle.pawn_typed.specs.Sources.{Source, Stated}
 use Rattle.pawn_typed.specs.Functions.{differing, head_faults}
-use Rattle.check_automata.proofs.PlaceLaws.{place}
+use Rattle.check_source.proofs.PlaceLaws.{place}
 
 fails_left : (xs ys : List Fault) (fault : CheckFault) → Fails xs fault → Fails (xs ++ ys) fault
 fails_left xs ys (Broken kind place) h = record { cause = Contains-append_left xs ys _ h.cause }

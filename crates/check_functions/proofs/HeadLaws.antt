@@ -14,8 +14,8 @@ use Rattle.pawn_automata.specs.Groups.{Group, number_of}
 use Rattle.pawn_typed.specs.Headings.{Heading, belongs, is_enters}
 use Rattle.pawn_typed.specs.Sources.{Source, Stated, stated}
 use Rattle.pawn_typed.specs.Functions.{differing, head_faults, heads_of_group}
-use Rattle.check_automata.proofs.PlaceLaws.{place, place_is}
-use Rattle.check_groups.proofs.TableLaws.{equal_keys}
+use Rattle.check_source.proofs.PlaceLaws.{place, place_is}
+use Rattle.check_source.proofs.TableLaws.{equal_keys}
 use Rattle.check_contexts.specs.Own.{enters_all, own_key, is_key}
 use Rattle.check_contexts.specs.Stated.{head_at}
 use Rattle.check_contexts.proofs.OwnLaws.{keyed_at, role_is, has_number, passes_at}

@@ -1,3 +1,4 @@
+pub mod SameLaws
 pub mod DifferLaws
 pub mod HeadLaws
 pub mod EqualLaws

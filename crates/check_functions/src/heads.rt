@@ -1,9 +1,9 @@
 ghost use Rattle.std.specs.Prelude.{◌≡◌, Some, true, map, option_map, length};
 ghost use Rattle.pawn_typed.specs.Sources.{stated};
-ghost use Rattle.check_keys.specs.KeyView.{key_view};
-ghost use Rattle.check_groups.specs.GroupsView.{groups_view, group_view};
-ghost use Rattle.check_sources.specs.HeadingView.{heading_view};
-ghost use Rattle.check_sources.specs.SourceView.{source_view};
+ghost use Rattle.check_source.specs.KeyView.{key_view};
+ghost use Rattle.check_source.specs.GroupsView.{groups_view, group_view};
+ghost use Rattle.check_source.specs.HeadingView.{heading_view};
+ghost use Rattle.check_source.specs.SourceView.{source_view};
 ghost use Rattle.check_classifiers.specs.Finds.{Finds};
 ghost use Rattle.check_contexts.specs.HeadsView.{heads_view};
 ghost use Rattle.pawn_typed.specs.Headings.{is_enters};
@@ -15,9 +15,7 @@ ghost use Rattle.check_functions.specs.Forwards.{AtPlace};
 use super::against::against;
 use super::forwards::{Forwards, find_forwards};
 use check_contexts::{Firsts, own_key};
-use check_groups::Group;
-use check_keys::Key;
-use check_sources::{Heading, Source};
+use check_source::{Group, Heading, Key, Source};
 use check_types::Head;
 use pawn_verdict::CheckFault;
 

@@ -7,6 +7,8 @@ mod forwards;
 mod groups;
 mod heads;
 mod places;
+mod same_heads;
+mod same_params;
 
 pub use groups::group_faults;
 pub use heads::head_faults;

@@ -1,10 +1,10 @@
 ghost use Rattle.std.specs.Prelude.{◌≡◌, map, option_map, slice_get};
 ghost use Rattle.check_types.specs.ContextView.{head_view};
-ghost use Rattle.check_sources.specs.HeadingView.{heading_view};
+ghost use Rattle.check_source.specs.HeadingView.{heading_view};
 ghost use Rattle.check_contexts.specs.HeadsView.{heads_view};
 ghost use Rattle.check_contexts.specs.Stated.{head_at};
 
-use check_sources::{Heading, Source};
+use check_source::{Heading, Source};
 use check_types::Head;
 
 /// The heading at a place.

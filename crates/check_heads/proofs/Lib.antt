@@ -3,3 +3,5 @@ pub mod TagLaws
 pub mod MeaningLaws
 pub mod ParamLaws
 pub mod RuleLaws
+pub mod ItemLaws
+pub mod EnumLaws

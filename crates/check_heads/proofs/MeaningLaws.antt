@@ -8,9 +8,9 @@ use Rattle.pawn_heads.specs.Params.{Headed, Reach, array_param_means, head_of}
 use Rattle.part_verdict.specs.declared.fault.PartFault.{PartFault}
 use Rattle.part_verdict.specs.declared.fault.PartFault.TheVariants.{Source, Fallen, Memory}
 use Rattle.part_verdict.specs.PartAnswers.{FailsPart}
-use Rattle.check_scopes.specs.Scopes.{Block, Blocks, entry_view, scope_view, with_name, without}
-use Rattle.check_scopes.proofs.IndexLaws.{name_viewed}
-use Rattle.check_scopes.specs.declared.scopes.Sight.{Sight}
+use Rattle.check_types.specs.Scopes.{Block, Blocks, entry_view, scope_view, with_name, without}
+use Rattle.check_types.proofs.IndexLaws.{name_viewed}
+use Rattle.check_types.specs.declared.scopes.Sight.{Sight}
 
 -- ---- one declaration more
 

@@ -9,7 +9,7 @@ use Rattle.part_verdict.specs.declared.fault.PartFault.{PartFault}
 use Rattle.part_verdict.specs.declared.fault.PartFault.TheVariants.{Source, Fallen, Memory}
 use Rattle.part_verdict.specs.PartAnswers.{FailsPart, Judged, PartAnswers}
 use Rattle.part_verdict.proofs.PartLaws.{part_after, fails_part}
-use Rattle.check_scopes.specs.Scopes.{Block, Blocks, outer_by, outer_of}
+use Rattle.check_types.specs.Scopes.{Block, Blocks, outer_by, outer_of}
 use Rattle.check_heads.specs.SoFar.{IsBroken, UnlessMemory}
 
 pub ruleset afters = (part_after, fails_part, after_is)

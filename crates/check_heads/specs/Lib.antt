@@ -1,3 +1,4 @@
 pub mod HeadedView
 pub mod ParamParts
 pub mod SoFar
+pub mod Counting

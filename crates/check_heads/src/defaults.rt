@@ -11,13 +11,13 @@ ghost use Rattle.part_verdict.specs.PartAnswers.{PartAnswers};
 ghost use Rattle.check_types.specs.ContextView.{around_view, default_view};
 ghost use Rattle.check_types.specs.MeaningView.{cell_view, meaning_view, place_view};
 ghost use Rattle.check_types.specs.TypedView.{typed_view};
-ghost use Rattle.check_scopes.specs.Scopes.{scope_view, sight_view};
+ghost use Rattle.check_types.specs.Scopes.{scope_view, sight_view};
 ghost use Rattle.check_heads.specs.HeadedView.{defaulted_view};
 
 use check_expressions::expr;
-use check_names::converter_to;
-use check_scopes::{Scopes, Sight};
-use check_types::{ArrayAt, CellAt, Context, Meaning, ParamDefault, Typed};
+use check_types::{
+    ArrayAt, CellAt, Context, Meaning, ParamDefault, Scopes, Sight, Typed, converter_to,
+};
 use part_verdict::PartFault;
 use pawn_base::List;
 use pawn_tags::matches;

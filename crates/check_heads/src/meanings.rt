@@ -4,12 +4,11 @@ ghost use Rattle.pawn_typing.specs.Scope.{with_entries};
 ghost use Rattle.pawn_heads.specs.Params as spec;
 ghost use Rattle.check_types.specs.ContextView.{around_view};
 ghost use Rattle.check_types.specs.MeaningView.{meaning_view};
-ghost use Rattle.check_scopes.specs.Scopes.{scope_view, sight_view, without};
+ghost use Rattle.check_types.specs.Scopes.{scope_view, sight_view, without};
 
 use super::reaches::array_reach;
 use super::tags::own_tag;
-use check_scopes::{Scopes, Sight};
-use check_types::{ArrayAt, CellAt, Context, Meaning};
+use check_types::{ArrayAt, CellAt, Context, Meaning, Scopes, Sight};
 use part_verdict::PartFault;
 use pawn_base::Memory;
 use pawn_tree::{At, Dim, Param};

@@ -11,7 +11,7 @@ ghost use Rattle.pawn_heads.specs.ParamDefaults as defaults;
 ghost use Rattle.pawn_verdict.specs.Answers.{Answers};
 ghost use Rattle.part_verdict.specs.PartAnswers.{PartAnswers};
 ghost use Rattle.check_types.specs.ContextView.{around_view, default_view};
-ghost use Rattle.check_scopes.specs.Scopes.{scope_view};
+ghost use Rattle.check_types.specs.Scopes.{scope_view};
 ghost use Rattle.check_heads.specs.HeadedView.{headed_view};
 ghost use Rattle.check_heads.specs.ParamParts as part;
 
@@ -19,8 +19,7 @@ use super::defaults::default_rule;
 use super::headed::Headed;
 use super::reaches::{array_reach, array_slot};
 use super::tags::tag_numbers;
-use check_scopes::Scopes;
-use check_types::{Context, Param as Typed, ParamDefault};
+use check_types::{Context, Param as Typed, ParamDefault, Scopes};
 use part_verdict::PartFault;
 use pawn_base::{Bytes, List};
 use pawn_program::Slot;

@@ -3,7 +3,7 @@ ghost use Rattle.pawn_scopes.specs.Verdict.{Stands, Verdict};
 ghost use Rattle.pawn_values.specs.Parts.{Judged};
 ghost use Rattle.pawn_heads.specs.Params as spec;
 ghost use Rattle.part_verdict.specs.PartAnswers.{PartAnswers};
-ghost use Rattle.check_parts.specs.JudgedView.{judged_view};
+ghost use Rattle.check_values.specs.JudgedView.{judged_view};
 ghost use Rattle.check_heads.specs.HeadedView.{headed_view};
 ghost use Rattle.check_heads.specs.ParamParts.{headed_behind};
 ghost use Rattle.check_heads.specs.SoFar.{GoesOn, judged_behind, parts_view, progress_view};

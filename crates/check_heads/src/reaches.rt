@@ -8,12 +8,11 @@ ghost use Rattle.pawn_verdict.specs.Answers.{Answers};
 ghost use Rattle.part_verdict.specs.PartAnswers.{PartAnswers};
 ghost use Rattle.check_types.specs.ContextView.{around_view};
 ghost use Rattle.check_types.specs.ExtentView.{extent_view};
-ghost use Rattle.check_scopes.specs.Scopes.{scope_view};
+ghost use Rattle.check_types.specs.Scopes.{scope_view};
 ghost use Rattle.check_values.specs.ValueViews.{dimensions_view};
 ghost use Rattle.check_heads.specs.HeadedView.{reach_view};
 
-use check_scopes::Scopes;
-use check_types::{Context, Extent};
+use check_types::{Context, Extent, Scopes};
 use check_values::{Dimensions, array_dimensions, within};
 use part_verdict::PartFault;
 use pawn_arrays::Shape;

@@ -4,8 +4,7 @@ ghost use Rattle.pawn_typing.specs.Around.{first_tag, tag_number as number_in};
 ghost use Rattle.pawn_heads.specs.Params as spec;
 ghost use Rattle.check_types.specs.ContextView.{around_view};
 
-use check_names::{UNTAGGED, tag_number};
-use check_types::Context;
+use check_types::{Context, UNTAGGED, tag_number};
 use pawn_base::{List, Memory};
 use pawn_tree::Name;
 use std::alloc::Global;

@@ -9,7 +9,7 @@ use Rattle.pawn_typing.specs.Scope.{Scope}
 use Rattle.pawn_typing.specs.Around.{Around}
 use Rattle.pawn_bodies.specs.Points as plain
 use Rattle.pawn_bodies.specs.Points.{behind_vars}
-use Rattle.check_scopes.specs.Scopes.{Blocks, scope_view, without}
+use Rattle.check_types.specs.Scopes.{Blocks, scope_view, without}
 use Rattle.check_locals.specs.declared.point.Point.{Point}
 use Rattle.check_locals.specs.PointView.{point_view}
 use Rattle.check_locals.proofs.PathLaws.{Extends, forgotten}

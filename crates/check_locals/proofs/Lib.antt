@@ -5,3 +5,4 @@ pub mod CountLaws
 pub mod PathLaws
 pub mod VarLaws
 pub mod BackLaws
+pub mod SumLaws

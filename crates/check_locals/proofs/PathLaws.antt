@@ -3,8 +3,8 @@ use Rattle.std.proofs.Common.{◌≡◌, ◌≤◌, ℕ, ◌+◌, ◌-◌, List,
 use Rattle.std.proofs.Common.{sym, ap, ap₂, ◌∙◌, arith, append_assoc, length-append}
 use Rattle.std.proofs.lemmas.List.{append-nil, take-map, take_at, length-map}
 use Rattle.pawn_typing.specs.Scope.{Scope, Entry, with_entries}
-use Rattle.check_scopes.specs.Scopes.{Block, Blocks, block_view, scope_view, without, outer_of}
-use Rattle.check_scopes.specs.Scopes.{outer_by}
+use Rattle.check_types.specs.Scopes.{Block, Blocks, block_view, scope_view, without, outer_of}
+use Rattle.check_types.specs.Scopes.{outer_by}
 
 -- so many declarations more in the innermost block
 pub record Extends (n : ℕ) (before after : Scope) : Type 0 where

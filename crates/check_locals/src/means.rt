@@ -6,14 +6,12 @@ ghost use Rattle.pawn_values.specs.Arrays.{shaped};
 ghost use Rattle.pawn_bodies.specs.Points as spec;
 ghost use Rattle.check_types.specs.ContextView.{around_view};
 ghost use Rattle.check_types.specs.MeaningView.{meaning_view, place_view};
-ghost use Rattle.check_scopes.specs.Scopes.{sight_view};
+ghost use Rattle.check_types.specs.Scopes.{sight_view};
 ghost use Rattle.check_locals.specs.PointView.{point_view};
 
 use super::counts::{objects_of_var, slots_of};
 use super::point::Point;
-use check_names::{UNTAGGED, tag_number};
-use check_scopes::Sight;
-use check_types::{ArrayAt, CellAt, Context, Extent, Meaning};
+use check_types::{ArrayAt, CellAt, Context, Extent, Meaning, Sight, UNTAGGED, tag_number};
 use check_values::array_shape;
 use part_verdict::PartFault;
 use pawn_arrays::Shape;

@@ -3,8 +3,7 @@ ghost use Rattle.pawn_verdict.specs.Answers.{Answers};
 ghost use Rattle.check_types.specs.TypedView.{form_view};
 ghost use Rattle.check_places.specs.Held.{held_view};
 
-use check_names::line;
-use check_types::{Extent, Form};
+use check_types::{Extent, Form, line};
 use pawn_program::Array;
 use pawn_tree::At;
 use pawn_typing::NOT_AN_ARRAY;

@@ -10,9 +10,8 @@ ghost use Rattle.check_places.specs.Held.{held_view};
 ghost use Rattle.check_places.specs.WholeView.{whole_view};
 
 use super::cells::{Held, array_held};
-use check_names::{cell, line};
 use check_rules::Operand;
-use check_types::{Extent, Form, Made, Typed};
+use check_types::{Extent, Form, Made, Typed, cell, line};
 use pawn_base::Memory;
 use pawn_program::{Array, Expr, Scalar};
 use pawn_tree::At;

@@ -6,8 +6,7 @@ ghost use Rattle.pawn_typing.specs.Texts.{packed_cell, packed_cells, text_cells,
 ghost use Rattle.pawn_verdict.specs.Answers.{Answers};
 ghost use Rattle.check_types.specs.TypedView.{typed_view};
 
-use check_names::{UNTAGGED, text_size};
-use check_types::{Form, Made, Typed};
+use check_types::{Form, Made, Typed, UNTAGGED, text_size};
 use pawn_arrays::CELL_LIMIT;
 use pawn_base::{Cells, List, Memory};
 use pawn_program::{Object, Shape};

@@ -10,9 +10,8 @@ ghost use Rattle.check_rules.specs.OperandView.{operand_view};
 ghost use Rattle.check_places.specs.TargetView.{target_view};
 ghost use Rattle.check_places.specs.Updated.{updated_by};
 
-use check_names::{cell, converter, function_tag, takes_either};
 use check_rules::{Operand, chosen, divides_by_zero, make_value, target};
-use check_types::{Context, Made, Typed};
+use check_types::{Context, Made, Typed, cell, converter, function_tag, takes_either};
 use pawn_base::Memory;
 use pawn_cells::Operator;
 use pawn_program::{Expr, Scalar};

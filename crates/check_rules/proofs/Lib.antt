@@ -1,1 +1,4 @@
+pub mod LinkLaws
+pub mod TagLaws
+pub mod ChainLaws
 pub mod SignLaws

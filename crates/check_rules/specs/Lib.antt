@@ -1,2 +1,4 @@
+pub mod Compared
+pub mod Begun
 pub mod OperandView
 pub mod Values

@@ -5,8 +5,7 @@ ghost use Rattle.check_types.specs.ContextView.{around_view};
 ghost use Rattle.check_types.specs.TypedView.{typed_view};
 
 use super::operators::make_value;
-use check_names::{cell, takes_either};
-use check_types::{Context, Typed};
+use check_types::{Context, Typed, cell, takes_either};
 use pawn_program::Expr;
 use pawn_tree::At;
 use pawn_verdict::CheckFault;

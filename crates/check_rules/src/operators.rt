@@ -12,8 +12,9 @@ ghost use Rattle.check_rules.specs.OperandView.{operand_view};
 ghost use Rattle.check_rules.specs.Values.{value_of};
 
 use super::operands::Operand;
-use check_names::{TRUTH_TAG, UNTAGGED, cell, function_tag, takes_either};
-use check_types::{Context, Form, Made, Typed};
+use check_types::{
+    Context, Form, Made, TRUTH_TAG, Typed, UNTAGGED, cell, function_tag, takes_either,
+};
 use pawn_base::Memory;
 use pawn_cells::{Cell, Logical, Operator, Prefix};
 use pawn_program::Expr;

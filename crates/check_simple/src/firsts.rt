@@ -7,7 +7,7 @@ ghost use Rattle.pawn_calls.specs.Literals.{literals};
 ghost use Rattle.pawn_bodies.specs.Points.{beyond};
 ghost use Rattle.pawn_bodies.specs.Statements as spec;
 ghost use Rattle.pawn_bodies.specs.Stood.{stood};
-ghost use Rattle.check_parts.specs.JudgedView.{judged_view};
+ghost use Rattle.check_values.specs.JudgedView.{judged_view};
 ghost use Rattle.check_types.specs.TypedView.{typed_view};
 ghost use Rattle.check_locals.specs.PointView.{point_view};
 ghost use Rattle.check_locals.specs.Tells.{Tells, told as plain_told};

@@ -1,4 +1,4 @@
-use check_automata::Automata;
+use check_source::Automata;
 use check_types::Context;
 
 /// What is known where a body is judged: the source, its automata, and the tag of what the function

@@ -12,7 +12,7 @@ ghost use Rattle.pawn_bodies.specs.Statements as spec;
 ghost use Rattle.pawn_bodies.specs.Stood.{stood};
 ghost use Rattle.check_types.specs.CodeView.{code_view};
 ghost use Rattle.check_types.specs.ContextView.{around_view};
-ghost use Rattle.check_automata.specs.AutomataView.{automata_view};
+ghost use Rattle.check_source.specs.AutomataView.{automata_view};
 ghost use Rattle.check_locals.specs.PointView.{point_view};
 ghost use Rattle.check_locals.specs.Tells.{Tells};
 ghost use Rattle.check_statements.specs.StoodView.{stood_view, used_view};
@@ -22,11 +22,10 @@ use super::setting::Setting;
 use super::states::reached;
 use super::values::{perhaps, value, value_or_zero};
 use check_locals::Point;
-use check_names::send;
 use check_statements::{
     Stood, Used, assert_rule, do_rule, exit_rule, return_rule, sleep_rule, state_rule,
 };
-use check_types::Made;
+use check_types::{Made, send};
 use pawn_base::Memory;
 use pawn_program::Expr as Code;
 use pawn_tree::{At, Expr, StateName};

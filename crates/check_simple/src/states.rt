@@ -2,10 +2,10 @@ ghost use Rattle.std.specs.Prelude.{Some, slice_get};
 ghost use Rattle.pawn_scopes.specs.Verdict.{Stands};
 ghost use Rattle.pawn_bodies.specs.States as spec;
 ghost use Rattle.pawn_verdict.specs.Answers.{Answers};
-ghost use Rattle.check_automata.specs.AutomataView.{automata_view};
+ghost use Rattle.check_source.specs.AutomataView.{automata_view};
 ghost use Rattle.check_simple.specs.StateView.{reached_view};
 
-use check_automata::Automata;
+use check_source::Automata;
 use pawn_tree::{At, StateName};
 use pawn_typing::{UNKNOWN_AUTOMATON, UNKNOWN_STATE};
 use pawn_verdict::{CheckFault, broken};

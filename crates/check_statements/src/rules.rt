@@ -1,6 +1,7 @@
 ghost use Rattle.std.specs.Prelude.{◌≡◌, [], ◌∷◌, ◌++◌, map, IfOk};
 ghost use Rattle.pawn_program.specs.Program as code;
-ghost use Rattle.pawn_program.specs.View.{else_view, object_view, perhaps_view, slot_view, stmt_view};
+ghost use Rattle.pawn_program.specs.View.{else_view, object_view, perhaps_view, slot_view};
+ghost use Rattle.pawn_program.specs.View.{stmt_view};
 ghost use Rattle.pawn_bodies.specs.Stood.{stood};
 ghost use Rattle.pawn_bodies.specs.Statements as spec;
 ghost use Rattle.pawn_verdict.specs.Answers.{Answers};

@@ -6,8 +6,7 @@ ghost use Rattle.pawn_verdict.specs.Answers.{Answers};
 ghost use Rattle.check_types.specs.TypedView.{typed_view};
 ghost use Rattle.check_statements.specs.StoodView.{maybe_view, used_view};
 
-use check_names::{UNTAGGED, cell};
-use check_types::{Made, Typed};
+use check_types::{Made, Typed, UNTAGGED, cell};
 use pawn_base::Memory;
 use pawn_program::Expr;
 use pawn_tree::At;

@@ -6,14 +6,13 @@ ghost use Rattle.pawn_calls.specs.Expressions as expressions;
 ghost use Rattle.pawn_bodies.specs.Switches as spec;
 ghost use Rattle.check_types.specs.ContextView.{around_view};
 ghost use Rattle.check_types.specs.TypedView.{typed_view};
-ghost use Rattle.check_scopes.specs.Scopes.{scope_view};
+ghost use Rattle.check_types.specs.Scopes.{scope_view};
 ghost use Rattle.check_locals.specs.Tells.{Tells, told as plain_told};
 ghost use Rattle.check_switches.specs.CaseView.{all_ends_view, ends_view};
 
 use check_expressions::expr;
 use check_locals::told;
-use check_scopes::Scopes;
-use check_types::{Context, Typed};
+use check_types::{Context, Scopes, Typed};
 use pawn_base::Memory;
 use pawn_tree::{Expr, Range};
 use pawn_verdict::CheckFault;

@@ -1,1 +1,5 @@
 pub mod ThreadLaws
+pub mod ChoiceLaws
+pub mod SizeLaws
+pub mod TextLaws
+pub mod IndexLaws

@@ -3,3 +3,5 @@ pub mod CodeView
 pub mod MeaningView
 pub mod TypedView
 pub mod ContextView
+pub mod Scopes
+pub mod Indexed

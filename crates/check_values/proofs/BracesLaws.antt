@@ -11,6 +11,7 @@ use Rattle.pawn_typing.specs.Around.{Around}
 use Rattle.pawn_typing.specs.Scope.{Scope}
 use Rattle.pawn_values.specs.Cells.{static_value, local_value}
 use Rattle.pawn_values.specs.FirstValues.{cell_of_list, first_cells}
+use Rattle.pawn_values.specs.Parts.{init_part, init_parts}
 use Rattle.part_verdict.specs.declared.fault.PartFault.{PartFault}
 use Rattle.part_verdict.specs.declared.fault.PartFault.TheVariants.{Source}
 use Rattle.part_verdict.specs.PartAnswers.{FailsPart}
@@ -44,3 +45,9 @@ module _ (cx : Around) (scope : Scope) (at : At) (tag : ℕ) (begin : At) (list 
 pub fails_here : {A : Type 0} (kind : ℕ) (at : At) (fault : PartFault)
     → fault ≡ Source kind at.place → FailsPart {A = A} (broken kind at) fault
 fails_here kind at fault e = rw e (record { cause = (0, omega arith, refl) })
+
+pub braces_parts : (cx : Around) (scope : Scope) (at : At) (list : List held.Init) (goes_on : Bool)
+    → init_part cx scope (init_view (held.Braces at list goes_on))
+    ≡ init_parts cx scope (inits (map init_view list))
+braces_parts cx scope at list goes_on =
+    ap (λ (it : Init). init_part cx scope it) (braces_view at list goes_on)

@@ -6,3 +6,4 @@ pub mod GoingOnLaws
 pub mod CountLaws
 pub mod BracesLaws
 pub mod BehindLaws
+pub mod BesideLaws

@@ -4,3 +4,5 @@ pub mod Counted
 pub mod GoingOn
 pub mod Listed
 pub mod Joined
+pub mod JudgedView
+pub mod Beside

@@ -10,7 +10,7 @@ ghost use Rattle.pawn_verdict.specs.Answers.{Answers};
 ghost use Rattle.part_verdict.specs.PartAnswers.{PartAnswers};
 ghost use Rattle.check_types.specs.ContextView.{around_view};
 ghost use Rattle.check_types.specs.TypedView.{typed_view};
-ghost use Rattle.check_scopes.specs.Scopes.{scope_view};
+ghost use Rattle.check_types.specs.Scopes.{scope_view};
 ghost use Rattle.check_values.specs.Counted.{counted, size_by, text_by};
 ghost use Rattle.check_values.specs.ValueViews.{array_value_view, shaped_view};
 
@@ -18,8 +18,7 @@ use super::constants::alone;
 use super::faults::part_broken;
 use super::firsts::cells_or_zeros;
 use super::sizes::{Dimensions, array_dimensions};
-use check_scopes::Scopes;
-use check_types::{Context, Form, Typed};
+use check_types::{Context, Form, Scopes, Typed};
 use part_verdict::PartFault;
 use pawn_arrays::{Shape, cells};
 use pawn_base::{Cells, List};

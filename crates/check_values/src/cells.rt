@@ -5,16 +5,14 @@ ghost use Rattle.pawn_verdict.specs.Answers.{Answers};
 ghost use Rattle.part_verdict.specs.PartAnswers.{PartAnswers};
 ghost use Rattle.check_types.specs.ContextView.{around_view};
 ghost use Rattle.check_types.specs.TypedView.{typed_view};
-ghost use Rattle.check_scopes.specs.Scopes.{scope_view};
+ghost use Rattle.check_types.specs.Scopes.{scope_view};
 ghost use Rattle.check_values.specs.ValueViews.{first_view, local_view};
 
 use super::constants::{alone, behind, constant_of, constant_warned};
 use super::faults::part_broken;
 use super::filling::First;
-use check_names::{cell, send};
 use check_rules::Operand;
-use check_scopes::Scopes;
-use check_types::{Context, Made, Typed};
+use check_types::{Context, Made, Scopes, Typed, cell, send};
 use part_verdict::PartFault;
 use pawn_base::{Cells, List};
 use pawn_program::Expr;

@@ -8,13 +8,12 @@ ghost use Rattle.part_verdict.specs.PartAnswers.{PartAnswers};
 ghost use Rattle.check_types.specs.ContextView.{around_view};
 ghost use Rattle.check_types.specs.TypedView.{typed_view};
 ghost use Rattle.check_rules.specs.OperandView.{operand_view};
-ghost use Rattle.check_scopes.specs.Scopes.{scope_view};
+ghost use Rattle.check_types.specs.Scopes.{scope_view};
 ghost use Rattle.check_values.specs.ValueViews.{constant_view};
 
 use check_expressions::expr;
 use check_rules::Operand;
-use check_scopes::Scopes;
-use check_types::{Context, Typed};
+use check_types::{Context, Scopes, Typed};
 use part_verdict::PartFault;
 use pawn_base::{List, Memory};
 use pawn_tags::matches;

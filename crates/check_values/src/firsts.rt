@@ -11,15 +11,14 @@ ghost use Rattle.pawn_verdict.specs.Answers.{Answers};
 ghost use Rattle.part_verdict.specs.PartAnswers.{PartAnswers};
 ghost use Rattle.check_types.specs.ContextView.{around_view};
 ghost use Rattle.check_types.specs.TypedView.{typed_view};
-ghost use Rattle.check_scopes.specs.Scopes.{scope_view};
+ghost use Rattle.check_types.specs.Scopes.{scope_view};
 ghost use Rattle.check_values.specs.Listed.{listed_by};
 ghost use Rattle.check_values.specs.ValueViews.{first_view};
 
 use super::constants::{alone, constant_value, constant_warned, tested_first};
 use super::faults::part_broken;
 use super::filling::{First, all_joined, filled, joined, with_zeros};
-use check_scopes::Scopes;
-use check_types::{Context, Form, Typed};
+use check_types::{Context, Form, Scopes, Typed};
 use part_verdict::PartFault;
 use pawn_arrays::Shape;
 use pawn_base::{Cells, List, Memory};

@@ -5,15 +5,14 @@ ghost use Rattle.pawn_values.specs.Sizes as spec;
 ghost use Rattle.pawn_verdict.specs.Answers.{Answers};
 ghost use Rattle.part_verdict.specs.PartAnswers.{PartAnswers};
 ghost use Rattle.check_types.specs.ContextView.{around_view};
-ghost use Rattle.check_scopes.specs.Scopes.{scope_view};
+ghost use Rattle.check_types.specs.Scopes.{scope_view};
 ghost use Rattle.check_values.specs.Inner.{all_of, single, with_size};
 ghost use Rattle.check_values.specs.ValueViews.{dimension_view, dimensions_view, given_view};
 ghost use Rattle.check_values.specs.ValueViews.{inner_view};
 
 use super::constants::constant_value;
 use super::faults::part_broken;
-use check_scopes::Scopes;
-use check_types::Context;
+use check_types::{Context, Scopes};
 use part_verdict::PartFault;
 use pawn_base::{List, Memory};
 use pawn_tree::{At, Dim};

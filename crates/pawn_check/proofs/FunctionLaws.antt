@@ -18,7 +18,7 @@ use Rattle.pawn_typed.specs.Publics.{publics_from, publics}
 use Rattle.pawn_typed.specs.Programs.{functions_from, program_of}
 use Rattle.pawn_typed.specs.Whole.{Checked, unless, whole_faults, source_faults, sum_faults}
 use Rattle.pawn_typed.specs.Whole.{within_sums, done, checked_of, typed}
-use Rattle.check_published.specs.Names as names
+use Rattle.check_whole.specs.Names as names
 use Rattle.pawn_check.specs.FunctionNames.{function_names, AreNames}
 
 -- ---- the program of a source

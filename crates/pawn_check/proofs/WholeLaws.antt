@@ -15,7 +15,7 @@ use Rattle.pawn_typed.specs.Whole.{Checked, unless, within_sums, has_main, has_s
 use Rattle.pawn_typed.specs.Whole.{dynamic_faults, entry_faults}
 use Rattle.pawn_verdict.specs.Answers.{Answers, Fails}
 use Rattle.pawn_verdict.specs.declared.fault.CheckFault.{CheckFault}
-use Rattle.check_sums.specs.PassedView.{passed_view}
+use Rattle.check_whole.specs.PassedView.{passed_view}
 use Rattle.check_classifiers.specs.Finds.{Finds}
 use Rattle.pawn_check.specs.Parts.{heads, function_faults}
 use Rattle.pawn_check.specs.View.{checked_view}

@@ -4,7 +4,7 @@ use Rattle.std.specs.List.{AllByRecursion}
 use Rattle.pawn_tree.specs.Declarations.{Tree}
 use Rattle.pawn_program.specs.Program.{Public, Program}
 use Rattle.pawn_typed.specs.Sources.{source_of}
-use Rattle.check_published.specs.Names as names
+use Rattle.check_whole.specs.Names as names
 
 -- by number, each as it is written in its first body; an operator's is `operator` with its sign
 abbrev pub function_names : Tree → List (List ℕ)

@@ -2,9 +2,9 @@
 use Rattle.std.specs.Prelude.{◌≡◌, map}
 use Rattle.pawn_tree.specs.Declarations.{Tree}
 use Rattle.pawn_typed.specs.Sources.{source_of}
-use Rattle.check_groups.specs.GroupsView.{groups_view}
-use Rattle.check_sources.specs.HeadingView.{heading_view}
-use Rattle.check_sources.specs.SourceView.{source_view}
+use Rattle.check_source.specs.GroupsView.{groups_view}
+use Rattle.check_source.specs.HeadingView.{heading_view}
+use Rattle.check_source.specs.SourceView.{source_view}
 use Rattle.check_contexts.specs.Distinct.{IsDistinct}
 use Rattle.check_contexts.specs.Own.{AreFirsts}
 use Rattle.pawn_check.specs.declared.reading.Reading.{Reading}

@@ -1,7 +1,7 @@
 ghost use Rattle.pawn_tree.specs.View.{tree_view};
 ghost use Rattle.pawn_typed.specs.Whole.{typed};
 ghost use Rattle.pawn_verdict.specs.Answers.{Answers};
-ghost use Rattle.check_sources.specs.SourceView.{source_view};
+ghost use Rattle.check_source.specs.SourceView.{source_view};
 ghost use Rattle.pawn_check.specs.Parts.{typed_by};
 ghost use Rattle.pawn_check.specs.Reads.{IsRead};
 ghost use Rattle.pawn_check.specs.View.{checked_view};
@@ -11,7 +11,7 @@ use super::declared::{all_declared, all_heads};
 use super::reading::{Reading, read};
 use super::together::stand_together;
 use super::whole::{finish, source_stands};
-use check_published::publics;
+use check_whole::publics;
 use pawn_tree::Tree;
 use pawn_verdict::CheckFault;
 use std::alloc::Global;

@@ -5,8 +5,7 @@ ghost use Rattle.pawn_typed.specs.Whole.{Checked as PlainChecked, typed};
 ghost use Rattle.pawn_check.specs.FunctionNames as spec;
 ghost use Rattle.pawn_check.specs.FunctionNames.{AreNames};
 
-use check_published::names_by_number;
-use check_reading::read_source;
+use check_whole::{names_by_number, read_source};
 use pawn_base::{Bytes, List, Memory};
 use pawn_tree::Tree;
 use std::alloc::Global;

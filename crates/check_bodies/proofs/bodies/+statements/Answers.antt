@@ -5,7 +5,7 @@ use Rattle.pawn_tree.specs.View.{expr_view, stmt_view, case_view, first_view}
 use Rattle.std.proofs.lemmas.Result.{err_from_is_err_and}
 use Rattle.pawn_tree.proofs.ViewLaws.{block_view, if_view, switch_view}
 use Rattle.pawn_bodies.specs.Counts.{objects_in_all, slots_in_all}
-use Rattle.check_scopes.specs.Scopes.{without}
+use Rattle.check_types.specs.Scopes.{without}
 use Rattle.check_locals.specs.PointView.{point_view}
 use Rattle.check_types.specs.ContextView.{around_view}
 use Rattle.check_simple.proofs.PointLaws.{beyond_none}

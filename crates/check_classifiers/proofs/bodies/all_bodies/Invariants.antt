@@ -1,5 +1,5 @@
 use Rattle.std.proofs.Common.{◌≡◌, false, map, drop}
-use Rattle.check_groups.specs.WrittenView.{written_view}
+use Rattle.check_source.specs.WrittenView.{written_view}
 use Rattle.check_classifiers.specs.Bare.{bodies_by}
 use Rattle.check_classifiers.proofs.bodies.all_bodies.Given as goal
 

@@ -1,7 +1,7 @@
 use Rattle.std.proofs.Common.{◌≡◌, map, drop}
 use Rattle.std.specs.List.{list_any}
 use Rattle.pawn_typed.specs.Functions as spec
-use Rattle.check_groups.specs.WrittenView.{written_view}
+use Rattle.check_source.specs.WrittenView.{written_view}
 use Rattle.check_classifiers.proofs.bodies.some_classified.Given as goal
 
 abbrev pub invariant-loop-it : goal.invariant-loop-it

@@ -2,7 +2,7 @@ use Rattle.std.proofs.Common.{◌≡◌, ◌++◌, map, drop}
 use Rattle.std.specs.Prelude.{filter, filter_map}
 use Rattle.pawn_automata.specs.Groups.{Written}
 use Rattle.pawn_typed.specs.Functions as spec
-use Rattle.check_groups.specs.WrittenView.{written_view}
+use Rattle.check_source.specs.WrittenView.{written_view}
 use Rattle.check_classifiers.proofs.clauses.collect.Given as goal
 
 abbrev pub invariant-loop-it : goal.invariant-loop-it

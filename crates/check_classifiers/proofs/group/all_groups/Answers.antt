@@ -1,6 +1,6 @@
 use Rattle.std.proofs.Common.{arith}
 use Rattle.std.proofs.lemmas.Result.{err_from_is_err_and}
-use Rattle.check_groups.specs.GroupsView.{group_view, groups_view}
+use Rattle.check_source.specs.GroupsView.{group_view, groups_view}
 use Rattle.check_classifiers.specs.Group.{bodies_and_params}
 use Rattle.check_classifiers.proofs.FindsLaws.{map_at, so_far_more, so_far_fails}
 use Rattle.check_classifiers.proofs.group.all_groups.Goals as goal

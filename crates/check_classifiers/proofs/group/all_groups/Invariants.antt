@@ -1,4 +1,4 @@
-use Rattle.check_groups.specs.GroupsView.{groups_view}
+use Rattle.check_source.specs.GroupsView.{groups_view}
 use Rattle.check_classifiers.specs.Group.{bodies_and_params}
 use Rattle.check_classifiers.proofs.FindsLaws.{FindsSoFar}
 use Rattle.check_classifiers.proofs.group.all_groups.Given as goal

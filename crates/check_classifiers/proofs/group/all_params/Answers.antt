@@ -1,6 +1,6 @@
 use Rattle.std.proofs.Common.{map, arith}
 use Rattle.std.proofs.lemmas.Result.{err_from_is_err_and}
-use Rattle.check_groups.specs.WrittenView.{written_view}
+use Rattle.check_source.specs.WrittenView.{written_view}
 use Rattle.check_classifiers.specs.Group.{params_by}
 use Rattle.check_classifiers.proofs.FindsLaws.{map_at, so_far_more, so_far_fails}
 use Rattle.check_classifiers.proofs.group.all_params.Goals as goal

@@ -1,5 +1,5 @@
 use Rattle.std.proofs.Common.{map}
-use Rattle.check_groups.specs.WrittenView.{written_view}
+use Rattle.check_source.specs.WrittenView.{written_view}
 use Rattle.check_classifiers.specs.Group.{params_by}
 use Rattle.check_classifiers.proofs.FindsLaws.{FindsSoFar}
 use Rattle.check_classifiers.proofs.group.all_params.Given as goal

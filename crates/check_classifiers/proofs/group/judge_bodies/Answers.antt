@@ -1,8 +1,8 @@
 use Rattle.std.proofs.Common.{Bool, List, [], false, map, ap₂, subst, ◌∙◌}
 use Rattle.pawn_scopes.specs.Verdict.{Fault}
-use Rattle.check_groups.specs.GroupsView.{group_view}
-use Rattle.check_groups.specs.WrittenView.{written_view}
-use Rattle.check_groups.specs.declared.written.Written.{Written}
+use Rattle.check_source.specs.GroupsView.{group_view}
+use Rattle.check_source.specs.WrittenView.{written_view}
+use Rattle.check_source.specs.declared.written.Written.{Written}
 use Rattle.check_classifiers.specs.Bare.{bodies_by}
 use Rattle.check_classifiers.specs.Finds.{Finds}
 use Rattle.check_classifiers.proofs.ClauseLaws.{bodies_are}

@@ -1,5 +1,5 @@
 use Rattle.std.proofs.Common.{◌≡◌, map, drop}
-use Rattle.check_groups.specs.WrittenView.{written_view}
+use Rattle.check_source.specs.WrittenView.{written_view}
 use Rattle.check_classifiers.specs.Mixed.{any_mixed}
 use Rattle.check_classifiers.proofs.group.some_mixed.Given as goal
 

@@ -1,8 +1,8 @@
 use Rattle.std.proofs.Common.{◌≤◌, ◌∙◌, ◌++◌, List, map, length, ap, arith}
 use Rattle.pawn_typing.specs.Scope.{Entry}
-use Rattle.check_scopes.specs.Scopes.{block_view}
-use Rattle.check_sources.specs.HeadingView.{heading_view, role_view}
-use Rattle.check_sources.specs.SourceView.{source_view}
+use Rattle.check_types.specs.Scopes.{block_view}
+use Rattle.check_source.specs.HeadingView.{heading_view, role_view}
+use Rattle.check_source.specs.SourceView.{source_view}
 use Rattle.check_contexts.proofs.AtLaws.{viewed_in, got_is, past}
 use Rattle.check_contexts.proofs.BeginningLaws.{forwards_more}
 use Rattle.check_contexts.proofs.DeclaresLaws.{forward_is, so_far_ends}

@@ -1,6 +1,6 @@
 use Rattle.std.proofs.Common.{map, drop}
-use Rattle.check_sources.specs.HeadingView.{heading_view}
-use Rattle.check_sources.specs.SourceView.{source_view}
+use Rattle.check_source.specs.HeadingView.{heading_view}
+use Rattle.check_source.specs.SourceView.{source_view}
 use Rattle.check_contexts.specs.Forwards.{forwards_in}
 use Rattle.check_contexts.proofs.DeclaresLaws.{DeclaresSoFar}
 use Rattle.check_contexts.proofs.beginning.declare_forwards.Given as goal

@@ -1,11 +1,11 @@
 use Rattle.std.proofs.Common.{◌≤◌, ◌∙◌, ◌++◌, ℕ, List, [], map, length, sym, ap, ap₂, arith}
 use Rattle.pawn_typing.specs.Scope.{Entry}
 use Rattle.pawn_typed.specs.Sources as spec
-use Rattle.check_keys.specs.KeyView.{key_view}
-use Rattle.check_groups.specs.GroupsView.{groups_view, group_view}
-use Rattle.check_scopes.specs.Scopes.{block_view}
-use Rattle.check_sources.specs.HeadingView.{heading_view}
-use Rattle.check_sources.specs.SourceView.{source_view}
+use Rattle.check_source.specs.KeyView.{key_view}
+use Rattle.check_source.specs.GroupsView.{groups_view, group_view}
+use Rattle.check_types.specs.Scopes.{block_view}
+use Rattle.check_source.specs.HeadingView.{heading_view}
+use Rattle.check_source.specs.SourceView.{source_view}
 use Rattle.check_contexts.specs.Declares.{function_by}
 use Rattle.check_contexts.proofs.AtLaws.{viewed_in, got_is, past}
 use Rattle.check_contexts.proofs.OwnLaws.{has_number}

@@ -1,8 +1,8 @@
 use Rattle.std.proofs.Common.{[], map, drop}
 use Rattle.pawn_typed.specs.Sources as spec
-use Rattle.check_groups.specs.GroupsView.{groups_view}
-use Rattle.check_sources.specs.HeadingView.{heading_view}
-use Rattle.check_sources.specs.SourceView.{source_view}
+use Rattle.check_source.specs.GroupsView.{groups_view}
+use Rattle.check_source.specs.HeadingView.{heading_view}
+use Rattle.check_source.specs.SourceView.{source_view}
 use Rattle.check_contexts.proofs.DeclaresLaws.{DeclaresSoFar}
 use Rattle.check_contexts.proofs.beginning.declare_functions.Given as goal
 

@@ -1,7 +1,7 @@
 use Rattle.std.proofs.Common.{◌≤◌, ◌∙◌, [], map, length, sym, arith}
-use Rattle.check_scopes.specs.Scopes.{block_view}
-use Rattle.check_sources.specs.HeadingView.{heading_view}
-use Rattle.check_sources.specs.SourceView.{source_view}
+use Rattle.check_types.specs.Scopes.{block_view}
+use Rattle.check_source.specs.HeadingView.{heading_view}
+use Rattle.check_source.specs.SourceView.{source_view}
 use Rattle.check_contexts.proofs.AtLaws.{viewed_in, past}
 use Rattle.check_contexts.proofs.BeginningLaws.{entry_other, entry_native}
 use Rattle.check_contexts.proofs.DeclaresLaws.{so_far_ends}

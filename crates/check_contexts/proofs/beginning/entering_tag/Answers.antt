@@ -4,11 +4,11 @@ use Rattle.std.specs.Prelude.{find}
 use Rattle.pawn_automata.specs.Groups.{Group}
 use Rattle.pawn_typed.specs.Headings.{is_enters}
 use Rattle.pawn_typed.specs.Sources as spec
-use Rattle.check_keys.specs.KeyView.{key_view}
-use Rattle.check_groups.specs.declared.groups.Group.{Group as HeldGroup}
-use Rattle.check_groups.specs.GroupsView.{groups_view, group_view}
-use Rattle.check_sources.specs.HeadingView.{heading_view}
-use Rattle.check_sources.specs.SourceView.{source_view}
+use Rattle.check_source.specs.KeyView.{key_view}
+use Rattle.check_source.specs.declared.groups.Group.{Group as HeldGroup}
+use Rattle.check_source.specs.GroupsView.{groups_view, group_view}
+use Rattle.check_source.specs.HeadingView.{heading_view}
+use Rattle.check_source.specs.SourceView.{source_view}
 use Rattle.check_contexts.proofs.EntryLaws.{found_viewed, found_has}
 use Rattle.check_contexts.proofs.StatedLaws.{group_tag_is}
 use Rattle.check_contexts.proofs.beginning.entering_tag.Goals as goal

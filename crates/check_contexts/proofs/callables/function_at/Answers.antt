@@ -2,9 +2,9 @@ use Rattle.std.proofs.Common.{◌≡◌, ◌<◌, length, map, sym, ap, ◌∙�
 use Rattle.pawn_automata.specs.Groups.{Group}
 use Rattle.pawn_typed.specs.Headings.{belongs}
 use Rattle.check_types.specs.ContextView.{callable_view}
-use Rattle.check_groups.specs.GroupsView.{groups_view, group_view}
-use Rattle.check_sources.specs.HeadingView.{heading_view}
-use Rattle.check_sources.specs.SourceView.{source_view}
+use Rattle.check_source.specs.GroupsView.{groups_view, group_view}
+use Rattle.check_source.specs.HeadingView.{heading_view}
+use Rattle.check_source.specs.SourceView.{source_view}
 use Rattle.check_contexts.specs.HeadsView.{heads_view}
 use Rattle.check_contexts.proofs.AtLaws.{viewed_in, one_at}
 use Rattle.check_contexts.proofs.OwnLaws.{has_number}

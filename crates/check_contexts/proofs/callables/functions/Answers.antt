@@ -1,9 +1,9 @@
 use Rattle.std.proofs.Common.{◌<◌, ◌≤◌, ◌≡◌, map, length, ap, arith, refl}
 use Rattle.pawn_typed.specs.Sources as spec
 use Rattle.check_types.specs.ContextView.{callable_view}
-use Rattle.check_groups.specs.GroupsView.{groups_view, group_view}
-use Rattle.check_sources.specs.HeadingView.{heading_view}
-use Rattle.check_sources.specs.SourceView.{source_view}
+use Rattle.check_source.specs.GroupsView.{groups_view, group_view}
+use Rattle.check_source.specs.HeadingView.{heading_view}
+use Rattle.check_source.specs.SourceView.{source_view}
 use Rattle.check_contexts.specs.HeadsView.{heads_view}
 use Rattle.check_contexts.proofs.AtLaws.{some_at, within, past}
 use Rattle.check_contexts.proofs.EndLaws.{one_function, functions_past}

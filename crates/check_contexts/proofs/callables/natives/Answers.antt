@@ -1,7 +1,7 @@
 use Rattle.std.proofs.Common.{◌≤◌, ◌∙◌, Bool, suc, if◌then◌else◌, map, length, sym, ap, arith}
 use Rattle.check_types.specs.ContextView.{callable_view}
-use Rattle.check_sources.specs.HeadingView.{heading_view}
-use Rattle.check_sources.specs.SourceView.{source_view}
+use Rattle.check_source.specs.HeadingView.{heading_view}
+use Rattle.check_source.specs.SourceView.{source_view}
 use Rattle.check_contexts.specs.HeadsView.{heads_view}
 use Rattle.check_contexts.proofs.AtLaws.{viewed_in, past}
 use Rattle.check_contexts.proofs.CallableLaws.{native_other, native_more}

@@ -1,6 +1,6 @@
 use Rattle.std.proofs.Common.{map, take}
-use Rattle.check_groups.specs.GroupsView.{groups_view}
-use Rattle.check_sources.specs.HeadingView.{heading_view}
+use Rattle.check_source.specs.GroupsView.{groups_view}
+use Rattle.check_source.specs.HeadingView.{heading_view}
 use Rattle.check_contexts.specs.Own.{AreFirsts}
 use Rattle.check_contexts.proofs.firsts.find_firsts.Given as goal
 

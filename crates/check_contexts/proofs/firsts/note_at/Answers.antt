@@ -1,6 +1,6 @@
 use Rattle.std.proofs.Common.{◌≤◌, ℕ, Option, Some, length, arith}
 use Rattle.std.specs.Option.{option_or}
-use Rattle.check_automata.proofs.PlaceLaws.{set_updates}
+use Rattle.check_source.proofs.PlaceLaws.{set_updates}
 use Rattle.check_contexts.proofs.OwnLaws.{noted_past}
 use Rattle.check_contexts.proofs.firsts.note_at.Goals as goal
 

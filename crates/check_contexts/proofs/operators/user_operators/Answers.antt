@@ -1,7 +1,7 @@
 use Rattle.std.proofs.Common.{◌≤◌, ◌∙◌, ℕ, length, ap, refl, arith}
-use Rattle.check_keys.specs.KeyView.{key_view}
-use Rattle.check_groups.specs.GroupsView.{groups_view, group_view}
-use Rattle.check_sources.specs.SourceView.{source_view}
+use Rattle.check_source.specs.KeyView.{key_view}
+use Rattle.check_source.specs.GroupsView.{groups_view, group_view}
+use Rattle.check_source.specs.SourceView.{source_view}
 use Rattle.check_contexts.specs.Distinct.{defined_by}
 use Rattle.check_contexts.proofs.AtLaws.{viewed_in, past}
 use Rattle.check_contexts.proofs.DistinctLaws.{define_step, operators_more}

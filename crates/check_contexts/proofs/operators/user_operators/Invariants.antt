@@ -1,7 +1,7 @@
 use Rattle.std.proofs.Common.{◌≡◌, ◌++◌, drop}
 use Rattle.pawn_typed.specs.Sources as spec
-use Rattle.check_groups.specs.GroupsView.{groups_view}
-use Rattle.check_sources.specs.SourceView.{source_view}
+use Rattle.check_source.specs.GroupsView.{groups_view}
+use Rattle.check_source.specs.SourceView.{source_view}
 use Rattle.check_contexts.proofs.DistinctLaws.{AreOperators}
 use Rattle.check_contexts.proofs.operators.user_operators.Given as goal
 

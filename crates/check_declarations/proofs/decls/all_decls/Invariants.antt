@@ -4,7 +4,7 @@ use Rattle.pawn_typed.specs.Paths.{behind_decl}
 use Rattle.check_types.specs.ContextView.{around_view}
 use Rattle.check_locals.specs.PointView.{point_view}
 use Rattle.check_locals.specs.Tells.{told}
-use Rattle.check_done.specs.DoneView.{done_view}
+use Rattle.check_whole.specs.DoneView.{done_view}
 use Rattle.check_declarations.specs.KnownView.{source_view}
 use Rattle.check_declarations.proofs.DeclLaws.{Told, behind_decls}
 use Rattle.check_declarations.proofs.decls.all_decls.Given as goal

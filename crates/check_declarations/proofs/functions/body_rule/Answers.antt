@@ -1,5 +1,5 @@
 use Rattle.std.proofs.Common.{ap, ◌∙◌}
-use Rattle.check_scopes.specs.Scopes.{scope_view}
+use Rattle.check_types.specs.Scopes.{scope_view}
 use Rattle.check_declarations.proofs.PlaceLaws.{body_left, body_objects}
 use Rattle.check_declarations.proofs.functions.body_rule.Goals as goal
 

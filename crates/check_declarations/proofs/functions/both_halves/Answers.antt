@@ -6,8 +6,8 @@ use Rattle.pawn_bodies.specs.Points.{Point, beyond, tag_of}
 use Rattle.pawn_bodies.specs.Statements.{stmt}
 use Rattle.pawn_typed.specs.Declarations.{body_point, param_count}
 use Rattle.check_types.specs.ContextView.{around_view}
-use Rattle.check_scopes.specs.Scopes.{scope_view}
-use Rattle.check_automata.specs.AutomataView.{automata_view}
+use Rattle.check_types.specs.Scopes.{scope_view}
+use Rattle.check_source.specs.AutomataView.{automata_view}
 use Rattle.check_locals.specs.PointView.{point_view}
 use Rattle.check_declarations.specs.KnownView.{source_view}
 use Rattle.check_declarations.proofs.PlaceLaws.{place_is}

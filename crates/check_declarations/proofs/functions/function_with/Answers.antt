@@ -9,7 +9,7 @@ use Rattle.pawn_heads.specs.Params.{Headed, head_parts, head_rule}
 use Rattle.pawn_automata.specs.Groups.{number_of}
 use Rattle.pawn_typed.specs.Declarations.{Done, bodied, body_of, within_locals}
 use Rattle.check_types.specs.ContextView.{around_view}
-use Rattle.check_keys.specs.KeyView.{key_view}
+use Rattle.check_source.specs.KeyView.{key_view}
 use Rattle.check_locals.specs.PointView.{point_view}
 use Rattle.check_declarations.specs.KnownView.{body_verdict, source_view}
 use Rattle.check_declarations.proofs.FunctionLaws.{parts_fail, head_fails, joined_tells}

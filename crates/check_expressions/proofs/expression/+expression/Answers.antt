@@ -9,8 +9,8 @@ use Rattle.pawn_calls.specs.Literals.{literals}
 use Rattle.part_verdict.specs.PartAnswers.{Judged, PartAnswers}
 use Rattle.check_types.specs.ContextView.{around_view}
 use Rattle.check_types.specs.TypedView.{typed_view}
-use Rattle.check_scopes.specs.Scopes.{scope_view}
-use Rattle.check_chains.specs.Compared.{compared_view}
+use Rattle.check_types.specs.Scopes.{scope_view}
+use Rattle.check_rules.specs.Compared.{compared_view}
 use Rattle.check_expressions.proofs.CollectLaws.{collects_none, collects_more, collects_all}
 use Rattle.check_expressions.proofs.CollectLaws.{counts_all}
 use Rattle.check_expressions.proofs.CountLaws.{counts_two, counts_three, second_at, third_at}

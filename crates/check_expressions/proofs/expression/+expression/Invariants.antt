@@ -1,5 +1,5 @@
 use Rattle.check_types.specs.ContextView.{around_view}
-use Rattle.check_scopes.specs.Scopes.{scope_view}
+use Rattle.check_types.specs.Scopes.{scope_view}
 use Rattle.check_expressions.proofs.CountLaws.{LinksJudged, OffersJudged}
 use Rattle.check_expressions.proofs.expression.+expression.Given as goal
 

@@ -1,7 +1,7 @@
 use Rattle.std.proofs.Common.{◌≡◌, Global, Vec}
 use Rattle.std.proofs.lemmas.Result.{err_from_is_err_and}
-use Rattle.check_chains.specs.declared.chains.Compared as held_compared
-use Rattle.check_chains.specs.Compared.{compared_view}
+use Rattle.check_rules.specs.declared.chains.Compared as held_compared
+use Rattle.check_rules.specs.Compared.{compared_view}
 use Rattle.check_expressions.proofs.CountLaws.{links_seen}
 use Rattle.check_expressions.proofs.PairLaws.{judged_fail, judged_stand}
 use Rattle.check_expressions.proofs.SoFarLaws.{list_fails, list_stands, seen_behind}

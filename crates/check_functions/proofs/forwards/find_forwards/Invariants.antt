@@ -1,4 +1,4 @@
-use Rattle.check_sources.specs.SourceView.{source_view}
+use Rattle.check_source.specs.SourceView.{source_view}
 use Rattle.check_contexts.specs.HeadsView.{heads_view}
 use Rattle.check_functions.specs.Forwards.{TellOf}
 use Rattle.check_functions.proofs.forwards.find_forwards.Given as goal

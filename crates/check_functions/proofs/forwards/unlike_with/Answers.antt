@@ -1,8 +1,8 @@
 use Rattle.std.proofs.Common.{Option, Some, option_map, ap, ap₂, ◌∙◌}
 use Rattle.pawn_typing.specs.Around.{Head}
 use Rattle.pawn_typed.specs.Headings.{Heading}
-use Rattle.check_sources.specs.HeadingView.{heading_view}
-use Rattle.check_sources.specs.SourceView.{source_view}
+use Rattle.check_source.specs.HeadingView.{heading_view}
+use Rattle.check_source.specs.SourceView.{source_view}
 use Rattle.check_types.specs.ContextView.{head_view}
 use Rattle.check_contexts.specs.HeadsView.{heads_view}
 use Rattle.check_contexts.specs.Stated.{head_at}

@@ -1,5 +1,5 @@
 use Rattle.std.proofs.Common.{ℕ, Option, Some, subst}
-use Rattle.check_sources.specs.SourceView.{source_view}
+use Rattle.check_source.specs.SourceView.{source_view}
 use Rattle.check_contexts.specs.HeadsView.{heads_view}
 use Rattle.check_functions.specs.Forwards.{TellOf}
 use Rattle.check_functions.proofs.ForwardLaws.{told_kept}

@@ -4,10 +4,10 @@ use Rattle.std.proofs.lemmas.Result.{err_from_is_err_and}
 use Rattle.pawn_automata.specs.Groups.{Group}
 use Rattle.pawn_typed.specs.Functions as functions
 use Rattle.pawn_typed.specs.Sources.{stated}
-use Rattle.check_groups.specs.GroupsView.{groups_view}
-use Rattle.check_groups.specs.declared.groups.Group as held
-use Rattle.check_sources.specs.HeadingView.{heading_view}
-use Rattle.check_sources.specs.SourceView.{source_view}
+use Rattle.check_source.specs.GroupsView.{groups_view}
+use Rattle.check_source.specs.declared.groups.Group as held
+use Rattle.check_source.specs.HeadingView.{heading_view}
+use Rattle.check_source.specs.SourceView.{source_view}
 use Rattle.check_classifiers.specs.Finds.{Finds}
 use Rattle.check_classifiers.specs.Group.{bodies_and_params}
 use Rattle.check_contexts.specs.HeadsView.{heads_view}

@@ -2,8 +2,8 @@ use Rattle.std.proofs.Common.{Option, map, subst}
 use Rattle.pawn_automata.specs.Keys.{Key}
 use Rattle.pawn_typed.specs.Sources.{stated}
 use Rattle.check_classifiers.specs.Finds.{Finds}
-use Rattle.check_sources.specs.HeadingView.{heading_view}
-use Rattle.check_sources.specs.SourceView.{source_view}
+use Rattle.check_source.specs.HeadingView.{heading_view}
+use Rattle.check_source.specs.SourceView.{source_view}
 use Rattle.check_contexts.specs.HeadsView.{heads_view}
 use Rattle.check_functions.specs.Differ as spec
 use Rattle.check_functions.proofs.heads.check_own.Goals as goal

@@ -1,7 +1,7 @@
 use Rattle.std.proofs.Common.{length, map, refl}
 use Rattle.std.proofs.lemmas.Result.{err_from_is_err_and}
-use Rattle.check_sources.specs.HeadingView.{heading_view}
-use Rattle.check_sources.specs.SourceView.{source_view}
+use Rattle.check_source.specs.HeadingView.{heading_view}
+use Rattle.check_source.specs.SourceView.{source_view}
 use Rattle.check_contexts.specs.HeadsView.{heads_view}
 use Rattle.check_functions.proofs.EntryLaws.{entry_first, entry_both}
 use Rattle.check_functions.proofs.heads.entry_heads.Goals as goal

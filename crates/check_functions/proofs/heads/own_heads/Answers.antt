@@ -1,7 +1,7 @@
 use Rattle.std.proofs.Common.{◌≡◌, ◌<◌, ◌≤◌, map, length, ap, arith, below_more}
 use Rattle.std.proofs.lemmas.Result.{err_from_is_err_and}
-use Rattle.check_sources.specs.HeadingView.{heading_view}
-use Rattle.check_sources.specs.SourceView.{source_view}
+use Rattle.check_source.specs.HeadingView.{heading_view}
+use Rattle.check_source.specs.SourceView.{source_view}
 use Rattle.check_contexts.specs.HeadsView.{heads_view}
 use Rattle.check_contexts.proofs.AtLaws.{viewed_in, within, past}
 use Rattle.check_functions.proofs.TellLaws.{own_none, own_told}

@@ -5,9 +5,9 @@ use Rattle.pawn_typing.specs.Scope.{Scope, with_entries}
 use Rattle.pawn_values.specs.Parts.{Judged}
 use Rattle.pawn_heads.specs.Params.{param_entries}
 use Rattle.part_verdict.specs.PartAnswers.{PartAnswers}
-use Rattle.check_parts.specs.JudgedView.{judged_view}
+use Rattle.check_values.specs.JudgedView.{judged_view}
 use Rattle.check_types.specs.ContextView.{around_view}
-use Rattle.check_scopes.specs.Scopes.{scope_view}
+use Rattle.check_types.specs.Scopes.{scope_view}
 use Rattle.check_heads.proofs.FoldLaws.{fold_begins, fold_more, fold_fails, fold_all, fold_ends}
 use Rattle.check_heads.proofs.ParamLaws.{parts_are}
 use Rattle.check_heads.proofs.RuleLaws.{judged_holds, exit_answers, exit_judged, unless_memory}

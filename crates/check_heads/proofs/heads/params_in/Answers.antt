@@ -5,7 +5,7 @@ use Rattle.pawn_typing.specs.Scope.{Scope, with_entries}
 use Rattle.pawn_heads.specs.Params.{Headed, param_entries}
 use Rattle.part_verdict.specs.PartAnswers.{PartAnswers}
 use Rattle.check_types.specs.ContextView.{around_view}
-use Rattle.check_scopes.specs.Scopes.{scope_view}
+use Rattle.check_types.specs.Scopes.{scope_view}
 use Rattle.check_heads.specs.HeadedView.{headed_view}
 use Rattle.check_heads.proofs.FoldLaws.{fold_begins, fold_more, fold_fails, fold_all}
 use Rattle.check_heads.proofs.ParamLaws.{params_are}

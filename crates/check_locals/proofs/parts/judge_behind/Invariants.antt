@@ -1,5 +1,5 @@
 use Rattle.check_types.specs.ContextView.{around_view}
-use Rattle.check_parts.specs.JudgedView.{judged_view}
+use Rattle.check_values.specs.JudgedView.{judged_view}
 use Rattle.check_locals.specs.PointView.{point_view}
 use Rattle.check_locals.specs.Tells.{told}
 use Rattle.check_locals.proofs.VarLaws.{PartsSo}

@@ -4,7 +4,7 @@ use Rattle.pawn_scopes.specs.Verdict.{Stands, after}
 use Rattle.pawn_tree.specs.View.{range_view}
 use Rattle.pawn_bodies.specs.Switches.{ends}
 use Rattle.check_types.specs.ContextView.{around_view}
-use Rattle.check_scopes.specs.Scopes.{scope_view}
+use Rattle.check_types.specs.Scopes.{scope_view}
 use Rattle.pawn_verdict.proofs.VerdictLaws.{fails_after}
 use Rattle.check_switches.proofs.TakenLaws.{taken_begins, taken_more, taken_fails, taken_all}
 use Rattle.check_switches.proofs.RuleLaws.{pushed}

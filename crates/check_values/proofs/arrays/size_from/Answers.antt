@@ -2,7 +2,7 @@ use Rattle.pawn_arrays.specs.Sizes.{inner_sizes}
 use Rattle.pawn_tree.specs.View.{expr_view}
 use Rattle.check_types.specs.ContextView.{around_view}
 use Rattle.check_types.specs.TypedView.{typed_view}
-use Rattle.check_scopes.specs.Scopes.{scope_view}
+use Rattle.check_types.specs.Scopes.{scope_view}
 use Rattle.check_values.proofs.CountLaws.{size_from_list, size_from_text}
 use Rattle.check_values.proofs.arrays.size_from.Goals as goal
 

@@ -1,5 +1,5 @@
 use Rattle.check_types.specs.ContextView.{around_view}
-use Rattle.check_scopes.specs.Scopes.{scope_view}
+use Rattle.check_types.specs.Scopes.{scope_view}
 use Rattle.check_values.proofs.BracesLaws.{local_list, fails_here}
 use Rattle.check_values.proofs.cells.local_given.Goals as goal
 

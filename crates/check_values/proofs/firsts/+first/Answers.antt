@@ -2,7 +2,7 @@ use Rattle.std.proofs.Common.{arith}
 use Rattle.std.proofs.lemmas.Result.{err_from_is_err_and}
 use Rattle.pawn_arrays.specs.Sizes.{sizes}
 use Rattle.check_types.specs.ContextView.{around_view}
-use Rattle.check_scopes.specs.Scopes.{scope_view}
+use Rattle.check_types.specs.Scopes.{scope_view}
 use Rattle.check_values.proofs.BehindLaws.{rows_law, joins_begins, joins_more, joins_fails}
 use Rattle.check_values.proofs.BehindLaws.{joins_answers}
 use Rattle.check_values.proofs.BracesLaws.{first_list}

@@ -1,7 +1,7 @@
 use Rattle.std.proofs.Common.{option_map}
 use Rattle.pawn_arrays.specs.Sizes.{sizes}
 use Rattle.check_types.specs.ContextView.{around_view}
-use Rattle.check_scopes.specs.Scopes.{scope_view}
+use Rattle.check_types.specs.Scopes.{scope_view}
 use Rattle.check_values.specs.ValueViews.{first_view}
 use Rattle.check_values.proofs.BehindLaws.{Joined, all_rows}
 use Rattle.check_values.proofs.firsts.+first.Given as goal

@@ -1,7 +1,7 @@
 use Rattle.std.proofs.Common.{arith}
 use Rattle.std.proofs.lemmas.Result.{err_from_is_err_and}
 use Rattle.check_types.specs.ContextView.{around_view}
-use Rattle.check_scopes.specs.Scopes.{scope_view}
+use Rattle.check_types.specs.Scopes.{scope_view}
 use Rattle.check_values.proofs.BehindLaws.{cells_law, joins_begins, joins_more, joins_fails}
 use Rattle.check_values.proofs.BehindLaws.{joins_answers}
 use Rattle.check_values.proofs.firsts.cells_of_list.Goals as goal

@@ -1,6 +1,6 @@
 use Rattle.std.proofs.Common.{option_map}
 use Rattle.check_types.specs.ContextView.{around_view}
-use Rattle.check_scopes.specs.Scopes.{scope_view}
+use Rattle.check_types.specs.Scopes.{scope_view}
 use Rattle.check_values.specs.ValueViews.{first_view}
 use Rattle.check_values.proofs.BehindLaws.{Joined, all_cells}
 use Rattle.check_values.proofs.firsts.cells_of_list.Given as goal

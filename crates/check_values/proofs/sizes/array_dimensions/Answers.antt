@@ -1,7 +1,7 @@
 use Rattle.std.proofs.Common.{arith}
 use Rattle.pawn_tree.specs.View.{dim_view}
 use Rattle.check_types.specs.ContextView.{around_view}
-use Rattle.check_scopes.specs.Scopes.{scope_view}
+use Rattle.check_types.specs.Scopes.{scope_view}
 use Rattle.check_values.proofs.BracesLaws.{fails_here}
 use Rattle.check_values.proofs.InnerLaws.{few_dimensions, many_dimensions}
 use Rattle.check_values.proofs.sizes.array_dimensions.Goals as goal

@@ -1,6 +1,6 @@
 use Rattle.std.proofs.Common.{refl, arith}
 use Rattle.check_types.specs.ContextView.{around_view}
-use Rattle.check_scopes.specs.Scopes.{scope_view}
+use Rattle.check_types.specs.Scopes.{scope_view}
 use Rattle.check_values.proofs.InnerLaws.{no_sizes, one_size, two_sizes}
 use Rattle.check_values.proofs.sizes.sizes_behind.Goals as goal
 

@@ -3,7 +3,7 @@ use Rattle.std.proofs.lemmas.Int.{to_z-of_z}
 use Rattle.pawn_tree.specs.View.{tree_view}
 use Rattle.pawn_typed.specs.Sources.{Source}
 use Rattle.pawn_verdict.specs.Answers.{Answers}
-use Rattle.check_sources.specs.SourceView.{source_view}
+use Rattle.check_source.specs.SourceView.{source_view}
 use Rattle.pawn_check.specs.Parts.{typed_by}
 use Rattle.pawn_check.specs.View.{checked_view}
 use Rattle.pawn_check.proofs.checking.check.Goals as goal

@@ -1,7 +1,7 @@
 use Rattle.std.proofs.Common.{◌≡◌, ℕ, List, IfOk, subst}
 use Rattle.pawn_tree.specs.View.{tree_view}
 use Rattle.pawn_typed.specs.Sources.{Source}
-use Rattle.check_published.specs.Names as names
+use Rattle.check_whole.specs.Names as names
 use Rattle.pawn_check.proofs.FunctionLaws.{are_names_where}
 use Rattle.pawn_check.proofs.functions.function_names.Goals as goal
 

@@ -5,8 +5,8 @@ use Rattle.pawn_tree.specs.declared.name.At.{At}
 use Rattle.pawn_program.specs.Program.{Program}
 use Rattle.pawn_program.specs.View.{program_view}
 use Rattle.pawn_typed.specs.Whole.{Checked}
-use Rattle.check_sources.specs.SourceView.{source_view}
-use Rattle.check_done.specs.DoneView.{done_view}
+use Rattle.check_source.specs.SourceView.{source_view}
+use Rattle.check_whole.specs.DoneView.{done_view}
 use Rattle.pawn_check.specs.Parts.{checked_by}
 use Rattle.pawn_check.proofs.WholeLaws.{whole_within}
 use Rattle.pawn_check.proofs.whole.finish.Goals as goal

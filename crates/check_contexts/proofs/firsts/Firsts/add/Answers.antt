@@ -1,5 +1,5 @@
-use Rattle.check_groups.specs.GroupsView.{groups_view}
-use Rattle.check_sources.specs.HeadingView.{heading_view}
+use Rattle.check_source.specs.GroupsView.{groups_view}
+use Rattle.check_source.specs.HeadingView.{heading_view}
 use Rattle.check_contexts.proofs.OwnLaws.{firsts_more}
 use Rattle.check_contexts.proofs.firsts.Firsts.add.Goals as goal
 

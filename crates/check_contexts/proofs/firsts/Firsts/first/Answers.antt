@@ -1,7 +1,7 @@
 use Rattle.std.proofs.Common.{map}
-use Rattle.check_keys.specs.KeyView.{key_view}
-use Rattle.check_groups.specs.GroupsView.{groups_view}
-use Rattle.check_sources.specs.HeadingView.{heading_view}
+use Rattle.check_source.specs.KeyView.{key_view}
+use Rattle.check_source.specs.GroupsView.{groups_view}
+use Rattle.check_source.specs.HeadingView.{heading_view}
 use Rattle.check_contexts.proofs.OwnLaws.{first_found}
 use Rattle.check_contexts.proofs.firsts.Firsts.first.Goals as goal
 

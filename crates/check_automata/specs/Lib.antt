@@ -1,2 +1,0 @@
-pub mod AutomataView
-pub mod Update

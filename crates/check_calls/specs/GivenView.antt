@@ -1,0 +1,32 @@
+-- Arguments, as the rules of calls see them.
+use Rattle.std.specs.declared.alloc.Global.{Global}
+use Rattle.std.specs.declared.boxed.Box.{Box}
+use Rattle.pawn_program.specs.Program.{Arg}
+use Rattle.pawn_program.specs.View.{array_view, arg_view}
+use Rattle.pawn_program.specs.declared.node.Arg as held
+use Rattle.pawn_calls.specs.Given as plain
+use Rattle.pawn_calls.specs.Filling as filling
+use Rattle.check_calls.specs.declared.given.Argued.{Argued}
+use Rattle.check_calls.specs.declared.given.Given.{Given}
+use Rattle.check_calls.specs.declared.given.Passed.{Passed}
+
+-- an argument without its box
+abbrev pub arg_code : Box held.Arg Global → Arg
+arg_code it = arg_view it.value
+
+-- the code of an argument, and what `sizeof` and `tagof` of its parameter are
+abbrev pub argued_view : Argued → filling.Argued
+argued_view it = record { code = arg_code it.code; size = it.size; tag = it.tag }
+
+-- the same with what the argument warns of
+abbrev pub given_view : Given → plain.Given
+given_view it = record {
+  code = arg_code it.argued.code;
+  size = it.argued.size;
+  tag = it.argued.tag;
+  warned = it.made.warned;
+}
+
+-- an array that is passed, with its size
+abbrev pub passed_view : Passed → plain.Passed
+passed_view it = record { array = array_view it.array; size = it.size }

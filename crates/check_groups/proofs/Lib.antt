@@ -1,5 +1,0 @@
-pub mod GatherLaws
-pub mod WrittenLaws
-pub mod DistinctLaws
-pub mod TableLaws
-pub mod GroupLaws

@@ -1,2 +1,0 @@
-pub mod KeyView
-pub mod Signatures

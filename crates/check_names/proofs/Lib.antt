@@ -1,3 +1,0 @@
-pub mod ChoiceLaws
-pub mod SizeLaws
-pub mod TextLaws

@@ -1,2 +1,0 @@
-pub mod BesideLaws
-pub mod BracesLaws

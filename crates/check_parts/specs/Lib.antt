@@ -1,2 +1,0 @@
-pub mod JudgedView
-pub mod Beside

@@ -1,4 +1,0 @@
-pub mod FillLaws
-pub mod ListLaws
-pub mod NativeLaws
-pub mod ProgramLaws

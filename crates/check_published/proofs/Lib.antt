@@ -1,3 +1,0 @@
-pub mod MarkLaws
-pub mod NameLaws
-pub mod PublicLaws

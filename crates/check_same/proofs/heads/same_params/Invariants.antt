@@ -1,5 +1,0 @@
-use Rattle.check_same.proofs.SameLaws.{SameSoFar}
-use Rattle.check_same.proofs.heads.same_params.Given as goal
-
-abbrev pub invariant-loop-i : goal.invariant-loop-i
-invariant-loop-i l = SameSoFar l.x l.y l.i

@@ -1,0 +1,14 @@
+pub mod AddLaws
+pub mod PlaceLaws
+pub mod AutomataLaws
+pub mod KeyLaws
+pub mod GatherLaws
+pub mod WrittenLaws
+pub mod DistinctLaws
+pub mod TableLaws
+pub mod GroupLaws
+pub mod NamingLaws
+pub mod ClassifiedLaws
+pub mod EnteredLaws
+pub mod HeadingLaws
+pub mod CalledLaws

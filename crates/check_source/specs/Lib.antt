@@ -1,0 +1,14 @@
+pub mod Adds
+pub mod AutomataView
+pub mod Update
+pub mod KeyView
+pub mod Signatures
+pub mod WrittenView
+pub mod GroupsView
+pub mod Distinct
+pub mod Found
+pub mod Numbered
+pub mod Naming
+pub mod HeadingView
+pub mod CalledView
+pub mod SourceView

@@ -1,3 +1,0 @@
-pub mod HeadingView
-pub mod CalledView
-pub mod SourceView

@@ -1,2 +1,0 @@
-pub mod PassedView
-pub mod ObjectCells

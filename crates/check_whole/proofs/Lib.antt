@@ -1,0 +1,14 @@
+pub mod SumLaws
+pub mod PublicLaws
+pub mod TagLaws
+pub mod RouteLaws
+pub mod AgreeLaws
+pub mod MarkLaws
+pub mod PublicMarkLaws
+pub mod NameLaws
+pub mod PublishedLaws
+pub mod FillLaws
+pub mod ListLaws
+pub mod NativeLaws
+pub mod ProgramLaws
+pub mod ReadLaws

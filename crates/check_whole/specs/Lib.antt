@@ -1,0 +1,11 @@
+pub mod PassedView
+pub mod ObjectCells
+pub mod Mentioned
+pub mod Routed
+pub mod DoneView
+pub mod Marks
+pub mod Marked
+pub mod Names
+pub mod Filled
+pub mod Listed
+pub mod Parts
