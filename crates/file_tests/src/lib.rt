@@ -1,4 +1,5 @@
-//! Tests of files: their bytes and instructions, the verifier and the listing, by their public calls.
+//! Tests of files: their bytes and instructions, the verifier and the listing, by their public
+//! calls.
 #![tactic(auto)]
 
 #[cfg(test)]
