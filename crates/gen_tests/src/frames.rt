@@ -25,7 +25,8 @@ fn nothing(alloc: Global) -> Program {
 /// parameters are a cell, a reference, an array of three cells, and one of two rows of three. The
 /// tables have an address and an offset for number 0 alone.
 #[tactic(auto, using(crate::proofs::ServesLaws::served))]
-pub(crate) fn taken(alloc: Global, e: &Expr) -> Result<(usize, usize), Fail> {
+pub(crate) fn taken(alloc: Global, e: Expr) -> Result<(usize, usize), Fail> {
+    let e = Box::new(alloc, e)?;
     let program = nothing(alloc);
     let line = Shape {
         first: 3,
@@ -52,7 +53,7 @@ pub(crate) fn taken(alloc: Global, e: &Expr) -> Result<(usize, usize), Fail> {
         objects: &[0],
         offsets: &[Some(12)],
     };
-    let done = expression(e, &frame, Builder::new(alloc))?;
+    let done = expression(&e, &frame, Builder::new(alloc))?;
     Ok((done.code().len(), done.waits().len()))
 }
 

@@ -32,20 +32,20 @@ fn arguments(alloc: Global) -> Result<List<Arg>, Fail> {
 #[test]
 fn chains(rt: HostRuntime) -> Result<(), Fail> {
     let alloc = rt.alloc();
-    assert_eq!(rt; taken(alloc, &chain(alloc, 0, None)?)?, (2, 0));
-    assert_eq!(rt; taken(alloc, &chain(alloc, 1, None)?)?, (7, 0));
-    assert_eq!(rt; taken(alloc, &chain(alloc, 2, None)?)?, (21, 0));
-    assert_eq!(rt; taken(alloc, &chain(alloc, 3, None)?)?, (30, 0));
-    assert_eq!(rt; taken(alloc, &chain(alloc, 2, Some(0))?)?, (31, 2));
+    assert_eq!(rt; taken(alloc, chain(alloc, 0, None)?)?, (2, 0));
+    assert_eq!(rt; taken(alloc, chain(alloc, 1, None)?)?, (7, 0));
+    assert_eq!(rt; taken(alloc, chain(alloc, 2, None)?)?, (21, 0));
+    assert_eq!(rt; taken(alloc, chain(alloc, 3, None)?)?, (30, 0));
+    assert_eq!(rt; taken(alloc, chain(alloc, 2, Some(0))?)?, (31, 2));
     Ok(())
 }
 
 #[test]
 fn calls(rt: HostRuntime) -> Result<(), Fail> {
     let alloc = rt.alloc();
-    assert_eq!(rt; taken(alloc, &Expr::Call(0, List::new(alloc)))?, (4, 1));
-    assert_eq!(rt; taken(alloc, &Expr::Call(0, arguments(alloc)?))?, (21, 1));
-    assert_eq!(rt; taken(alloc, &Expr::Native(0, List::new(alloc)))?, (6, 0));
-    assert_eq!(rt; taken(alloc, &Expr::Native(0, arguments(alloc)?))?, (23, 0));
+    assert_eq!(rt; taken(alloc, Expr::Call(0, List::new(alloc)))?, (4, 1));
+    assert_eq!(rt; taken(alloc, Expr::Call(0, arguments(alloc)?))?, (21, 1));
+    assert_eq!(rt; taken(alloc, Expr::Native(0, List::new(alloc)))?, (6, 0));
+    assert_eq!(rt; taken(alloc, Expr::Native(0, arguments(alloc)?))?, (23, 0));
     Ok(())
 }
