@@ -83,18 +83,22 @@ fn gone(alloc: Global, source: &[u8], room: u32) -> Result<Outcome, Fail> {
     told(alloc, "go s.p s.amx", &mut files, room)
 }
 
+/// Whether `go` of a source comes to this.
+fn goes_so(alloc: Global, source: &str, status: Status, text: &str) -> Result<bool, Fail> {
+    let got = gone(alloc, source.as_bytes(), 100)?;
+    Ok(got.status == status && got.text.as_str() == text)
+}
+
 #[test]
 fn sources(rt: HostRuntime) -> Result<(), Fail> {
-    let alloc = rt.alloc();
     for (source, text) in RUN {
-        let got = gone(alloc, source.as_bytes(), 100)?;
-        assert_eq!(rt; got.status, Status::Ok, "{source}");
-        assert_eq!(rt; got.text.as_str(), text, "{source}");
+        assert!(rt; goes_so(rt.alloc(), source, Status::Ok, text)?, "{source}");
     }
     for (source, line) in REFUSED {
-        let got = gone(alloc, source.as_bytes(), 100)?;
-        assert_eq!(rt; got.status, Status::Refused, "{source}");
-        assert_eq!(rt; got.text.as_str(), line, "{source}");
+        assert!(rt;
+            goes_so(rt.alloc(), source, Status::Refused, line)?,
+            "{source}"
+        );
     }
     Ok(())
 }
@@ -133,17 +137,27 @@ const LARGE: [Large; 6] = [
     ),
 ];
 
+/// A large source, spelled out.
+fn spelled(alloc: Global, large: Large) -> Result<Vec<u8>, Fail> {
+    let (front, part, end, count, _) = large;
+    let mut source = Vec::from_slice(alloc, front.as_bytes())?;
+    for _ in 0..count {
+        source.extend_from_slice(part.as_bytes())?;
+    }
+    source.extend_from_slice(end.as_bytes())?;
+    Ok(source)
+}
+
+/// Whether `go` of a large source ends so.
+fn ends_so(alloc: Global, large: Large) -> Result<bool, Fail> {
+    let source = spelled(alloc, large)?;
+    Ok(gone(alloc, &source, 200_000)?.status == large.4)
+}
+
 #[test]
 fn large(rt: HostRuntime) -> Result<(), Fail> {
-    let alloc = rt.alloc();
-    for (front, part, end, count, status) in LARGE {
-        let mut source = Vec::from_slice(alloc, front.as_bytes())?;
-        for _ in 0..count {
-            source.extend_from_slice(part.as_bytes())?;
-        }
-        source.extend_from_slice(end.as_bytes())?;
-        let got = gone(alloc, &source, 200_000)?;
-        assert_eq!(rt; got.status, status, "{count} {end}");
+    for (row, large) in LARGE.into_iter().enumerate() {
+        assert!(rt; ends_so(rt.alloc(), large)?, "row {row}");
     }
     Ok(())
 }
@@ -176,25 +190,38 @@ fn many_natives(rt: HostRuntime) -> Result<(), Fail> {
     Ok(())
 }
 
+/// Words with a source's name of 300 bytes.
+fn with_a_long_name(alloc: Global) -> Result<String, Fail> {
+    let mut line = String::from_str(alloc, "go ")?;
+    for _ in 0..30u32 {
+        line.push_str("abcdefghi/")?;
+    }
+    line.push_str(" s.amx")?;
+    Ok(line)
+}
+
 #[test]
 fn a_long_name(rt: HostRuntime) -> Result<(), Fail> {
-    // A source's name of 300 bytes that isn't held.
+    // A source that isn't held.
     let alloc = rt.alloc();
-    let mut name = String::new(alloc);
-    for _ in 0..30u32 {
-        name.push_str("abcdefghi/")?;
-    }
     let mut files = MemoryFiles::new(alloc, &[])?;
-    let line = format!(in alloc; "go {} s.amx", name.as_str())?;
+    let line = with_a_long_name(alloc)?;
     let got = told(alloc, line.as_str(), &mut files, 400)?;
     assert_eq!(rt; got.status, Status::NoFile);
     assert_eq!(rt; got.text.as_str().len(), 309);
     Ok(())
 }
 
+/// Whether a command over one source comes to this.
+fn says(alloc: Global, line: &str, status: Status, text: &str) -> Result<bool, Fail> {
+    let mut files = MemoryFiles::new(alloc, &[])?;
+    files.hold("s.p", b"main() {\n}\n")?;
+    let got = told(alloc, line, &mut files, 100)?;
+    Ok(got.status == status && got.text.as_str() == text)
+}
+
 #[test]
 fn words(rt: HostRuntime) -> Result<(), Fail> {
-    let alloc = rt.alloc();
     for (line, status, text) in [
         ("go s.p s.amx", Status::Ok, "done 0\n"),
         ("go s.p", Status::BadWords, "bad words\n"),
@@ -225,25 +252,23 @@ fn words(rt: HostRuntime) -> Result<(), Fail> {
         ),
         ("compile q.p s.amx", Status::NoFile, "no file q.p\n"),
     ] {
-        let mut files = MemoryFiles::new(alloc, &[])?;
-        files.hold("s.p", b"main() {\n}\n")?;
-        let got = told(alloc, line, &mut files, 100)?;
-        assert_eq!(rt; got.status, status, "{line}");
-        assert_eq!(rt; got.text.as_str(), text, "{line}");
+        assert!(rt; says(rt.alloc(), line, status, text)?, "{line}");
     }
     Ok(())
 }
 
+/// Whether a command reads its source and puts its file, and makes no other call.
+fn puts(alloc: Global, line: &str) -> Result<bool, Fail> {
+    let mut files = MemoryFiles::new(alloc, &[])?;
+    files.hold("s.p", b"main() {\n}\n")?;
+    let got = told(alloc, line, &mut files, 100)?;
+    Ok(got.status == Status::Ok && files.calls() == 2 && is_put(alloc, &mut files))
+}
+
 #[test]
 fn files_put(rt: HostRuntime) -> Result<(), Fail> {
-    let alloc = rt.alloc();
     for line in ["go s.p s.amx", "compile s.p s.amx"] {
-        let mut files = MemoryFiles::new(alloc, &[])?;
-        files.hold("s.p", b"main() {\n}\n")?;
-        let got = told(alloc, line, &mut files, 100)?;
-        assert_eq!(rt; got.status, Status::Ok);
-        assert_eq!(rt; files.calls(), 2);
-        assert!(rt; is_put(alloc, &mut files), "{line}");
+        assert!(rt; puts(rt.alloc(), line)?, "{line}");
     }
     Ok(())
 }
@@ -256,29 +281,53 @@ fn is_put(alloc: Global, files: &mut MemoryFiles) -> bool {
     }
 }
 
+/// The number of a call that fails, the room of the sink, how `go` ends, its text, and whether the
+/// next call reads the file that it put.
+type Failing = (u32, u32, Status, &'static str, bool);
+
+const FAILING: [Failing; 5] = [
+    (0, 100, Status::Ok, "done 0\n", true),
+    (1, 100, Status::FileFault, "file fault\n", false),
+    (2, 100, Status::FileFault, "file fault\n", false),
+    (3, 100, Status::Ok, "done 0\n", false),
+    (0, 3, Status::SinkFault, "", true),
+];
+
+/// Whether `go` fails so.
+fn fails_so(alloc: Global, failing: Failing) -> Result<bool, Fail> {
+    let (call, room, status, text, put) = failing;
+    let mut files = MemoryFiles::new(alloc, &[call])?;
+    files.hold("s.p", b"main() {\n}\n")?;
+    let got = told(alloc, "go s.p s.amx", &mut files, room)?;
+    let is_told = got.status == status && got.text.as_str() == text;
+    Ok(is_told && is_put(alloc, &mut files) == put)
+}
+
 #[test]
 fn faults(rt: HostRuntime) -> Result<(), Fail> {
-    let alloc = rt.alloc();
-    for (fails, room, status, text) in [
-        ([0], 100, Status::Ok, "done 0\n"),
-        ([1], 100, Status::FileFault, "file fault\n"),
-        ([2], 100, Status::FileFault, "file fault\n"),
-        ([3], 100, Status::Ok, "done 0\n"),
-        ([0], 3, Status::SinkFault, ""),
-    ] {
-        let mut files = MemoryFiles::new(alloc, &fails)?;
-        files.hold("s.p", b"main() {\n}\n")?;
-        let got = told(alloc, "go s.p s.amx", &mut files, room)?;
-        assert_eq!(rt; got.status, status);
-        assert_eq!(rt; got.text.as_str(), text);
-        assert_eq!(rt; is_put(alloc, &mut files), fails == [0]);
+    for (row, failing) in FAILING.into_iter().enumerate() {
+        assert!(rt; fails_so(rt.alloc(), failing)?, "row {row}");
     }
+    Ok(())
+}
+
+/// Whether a source of one byte too many is told so.
+fn is_too_large(alloc: Global) -> Result<bool, Fail> {
     let mut files = MemoryFiles::new(alloc, &[])?;
     let long = Vec::from_elem(alloc, 10, 16_777_217)?;
     files.hold("long.p", &long)?;
     let got = told(alloc, "go long.p s.amx", &mut files, 100)?;
-    assert_eq!(rt; got.status, Status::TooLarge);
-    assert_eq!(rt; got.text.as_str(), "too large long.p\n");
+    Ok(got.status == Status::TooLarge && got.text.as_str() == "too large long.p\n")
+}
+
+#[test]
+fn a_long_source(rt: HostRuntime) -> Result<(), Fail> {
+    assert!(rt; is_too_large(rt.alloc())?);
+    Ok(())
+}
+
+#[test]
+fn numbers(rt: HostRuntime) {
     for (status, number) in [
         (Status::Ok, 0),
         (Status::Refused, 1),
@@ -299,5 +348,4 @@ fn faults(rt: HostRuntime) -> Result<(), Fail> {
     ] {
         assert_eq!(rt; status.number(), number);
     }
-    Ok(())
 }

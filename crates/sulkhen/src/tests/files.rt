@@ -134,20 +134,38 @@ fn lengths(rt: HostRuntime) -> Result<(), Fail> {
     Ok(())
 }
 
-/// The first call of the files fails; a sink of each room takes a prefix of the listing.
+/// Whether the listing comes to this.
+fn lists(
+    alloc: Global,
+    files: &mut MemoryFiles,
+    room: u32,
+    status: Status,
+    text: &str,
+) -> Result<bool, Fail> {
+    let got = told(alloc, "list f.amx", files, room)?;
+    Ok(got.status == status && got.text.as_str() == text)
+}
+
+/// Whether a sink of each room that is too little takes a prefix of the listing.
+fn are_cut(alloc: Global, files: &mut MemoryFiles) -> Result<bool, Fail> {
+    for room in 0..LISTING.len() as u32 {
+        let cut = told(alloc, "list f.amx", files, room)?;
+        if cut.status != Status::SinkFault || !LISTING.starts_with(cut.text.as_str()) {
+            return Ok(false);
+        }
+    }
+    Ok(true)
+}
+
+/// The first call of the files fails; behind it the listing stands as far as there is room.
 fn fails_as_it_should(alloc: Global) -> Result<bool, Fail> {
     let mut files = MemoryFiles::new(alloc, &[1])?;
     files.hold("f.amx", &EMPTY_FILE)?;
-    let failed = told(alloc, "list f.amx", &mut files, 100)?;
-    let mut good = failed.status == Status::FileFault
-        && failed.text.as_str() == "file fault\n"
-        && files.faults() == 1;
-    for room in 0..LISTING.len() as u32 {
-        let cut = told(alloc, "list f.amx", &mut files, room)?;
-        good = good && cut.status == Status::SinkFault && LISTING.starts_with(cut.text.as_str());
-    }
-    let whole = told(alloc, "list f.amx", &mut files, LISTING.len() as u32)?;
-    Ok(good && whole.status == Status::Ok && whole.text.as_str() == LISTING)
+    let is_told = lists(alloc, &mut files, 100, Status::FileFault, "file fault\n")?;
+    let is_failed = is_told && files.faults() == 1;
+    let is_cut = are_cut(alloc, &mut files)?;
+    let room = LISTING.len() as u32;
+    Ok(lists(alloc, &mut files, room, Status::Ok, LISTING)? && is_failed && is_cut)
 }
 
 #[test]
