@@ -8,8 +8,8 @@ use Rattle.std.proofs.lemmas.List.{get_or-take, take-set-le}
 use Rattle.std.proofs.lemmas.Bool.{le-leb, lt-ltb}
 use Rattle.std.proofs.lemmas.Bool.Decides.{leb_tells}
 use Rattle.pawn_cells.specs.Cells.{char_at}
-use Rattle.amx_block.specs.Contents.{Contents, cell_at, with_cell, byte_at}
-use Rattle.amx_block.specs.Copied.{copied_byte, IsRun}
+use Rattle.amx_block.specs.Contents.{Contents, cell_at, with_cell, byte_at, with_byte}
+use Rattle.amx_block.specs.Copied.{copied_byte, IsCopied, IsRun}
 
 same_or_not : (a b : ℕ) → (a ≡ b) ⊎ (a ≢ b)
 same_or_not zero zero = inl refl
@@ -128,6 +128,31 @@ module _ (old : List ℤ) (from to : ℕ) where
         down (n - 1 - i) n h (omega (arith, less))
         (λ k. so_far k ∙ ap (λ low. copied_byte old from to low n k) first) read same others k
         ∙ ap (λ low. copied_byte old from to low n k) (sym next)
+
+-- ---- one byte more
+
+-- a byte is written, in a range that grows by it
+module _ (old now new : Contents) (from to at byte low high low' high' : ℕ)
+    (value : new ≡ record now { memory = with_byte now.memory at byte })
+    (fit : FitsSigned w32 (cell_at new.memory at))
+    (here : (to + low' ≤ at) × (at < to + high')) (wider : (low' ≤ low) × (high ≤ high'))
+    (rest : (k : ℕ) → to + low' ≤ k → k < to + high' → k ≢ at
+    → (to + low ≤ k) × (k < to + high)) (r : IsCopied from to low high old now) where
+  pub byte_more : ((k : ℕ) → byte_at new.memory k ≡ copied_byte old.memory from to low' high' k)
+      → IsCopied from to low' high' old new
+  byte_more bytes = record {
+    bytes = bytes;
+    count = ap (λ b. length b.memory) value ∙ length-set now.memory _ _ ∙ r.count;
+    others =
+        λ i apart. others_after now.memory new.memory at i _ (ap (λ b. b.memory) value)
+        (apart at here.0 here.1)
+        ∙ r.others i (λ k l h. apart k (omega (arith, l, wider.0)) (omega (arith, h, wider.1)));
+    fits =
+        λ k l h. fits_after now.memory new.memory at k _ (ap (λ b. b.memory) value) fit
+        (λ ne. r.fits k (rest k l h ne).0 (rest k l h ne).1);
+    code = ap (λ b. b.code) value ∙ r.code;
+    store = ap (λ b. b.store) value ∙ r.store;
+  }
 
 -- ---- whole cells at once
 

@@ -10,6 +10,7 @@ impl Block {
         requires to { to + count ≤ 4 * length self.old.memory }
         ensures { IsCopied from to 0 count self.old self.new }
     {
+        // For the prover alone: by its clause the addresses, and sums of them, fit.
         let _ = self.top();
         if are_whole(from, to, count) && (to <= from || from + count <= to) {
             self.copy_cells(from, to, count);
@@ -40,6 +41,7 @@ impl Block {
         requires below { to ≤ from }
         ensures { IsCopied from to 0 count self.old self.new }
     {
+        // For the prover alone: by its clause the addresses, and sums of them, fit.
         let _ = self.top();
         for i in 0..count {
             let byte = self.read_byte(from + i);
@@ -53,6 +55,7 @@ impl Block {
         requires above { from ≤ to }
         ensures { IsCopied from to 0 count self.old self.new }
     {
+        // For the prover alone: by its clause the addresses, and sums of them, fit.
         let _ = self.top();
         for i in 0..count {
             let place = count - 1 - i;

@@ -1,4 +1,4 @@
-mod SpelledLemmas
 mod RangeLemmas
 pub mod ReadLemmas
 mod ShortestLemmas
+mod SpelledLemmas

@@ -26,13 +26,13 @@ split zero (byte ∷ rest) = Err GroupTooLong
 split (suc left) (byte ∷ rest) =
     if nat_lt byte 128 then Ok (byte ∷ [], rest) else with_first byte (split left rest)
 
-abbrev with_cell : ℤ → Result (List ℤ) CompactFault → Result (List ℤ) CompactFault
-with_cell cell (Ok cells) = Ok (cell ∷ cells)
-with_cell cell (Err fault) = Err fault
+abbrev cell_then : ℤ → Result (List ℤ) CompactFault → Result (List ℤ) CompactFault
+cell_then cell (Ok cells) = Ok (cell ∷ cells)
+cell_then cell (Err fault) = Err fault
 
 abbrev all_with : (List ℕ → Result (List ℤ) CompactFault) → Result (List ℕ × List ℕ) CompactFault
     → Result (List ℤ) CompactFault
-all_with next (Ok parts) = with_cell (wrap (signed_sum parts.0)) (next parts.1)
+all_with next (Ok parts) = cell_then (wrap (signed_sum parts.0)) (next parts.1)
 all_with next (Err fault) = Err fault
 
 abbrev reading : ℕ → List ℕ → Result (List ℤ) CompactFault
@@ -81,27 +81,27 @@ split-long (suc left) (byte ∷ front) more e g h =
     ∙ ap (with_first byte) (split-long left front more (omega arith) g.2 h)
 
 reading-cell : (count : ℕ) (cell : ℤ) (front rest : List ℕ) → Spelled cell front
-    → reading (suc count) (front ++ rest) ≡ with_cell cell (reading count rest)
+    → reading (suc count) (front ++ rest) ≡ cell_then cell (reading count rest)
 reading-cell count cell [] rest s = absurd s.ends
 reading-cell count cell (byte ∷ front) rest s =
     ap (all_with (reading count)) (split-ends 5 (byte ∷ front) rest s.ends s.short)
-    ∙ ap (λ z. with_cell z (reading count rest)) (sym s.sum)
+    ∙ ap (λ z. cell_then z (reading count rest)) (sym s.sum)
 
-abbrev with_cells : List ℤ → Result (List ℤ) CompactFault → Result (List ℤ) CompactFault
-with_cells [] read = read
-with_cells (cell ∷ cells) read = with_cell cell (with_cells cells read)
+abbrev cells_then : List ℤ → Result (List ℤ) CompactFault → Result (List ℤ) CompactFault
+cells_then [] read = read
+cells_then (cell ∷ cells) read = cell_then cell (cells_then cells read)
 
-with_cells-ok : (cells : List ℤ) → with_cells cells (Ok []) ≡ Ok cells
-with_cells-ok [] = refl
-with_cells-ok (cell ∷ cells) = ap (with_cell cell) (with_cells-ok cells)
+cells_then-ok : (cells : List ℤ) → cells_then cells (Ok []) ≡ Ok cells
+cells_then-ok [] = refl
+cells_then-ok (cell ∷ cells) = ap (cell_then cell) (cells_then-ok cells)
 
-with_cells-err : (cells : List ℤ) (fault : CompactFault) → with_cells cells (Err fault) ≡ Err fault
-with_cells-err [] fault = refl
-with_cells-err (cell ∷ cells) fault = ap (with_cell cell) (with_cells-err cells fault)
+cells_then-err : (cells : List ℤ) (fault : CompactFault) → cells_then cells (Err fault) ≡ Err fault
+cells_then-err [] fault = refl
+cells_then-err (cell ∷ cells) fault = ap (cell_then cell) (cells_then-err cells fault)
 
 reading-cells : (cells : List ℤ) (front rest : List ℕ) (total count : ℕ) → SpelledAll cells front
     → total ≡ length cells + count
-    → reading total (front ++ rest) ≡ with_cells cells (reading count rest)
+    → reading total (front ++ rest) ≡ cells_then cells (reading count rest)
 reading-cells [] front rest total count s h =
     ap (λ f. reading total (f ++ rest)) s ∙ ap (λ n. reading n rest) (omega arith)
 reading-cells (cell ∷ cells) front rest zero count s h = absurd (omega arith)
@@ -109,14 +109,14 @@ reading-cells (cell ∷ cells) front rest (suc total) count (a, b, spelled, whol
     ap (λ f. reading (suc total) (f ++ rest)) whole
     ∙ ap (reading (suc total)) (append_assoc a b rest)
     ∙ reading-cell total cell a (b ++ rest) spelled
-    ∙ ap (with_cell cell) (reading-cells cells b rest total count more (omega arith))
+    ∙ ap (cell_then cell) (reading-cells cells b rest total count more (omega arith))
 
 reading-leaves : (bytes rest : List ℕ) (before total count : ℕ) (fault : CompactFault)
     → Leaves bytes before rest → total ≡ before + count
     → reading count rest ≡ Err fault → reading total bytes ≡ Err fault
 reading-leaves bytes rest before total count fault l h e =
     ap (reading total) l.whole ∙ reading-cells l.cells l.front rest total count l.spelled
-    (omega (arith, l.counted)) ∙ ap (with_cells l.cells) e ∙ with_cells-err l.cells fault
+    (omega (arith, l.counted)) ∙ ap (cells_then l.cells) e ∙ cells_then-err l.cells fault
 
 reading-stops : (bytes : List ℕ) (count : ℕ) (P : List ℕ → Type 0) (fault : CompactFault)
     (s : Stops bytes count P)
@@ -144,7 +144,7 @@ is_reading : (bytes : List ℕ) (count : ℕ) (answer : Result (List ℤ) Compac
     → Answers bytes count answer → answer ≢ Err Memory → reading count bytes ≡ answer
 is_reading bytes count (Ok cells) a n =
     ap (reading count) (sym (append-nil bytes))
-    ∙ reading-cells cells bytes [] count 0 a.0 (omega (arith, a.1)) ∙ with_cells-ok cells
+    ∙ reading-cells cells bytes [] count 0 a.0 (omega (arith, a.1)) ∙ cells_then-ok cells
 is_reading bytes count (Err Short) a n =
     reading-stops bytes count (λ rest. rest ≡ []) Short a (λ m. ap (reading (suc m)) a.stops)
 is_reading bytes count (Err OpenGroup) a n =
@@ -224,34 +224,28 @@ leaves_of bytes cells rest count s =
       whole = s.whole;
     }
 
+stops_at : (bytes : List ℕ) (cells : List ℤ) (rest : List ℕ) (before count : ℕ)
+    (P : List ℕ → Type 0) → SoFar bytes cells rest before → before < count → P rest
+    → Stops bytes count P
+stops_at bytes cells rest before count P s h b =
+    record {
+      before = before;
+      fewer = h;
+      rest = rest;
+      leaves = leaves_of bytes cells rest before s;
+      stops = b;
+    }
+
 -- no cell stands at the front
 pub answers_fault : (bytes : List ℕ) (cells : List ℤ) (rest : List ℕ) (before count : ℕ)
     (fault : CompactFault) → SoFar bytes cells rest before → before < count → HasNoCell rest fault
     → Answers bytes count (Err fault)
 answers_fault bytes cells rest before count Short s h b =
-    record {
-      before = before;
-      fewer = h;
-      rest = rest;
-      leaves = leaves_of bytes cells rest before s;
-      stops = b;
-    }
+    stops_at bytes cells rest before count _ s h b
 answers_fault bytes cells rest before count OpenGroup s h b =
-    record {
-      before = before;
-      fewer = h;
-      rest = rest;
-      leaves = leaves_of bytes cells rest before s;
-      stops = b;
-    }
+    stops_at bytes cells rest before count _ s h b
 answers_fault bytes cells rest before count GroupTooLong s h b =
-    record {
-      before = before;
-      fewer = h;
-      rest = rest;
-      leaves = leaves_of bytes cells rest before s;
-      stops = b;
-    }
+    stops_at bytes cells rest before count _ s h b
 answers_fault bytes cells rest before count TooMany s h b = absurd b
 answers_fault bytes cells rest before count Memory s h b = absurd b
 

@@ -1,7 +1,7 @@
 -- The last zero byte of a text ends all names that end.
 use Rattle.std.proofs.Common.{◌≡◌, ◌≢◌, ◌-◌, ◌<◌, ◌≤◌, ℕ, List, length, arith}
 use Rattle.std.specs.Prelude.{slice_index}
-use Rattle.amx_format.specs.Names.{IsClosed}
+use Rattle.amx_format.specs.Records.{IsClosed}
 
 -- the place behind the last zero byte, or 0
 pub record IsPast (text : List ℕ) (past : ℕ) : Type 0 where

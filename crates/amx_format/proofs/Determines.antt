@@ -16,22 +16,12 @@ use Rattle.amx_format.specs.Faults.{HasCellFault, IsFreeOfAll, IsFirstOf, of_cel
 use Rattle.amx_format.specs.File.{AFileIsOfOneAmx, AreCellsOf, HasCells, IsFile, Answers}
 use Rattle.amx_format.specs.Sorts.{with_publics}
 use Rattle.amx_format.specs.Written.{WhatIsWrittenIsRead}
+use Rattle.amx_ops.proofs.Made.{amx_of}
 
 unfoldable make : ℕ → ℕ → List ℤ → List ℤ → ℕ → ℤ → List Record → List Record → List Record
     → List Record → List Record → Amx
-make flags version code store room entry publics natives libraries variables tags = record {
-  flags = flags;
-  version = version;
-  code = code;
-  store = store;
-  room = room;
-  entry = entry;
-  publics = publics;
-  natives = natives;
-  libraries = libraries;
-  variables = variables;
-  tags = tags;
-}
+make flags version code store room entry publics natives libraries variables tags =
+    amx_of flags version code store room entry publics natives libraries variables tags
 
 made_same : (a b : Amx) → a.flags ≡ b.flags → a.version ≡ b.version → a.code ≡ b.code
     → a.store ≡ b.store → a.room ≡ b.room → a.entry ≡ b.entry

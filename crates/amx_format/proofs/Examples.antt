@@ -1,31 +1,21 @@
 -- The smallest file, and files with one byte changed, computed.
-use Rattle.std.proofs.Common.{◌≡◌, ◌⊎◌, inl, inr, ℕ, pos, List, [], ◌∷◌, refl, arith}
+use Rattle.std.proofs.Common.{◌≡◌, inl, inr, ℕ, List, [], ◌∷◌, refl, sym, ◌∙◌, arith}
 use Rattle.std.specs.Prelude.{slice_set}
 use Rattle.amx_ops.specs.declared.amx.Amx.{Amx}
+use Rattle.amx_ops.proofs.Examples.{empty_main, file_of}
 use Rattle.amx_format.specs.declared.encoding.Encoding.TheVariants.{Plain}
 use Rattle.amx_format.specs.declared.fault.FormatFault.TheVariants.{TooShort, Magic, Version}
 use Rattle.amx_format.specs.declared.fault.FormatFault.TheVariants.{RecordSize, SizeDiffers, Order}
 use Rattle.amx_format.specs.Numbers.{half_at, word_at}
+use Rattle.amx_format.specs.declared.header.Header.{Header}
 use Rattle.amx_format.specs.Header.{header_of, HasVersions, HasSize, HasOrder}
 use Rattle.amx_format.specs.Faults.{IsFirst, IsFreeOfAll, order}
 use Rattle.amx_format.specs.File.{IsFile}
 use Rattle.amx_format.specs.Layout.{half, word, layout, cells}
 
--- HALT 0; PROC, ZERO.pri, RETN
-abbrev empty_main : Amx
-empty_main = record {
-  flags = 0;
-  version = 8;
-  code = pos 120 ∷ pos 0 ∷ pos 46 ∷ pos 89 ∷ pos 48 ∷ [];
-  store = [];
-  room = 4096;
-  entry = pos 8;
-  publics = [];
-  natives = [];
-  libraries = [];
-  variables = [];
-  tags = [];
-}
+-- main alone, which does nothing
+abbrev smallest_amx : Amx
+smallest_amx = file_of empty_main []
 
 abbrev smallest : List ℕ
 smallest =
@@ -35,23 +25,26 @@ smallest =
     ∷ 56 ∷ 0 ∷ 0 ∷ 0 ∷ 56 ∷ 0 ∷ 0 ∷ 0 ∷ 31 ∷ 0 ∷ 0 ∷ 0 ∷ 120 ∷ 0 ∷ 0 ∷ 0
     ∷ 0 ∷ 0 ∷ 0 ∷ 0 ∷ 46 ∷ 0 ∷ 0 ∷ 0 ∷ 89 ∷ 0 ∷ 0 ∷ 0 ∷ 48 ∷ 0 ∷ 0 ∷ 0 ∷ []
 
-smallest_is_written : layout Plain empty_main (cells empty_main.code) ≡ smallest
+smallest_is_written : layout Plain smallest_amx (cells empty_main) ≡ smallest
 unfolding half word
 smallest_is_written = refl
+
+-- the size of the whole, which ends with the data
+of_eighty : (h : Header) → h.size ≡ 80 → h.hea ≡ 80 → HasSize h 80
+of_eighty h size hea = record {
+  least = omega (arith, size);
+  signed = omega (arith, size);
+  within = omega (arith, size);
+  whole = λ e. size;
+  plain = λ e. size ∙ sym hea;
+}
 
 sound : IsFreeOfAll order smallest
 unfolding half_at word_at header_of
 sound =
     let versions : HasVersions (header_of smallest) =
     record { format = refl; first = omega arith; last = omega arith } in
-    let size : HasSize (header_of smallest) 80 =
-    record {
-      least = omega arith;
-      signed = omega arith;
-      within = omega arith;
-      whole = λ e. refl;
-      plain = λ e. refl;
-    } in
+    let size : HasSize (header_of smallest) 80 = of_eighty (header_of smallest) refl refl in
     let places : HasOrder (header_of smallest) = record {
       tables = record {
         first = omega arith;
@@ -93,7 +86,7 @@ sound =
       ),
     )
 
-smallest_is_its_file : IsFile smallest empty_main
+smallest_is_its_file : IsFile smallest smallest_amx
 unfolding half_at word_at header_of
 smallest_is_its_file = record {
   sound = sound;
@@ -148,14 +141,7 @@ name_table_moved =
     let there : List ℕ = slice_set smallest 52 59 in
     let versions : HasVersions (header_of there) =
     record { format = refl; first = omega arith; last = omega arith } in
-    let size : HasSize (header_of there) 80 =
-    record {
-      least = omega arith;
-      signed = omega arith;
-      within = omega arith;
-      whole = λ e. refl;
-      plain = λ e. refl;
-    } in
+    let size : HasSize (header_of there) 80 = of_eighty (header_of there) refl refl in
     inr (
       omega arith,
       inr (

@@ -13,14 +13,14 @@ use Rattle.amx_compact.proofs.ReadLemmas.{SpelledAll-from_shortest}
 use Rattle.amx_ops.specs.declared.amx.Amx.{Amx}
 use Rattle.amx_ops.specs.declared.amx.Record.{Record}
 use Rattle.amx_ops.specs.Writable.{IsWritable, IsWritableName, name_place, names_end, names_size}
-use Rattle.amx_ops.specs.Writable.{code_place, cells_of}
+use Rattle.amx_ops.specs.Writable.{code_place}
 use Rattle.amx_format.specs.declared.encoding.Encoding.{Encoding}
 use Rattle.amx_format.specs.declared.encoding.Encoding.TheVariants.{Plain, Compact}
 use Rattle.amx_format.specs.declared.header.Header.{Header}
 use Rattle.amx_format.specs.Numbers.{word_at, cells_at}
 use Rattle.amx_format.specs.Header.{header_of, is_compact, kept, HasVersions, HasSize, HasTables}
 use Rattle.amx_format.specs.Header.{HasParts, HasOrder, code_cells, store_cells}
-use Rattle.amx_format.specs.Names.{records_at, table_at, AllNames, IsInside, IsClosed}
+use Rattle.amx_format.specs.Records.{records_at, table_at, AllNames, IsInside, IsClosed}
 use Rattle.amx_format.specs.Faults.{IsFreeOfAll, order, row_of}
 use Rattle.amx_format.specs.File.{AreCellsOf, HasCells, IsFile}
 use Rattle.amx_format.specs.Layout.{half, cells, table, names, zeros, all_records, header_bytes}
@@ -31,15 +31,15 @@ use Rattle.amx_format.specs.Sorts.{Sorts, IsWritableSorted, with_publics}
 use Rattle.amx_format.specs.Written.{IsWritten}
 use Rattle.amx_format.proofs.HeaderLaws.{HeaderFits, header_reads, length-header}
 use Rattle.amx_format.proofs.Numbers.{cells_at-cells}
-use Rattle.amx_format.proofs.RowLaws.{names_size-append, length-cells, row_short}
+use Rattle.amx_format.proofs.RowLaws.{names_size-append, length-cells, cells_short}
 use Rattle.amx_format.proofs.TableLaws.{length-table, length-names, parted, Parted, Stand}
 use Rattle.amx_format.proofs.TableLaws.{records_at-table, IsNamed, named-table}
 
-length-zeros : (n : ℕ) → length (zeros n) ≡ n
+pub length-zeros : (n : ℕ) → length (zeros n) ≡ n
 length-zeros zero = refl
 length-zeros (suc n) = let ih = length-zeros n in omega (arith, ih)
 
-length-half : (x : ℕ) → length (half x) ≡ 2
+pub length-half : (x : ℕ) → length (half x) ≡ 2
 unfolding half
 length-half x = refl
 
@@ -113,14 +113,6 @@ module _ (encoding : Encoding) (amx : Amx) (row : List ℕ) (w : IsWritable amx)
   abbrev back : List ℕ
   back = zeros (code_place amx - names_end amx) ++ row
 
-  short : length row ≤ 5 * cells_of amx
-  short =
-      omega (
-        arith,
-        row_short encoding (amx.code ++ amx.store) row is_row,
-        length-append amx.code amx.store,
-      )
-
   count : length records ≡ length amx.publics
       + (length amx.natives + (length amx.libraries + (length amx.variables + length amx.tags)))
   count = simp length-append refl
@@ -132,7 +124,7 @@ module _ (encoding : Encoding) (amx : Amx) (row : List ℕ) (w : IsWritable amx)
 
   fits : HeaderFits h
   fits = record {
-    size = omega (arith, short, w.size);
+    size = omega (arith, cells_short encoding amx row is_row, w.size);
     magic = omega arith;
     flags = flags_fit encoding amx.flags w.flags r.flags;
     record_size = omega arith;
@@ -216,7 +208,7 @@ module _ (encoding : Encoding) (amx : Amx) (row : List ℕ) (w : IsWritable amx)
   size_ : HasSize h (length bytes)
   size_ = record {
     least = omega arith;
-    signed = omega (arith, short, w.size);
+    signed = omega (arith, cells_short encoding amx row is_row, w.size);
     within = omega (arith, long);
     whole = λ e. sym long;
     plain =

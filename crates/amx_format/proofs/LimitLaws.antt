@@ -1,18 +1,15 @@
 -- The Amx of a file is within the limits of memory and of tables.
-use Rattle.std.proofs.Common.{◌≡◌, ◌+◌, ◌-◌, ◌/◌, ◌<◌, ◌≤◌, ◌^◌, ℕ, zero, suc, List, Result, Ok}
-use Rattle.std.proofs.Common.{Err, length, refl, ap, ◌∙◌, arith}
+use Rattle.std.proofs.Common.{◌≡◌, ◌+◌, ◌-◌, ◌/◌, ◌<◌, ◌≤◌, ◌^◌, ℕ, List, Result, Ok}
+use Rattle.std.proofs.Common.{Err, length, ap, ◌∙◌, arith}
 use Rattle.std.specs.Prelude.{IfOk}
 use Rattle.amx_ops.specs.declared.amx.Amx.{Amx}
 use Rattle.amx_format.specs.declared.fault.FormatFault.{FormatFault}
 use Rattle.amx_format.specs.declared.header.Header.{Header}
 use Rattle.amx_format.specs.Header.{header_of, HasSize, HasOrder}
-use Rattle.amx_format.specs.Names.{records_at}
+use Rattle.amx_format.specs.Records.{records_at}
 use Rattle.amx_format.specs.File.{IsFile, Answers}
 use Rattle.amx_format.specs.Limits.{IsWithinLimits}
-
-length-records_at : (bytes : List ℕ) (place n : ℕ) → length (records_at bytes place n) ≡ n
-length-records_at bytes place zero = refl
-length-records_at bytes place (suc n) = ap suc (length-records_at bytes (place + 8) n)
+use Rattle.amx_format.proofs.TableLaws.{length-records_at}
 
 -- the parts of a file from code to stack top, in cells
 parts : (cod dat hea stp code store room : ℕ) → cod ≤ dat → dat ≤ hea → hea ≤ stp
@@ -38,35 +35,25 @@ module _ (bytes : List ℕ) (amx : Amx) (file : IsFile bytes amx) where
   within_limits =
       let t = order.tables in
       let p = order.parts in
+      let last : h.libraries ≤ h.stp =
+      omega (
+        arith,
+        t.libraries.rises,
+        t.variables.rises,
+        t.tags.rises,
+        t.names,
+        p.code.rises,
+        p.store.rises,
+        p.room.rises,
+      ) in
       record {
         memory =
             parts h.cod h.dat h.hea h.stp _ _ _ p.code.rises p.store.rises p.room.rises p.memory
             file.cells.code_length file.cells.store_length file.room;
-        publics = few h.publics h.natives h.stp _
-            (omega (
-              arith,
-              t.natives.rises,
-              t.libraries.rises,
-              t.variables.rises,
-              t.tags.rises,
-              t.names,
-              p.code.rises,
-              p.store.rises,
-              p.room.rises,
-            )) p.top
+        publics = few h.publics h.natives h.stp _ (omega (arith, t.natives.rises, last)) p.top
             (ap length file.publics ∙ length-records_at bytes h.publics
             ((h.natives - h.publics) / 8));
-        natives = few h.natives h.libraries h.stp _
-            (omega (
-              arith,
-              t.libraries.rises,
-              t.variables.rises,
-              t.tags.rises,
-              t.names,
-              p.code.rises,
-              p.store.rises,
-              p.room.rises,
-            )) p.top
+        natives = few h.natives h.libraries h.stp _ last p.top
             (ap length file.natives ∙ length-records_at bytes h.natives
             ((h.libraries - h.natives) / 8));
       }

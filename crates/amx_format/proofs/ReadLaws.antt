@@ -10,7 +10,7 @@ use Rattle.amx_format.specs.Numbers.{cell_at, cells_at}
 use Rattle.amx_format.specs.declared.header.Header.{Header}
 use Rattle.amx_format.specs.Header.{header_of, is_compact, code_cells, store_cells, HasParts}
 use Rattle.amx_format.specs.File.{AreCellsOf, HasCells}
-use Rattle.amx_format.specs.Names.{name_from, record_at, records_at}
+use Rattle.amx_format.specs.Records.{name_from, record_at, records_at}
 
 -- bytes without a zero up to a zero are a name
 pub name_from-take : (text : List ℕ) (i : ℕ) → i < length text

@@ -13,7 +13,7 @@ use Rattle.std.specs.Int.{w32, cast_unsigned}
 use Rattle.amx_compact.specs.Spelled.{Shortest, ShortestAll}
 use Rattle.amx_ops.specs.declared.amx.Amx.{Amx}
 use Rattle.amx_ops.specs.declared.amx.Record.{Record}
-use Rattle.amx_ops.specs.Writable.{names_size}
+use Rattle.amx_ops.specs.Writable.{names_size, cells_of}
 use Rattle.amx_format.specs.declared.encoding.Encoding.{Encoding}
 use Rattle.amx_format.specs.declared.encoding.Encoding.TheVariants.{Plain, Compact}
 use Rattle.amx_format.specs.Layout.{word, cells, table, names, all_records, IsRow}
@@ -89,6 +89,16 @@ pub row_short : (encoding : Encoding) (row : List ℤ) (bytes : List ℕ) → Is
     → length bytes ≤ 5 * length row
 row_short Plain row bytes s = omega (arith, ap length s, length-cells row)
 row_short Compact row bytes s = length-shortest row bytes s
+
+-- those of a file
+pub cells_short : (encoding : Encoding) (amx : Amx) (row : List ℕ)
+    → IsRow encoding (amx.code ++ amx.store) row → length row ≤ 5 * cells_of amx
+cells_short encoding amx row is_row =
+    omega (
+      arith,
+      row_short encoding (amx.code ++ amx.store) row is_row,
+      length-append amx.code amx.store,
+    )
 
 -- two rows, each of compact cells
 pub two_rows : (a b code store : List ℤ) (start one two : List ℕ) → start ≡ [] → a ≡ code

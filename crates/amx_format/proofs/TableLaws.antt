@@ -9,7 +9,7 @@ use Rattle.std.proofs.lemmas.List.Elements.{All-head, All-tail}
 use Rattle.amx_ops.specs.declared.amx.Record.{Record}
 use Rattle.amx_ops.specs.Writable.{IsWritableName, names_size}
 use Rattle.amx_format.specs.Numbers.{word_at, cell_at}
-use Rattle.amx_format.specs.Names.{name_from, record_at, records_at}
+use Rattle.amx_format.specs.Records.{name_from, record_at, records_at}
 use Rattle.amx_format.specs.Layout.{word, table, names}
 use Rattle.amx_format.specs.Ranges.{AddressesFit}
 use Rattle.amx_format.proofs.Numbers.{length-word, word_at-word, cell_at-word, name_from-name}
@@ -115,6 +115,27 @@ rest_stands front mid a b at place it records la lb s = record {
   below = omega (arith, s.below, names_size-cons it records);
 }
 
+-- what is put for a record and those behind it, with what is around them
+abbrev put_down : (front mid back : List ℕ) (place : ℕ) (it : Record) (records : List Record)
+    → List ℕ
+put_down front mid back place it records =
+    whole front (word (cast_unsigned w32 it.address)) (word place)
+    (table (place + (length it.name + 1)) records) mid it.name (names records) back
+
+-- the place of its name
+pointed : (front mid back : List ℕ) (at place spot : ℕ) (it : Record) (records : List Record)
+    → Stand front mid at place (it ∷ records) → spot ≡ at + 4
+    → word_at (put_down front mid back place it records) spot ≡ place
+pointed front mid back at place spot it records s e =
+    let a = word (cast_unsigned w32 it.address) in
+    let rest : List ℕ = table (place + (length it.name + 1)) records in
+    let size = names_size-cons it records in
+    ap (λ (bytes : List ℕ). word_at bytes spot)
+    (at_place front a (word place) rest mid it.name (names records) back)
+    ∙ word_at-word (front ++ a) (rest ++ (mid ++ ((it.name ++ 0 ∷ names records) ++ back))) spot
+    place (simp (length-append, length-word) (omega (arith, s.front_long, e)))
+    (omega (arith, size, s.below))
+
 pub records_at-table : (front mid back : List ℕ) (at place : ℕ) (records : List Record)
     → AddressesFit records → All IsWritableName records
     → Stand front mid at place records
@@ -136,12 +157,7 @@ records_at-table front mid back at place (it ∷ records) fits good s =
     it.address s.front_long
     (All-head (λ (r : Record). FitsSigned w32 r.address) it records fits) in
     let pointer : word_at text (at + 4) ≡ place =
-    ap (λ (bytes : List ℕ). word_at bytes (at + 4))
-    (at_place front a b rest mid it.name (names records) back)
-    ∙ word_at-word (front ++ a) (rest ++ (mid ++ ((it.name ++ 0 ∷ names records) ++ back)))
-    (at + 4) place
-    (simp (length-append, length-word) (omega (arith, s.front_long)))
-    (omega (arith, size, s.below)) in
+    pointed front mid back at place (at + 4) it records s refl in
     let there : drop place text ≡ it.name ++ 0 ∷ (names records ++ back) =
     ap (drop place) (at_name front a b rest mid it.name (names records) back)
     ∙ drop_at (front ++ ((a ++ (b ++ rest)) ++ mid)) (it.name ++ 0 ∷ (names records ++ back)) place
@@ -175,6 +191,20 @@ get_or-at [] rest byte (suc place) e = absurd (omega (arith, e))
 get_or-at (x ∷ front) rest byte zero e = absurd (omega (arith, e))
 get_or-at (x ∷ front) rest byte (suc place) e = get_or-at front rest byte place (omega (arith, e))
 
+-- the zero byte behind its name
+ended : (front mid back : List ℕ) (at place : ℕ) (it : Record) (records : List Record)
+    → Stand front mid at place (it ∷ records)
+    → slice_index (put_down front mid back place it records) (place + length it.name) ≡ 0
+ended front mid back at place it records s =
+    let a = word (cast_unsigned w32 it.address) in
+    let rest : List ℕ = table (place + (length it.name + 1)) records in
+    let known = length-table (place + (length it.name + 1)) records in
+    ap (λ (bytes : List ℕ). get_or bytes (place + length it.name) 0)
+    (at_zero front a (word place) rest mid it.name (names records) back)
+    ∙ get_or-at ((front ++ ((a ++ (word place ++ rest)) ++ mid)) ++ it.name) (names records ++ back)
+    0 (place + length it.name)
+    (simp (length-append, length-word) (omega (arith, known, s.front_long, s.mid_long)))
+
 pub named-table : (front mid back : List ℕ) (at place : ℕ) (records : List Record)
     → Stand front mid at place records
     → (index : ℕ) → index < length records
@@ -184,32 +214,14 @@ pub named-table : (front mid back : List ℕ) (at place : ℕ) (records : List R
     (at + 8 * index + 4))
 named-table front mid back at place [] s index h = absurd (omega arith)
 named-table front mid back at place (it ∷ records) s zero h =
-    let a = word (cast_unsigned w32 it.address) in
-    let b = word place in
-    let next : ℕ = place + (length it.name + 1) in
-    let rest : List ℕ = table next records in
     let size = names_size-cons it records in
-    let known : length rest ≡ 8 * length records = length-table next records in
-    let text : List ℕ = whole front a b rest mid it.name (names records) back in
-    let pointer : word_at text (at + 8 * 0 + 4) ≡ place =
-    ap (λ (bytes : List ℕ). word_at bytes (at + 8 * 0 + 4))
-    (at_place front a b rest mid it.name (names records) back)
-    ∙ word_at-word (front ++ a) (rest ++ (mid ++ ((it.name ++ 0 ∷ names records) ++ back)))
-    (at + 8 * 0 + 4) place
-    (simp (length-append, length-word) (omega (arith, s.front_long)))
-    (omega (arith, size, s.below)) in
-    let ended : slice_index text (place + length it.name) ≡ 0 =
-    ap (λ (bytes : List ℕ). get_or bytes (place + length it.name) 0)
-    (at_zero front a b rest mid it.name (names records) back)
-    ∙ get_or-at ((front ++ ((a ++ (b ++ rest)) ++ mid)) ++ it.name) (names records ++ back) 0
-    (place + length it.name)
-    (simp (length-append, length-word) (omega (arith, known, s.front_long, s.mid_long))) in
+    let pointer = pointed front mid back at place (at + 8 * 0 + 4) it records s (omega arith) in
     record {
       behind = omega (arith, pointer);
       end = place + length it.name;
       from = omega (arith, pointer);
       before = omega (arith, size);
-      zero_ = ended;
+      zero_ = ended front mid back at place it records s;
     }
 named-table front mid back at place (it ∷ records) s (suc index) h =
     let a = word (cast_unsigned w32 it.address) in

@@ -15,7 +15,7 @@ use Rattle.amx_format.specs.declared.header.Header.{Header}
 use Rattle.amx_format.specs.declared.header.TheConstants.{HEADER, MAGIC, RECORD}
 use Rattle.amx_format.specs.Header.{header_of, is_compact, code_cells, store_cells, HasVersions}
 use Rattle.amx_format.specs.Header.{HasSize, HasOrder}
-use Rattle.amx_format.specs.Names.{AllNames, IsInside, IsClosed}
+use Rattle.amx_format.specs.Records.{AllNames, IsInside, IsClosed}
 
 -- the number that a refusal is printed with
 abbrev pub number_of : FormatFault → Option ℕ

@@ -8,7 +8,7 @@ use Rattle.amx_format.specs.declared.fault.FormatFault.{FormatFault}
 use Rattle.amx_format.specs.declared.header.Header.{Header}
 use Rattle.amx_format.specs.Numbers.{cells_at}
 use Rattle.amx_format.specs.Header.{header_of, is_compact, kept, code_cells, store_cells}
-use Rattle.amx_format.specs.Names.{table_at}
+use Rattle.amx_format.specs.Records.{table_at}
 use Rattle.amx_format.specs.Faults.{IsFreeOfAll, IsFirst, order, row_of}
 
 -- the cells that stand in a file, compact or not

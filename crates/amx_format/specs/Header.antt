@@ -2,10 +2,11 @@
 -- keep.
 use Rattle.std.specs.Prelude.{◌≡◌, ◌+◌, ◌-◌, ◌*◌, ◌/◌, ◌%◌, ◌^◌, ◌<◌, ◌≤◌, ◌==◌, ℕ, List, Bool}
 use Rattle.std.specs.Prelude.{true, false, slice_index}
+use Rattle.amx_ops.specs.Writable.{memory_limit}
 use Rattle.amx_format.specs.declared.header.Header.{Header}
 use Rattle.amx_format.specs.declared.header.TheConstants.{HEADER, FILE_VERSION as format}
 use Rattle.amx_format.specs.declared.header.TheConstants.{LAST_VERSION, RECORD as record_bytes}
-use Rattle.amx_format.specs.declared.header.TheConstants.{GOES_ON, COMPACT, MEMORY_LIMIT}
+use Rattle.amx_format.specs.declared.header.TheConstants.{GOES_ON, COMPACT}
 use Rattle.amx_format.specs.declared.place.TheConstants.{SIZE, MAGIC, FILE_VERSION, VERSION, FLAGS}
 use Rattle.amx_format.specs.declared.place.TheConstants.{RECORD, COD, DAT, HEA, STP, CIP, PUBLICS}
 use Rattle.amx_format.specs.declared.place.TheConstants.{NATIVES, LIBRARIES, VARIABLES, TAGS, NAMES}
@@ -80,7 +81,7 @@ pub record HasParts (h : Header) : Type 0 where
   pub code : IsPart 4 h.cod h.dat
   pub store : IsPart 4 h.dat h.hea
   pub room : IsPart 4 h.hea h.stp
-  pub memory : h.stp - h.cod ≤ MEMORY_LIMIT
+  pub memory : h.stp - h.cod ≤ memory_limit
   pub top : h.stp < 2 ^ 31
   pub row : is_compact h.flags ≡ true → h.cod ≤ h.size
 

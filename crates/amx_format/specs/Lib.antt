@@ -3,8 +3,8 @@ pub mod File
 pub mod Header
 pub mod Layout
 pub mod Limits
-pub mod Names
 pub mod Numbers
 pub mod Ranges
+pub mod Records
 pub mod Sorts
 pub mod Written

@@ -1,7 +1,7 @@
 ghost use Rattle.std.specs.Prelude.{◌≡◌, ◌+◌, ◌-◌, ◌<◌, ◌≤◌, ◌≢◌, ◌↔◌, ℕ, length, take};
 ghost use Rattle.std.specs.Prelude.{slice_index, IsTrue, IfOk, IfErr};
 ghost use Rattle.amx_format.specs.Header.{header_of, HasSize, HasOrder};
-ghost use Rattle.amx_format.specs.Names.{AllNames, IsInside, IsClosed};
+ghost use Rattle.amx_format.specs.Records.{AllNames, IsInside, IsClosed};
 ghost use Rattle.amx_format.specs.Faults.{order, IsFreeOfAll, IsFirst};
 
 use super::fault::FormatFault;

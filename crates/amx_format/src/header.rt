@@ -1,7 +1,7 @@
 ghost use Rattle.std.specs.Prelude.{◌≡◌, ◌+◌, ◌*◌, ◌<◌, ◌≤◌, ◌↔◌, length, IsTrue, true};
 ghost use Rattle.amx_format.specs.Header.{header_of, is_compact, may_go_on, kept, IsPart};
 ghost use Rattle.amx_format.specs.Header.{HasVersions, HasSize, HasTables, HasParts, HasOrder};
-ghost use Rattle.amx_format.specs.Names.{record_count, name_place};
+ghost use Rattle.amx_format.specs.Records.{record_count, name_place};
 
 use super::number::{read_cell, read_half, read_word};
 use super::place;

@@ -4,7 +4,7 @@ ghost use Rattle.amx_ops.specs.declared.amx.Amx.{Amx};
 ghost use Rattle.amx_format.specs.declared.fault.FormatFault.{FormatFault};
 ghost use Rattle.amx_format.specs.Header.{header_of, code_cells, store_cells, HasOrder, HasSize};
 ghost use Rattle.amx_format.specs.Numbers.{word_at, cell_at, cells_at};
-ghost use Rattle.amx_format.specs.Names.{name_from, record_at, records_at, table_at};
+ghost use Rattle.amx_format.specs.Records.{name_from, record_at, records_at, table_at};
 ghost use Rattle.amx_format.specs.Faults.{HasCellFault, row_of};
 ghost use Rattle.amx_format.specs.File.{HasCells, IsFile, Answers};
 ghost use Rattle.amx_format.specs.Limits.{IsWithinLimits};

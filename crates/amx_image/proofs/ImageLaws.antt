@@ -8,8 +8,8 @@ use Rattle.pawn_cells.specs.Cells.{bits_of, cell_of}
 use Rattle.amx_ops.specs.declared.amx.Amx.{Amx}
 use Rattle.amx_ops.specs.State.{State}
 use Rattle.amx_ops.specs.States.{IsRestorable}
-use Rattle.amx_effects.specs.declared.host.Registers.{Registers}
-use Rattle.amx_effects.specs.Hosting.{registers_of}
+use Rattle.amx_step.specs.declared.host_registers.Registers.{Registers}
+use Rattle.amx_step.specs.Hosting.{registers_of}
 use Rattle.amx_format.specs.Numbers.{cells_at}
 use Rattle.amx_image.specs.declared.version.Version.{Version}
 use Rattle.amx_image.specs.declared.version.Version.TheVariants.{Whole, Live}

@@ -11,12 +11,13 @@ use Rattle.amx_ops.specs.declared.amx.Amx.{Amx}
 use Rattle.amx_ops.specs.State.{State, swept}
 use Rattle.amx_ops.specs.States.{IsRestorable}
 use Rattle.amx_ops.specs.Writable.{memory_limit}
-use Rattle.amx_ops.proofs.CellLaws.{bits_fit, cell_of_cell, small_cell}
-use Rattle.amx_effects.specs.declared.host.Registers.{Registers}
-use Rattle.amx_effects.specs.Hosting.{AreInOrder, registers_of, cleared}
-use Rattle.amx_effects.specs.Machine.{cell_count}
+use Rattle.pawn_cells.proofs.CellLaws.{bits_fit, cell_of_cell, small_cell}
+use Rattle.amx_step.specs.declared.host_registers.Registers.{Registers}
+use Rattle.amx_step.specs.Hosting.{AreInOrder, registers_of, cleared}
+use Rattle.amx_step.specs.Machine.{cell_count}
 use Rattle.amx_format.specs.Numbers.{word_at, cells_at}
 use Rattle.amx_machine.specs.declared.mode.Mode.{Mode}
+use Rattle.amx_machine.specs.declared.mode.Mode.TheVariants as mode
 use Rattle.amx_machine.specs.Machine.{Machine}
 use Rattle.amx_image.specs.declared.fault.ImageFault.{ImageFault}
 use Rattle.amx_image.specs.declared.version.Version.{Version}
@@ -225,6 +226,10 @@ module _ (amx : Amx) (old : State) (version : Version) (digest bytes : List ℕ)
     omega (arith, e, i.heap.0, i.stack.0, i.stack.1, i.stack.2),
   )
 
+  -- the registers with other addresses
+  abbrev placed_at : (frm cip stk hea : ℤ) → Registers
+  placed_at frm cip stk hea = record r { frm = frm; cip = cip; stk = stk; hea = hea }
+
   pub image : IsImage version last_state (word_at bytes POSITION) digest bytes
   image =
       let it = stored_by version refl i.cells in
@@ -244,32 +249,12 @@ module _ (amx : Amx) (old : State) (version : Version) (digest bytes : List ℕ)
     where
       registers_stay : r ≡ registers_of last_state
       registers_stay =
-          ap (λ x. record r { frm = x }) (sym (register_back _))
-          ∙ ap (λ x. record {
-            pri = r.pri;
-            alt = r.alt;
-            frm = cell_of (bits_of r.frm);
-            cip = x;
-            stk = r.stk;
-            hea = r.hea;
-          }) (sym (register_back _))
-          ∙ ap (λ x. record {
-            pri = r.pri;
-            alt = r.alt;
-            frm = cell_of (bits_of r.frm);
-            cip = cell_of (bits_of r.cip);
-            stk = x;
-            hea = r.hea;
-          }) (sym (register_back _))
-          ∙ ap (λ x. record {
-            pri = r.pri;
-            alt = r.alt;
-            frm = cell_of (bits_of r.frm);
-            cip = cell_of (bits_of r.cip);
-            stk =
-                cell_of (bits_of r.stk);
-            hea = x;
-          }) (sym (register_back _))
+          ap (λ x. placed_at x r.cip r.stk r.hea) (sym (register_back _))
+          ∙ ap (λ x. placed_at (cell_of (bits_of r.frm)) x r.stk r.hea) (sym (register_back _))
+          ∙ ap (λ x. placed_at (cell_of (bits_of r.frm)) (cell_of (bits_of r.cip)) x r.hea)
+          (sym (register_back _))
+          ∙ ap (λ x. placed_at (cell_of (bits_of r.frm)) (cell_of (bits_of r.cip))
+          (cell_of (bits_of r.stk)) x) (sym (register_back _))
 
 -- ---- machines
 
@@ -320,3 +305,87 @@ same_machine x m d a e =
     let amx : x ≡ record { amx = m.amx; state = x.state; mode = x.mode } =
     ap (λ (b : Amx). machine_of b x.state x.mode) a in
     amx ∙ ap (machine_of m.amx x.state) e
+
+-- ---- the calls, of the numbers that the code has read
+
+pub cleared_is : (m n : Machine) (read r : Registers) → n ≡ record m {
+  state = cleared read m.state;
+  mode = mode.Asleep;
+} → read ≡ r → n.state ≡ cleared r m.state
+cleared_is m n read r e same = ap (λ q. q.state) e ∙ ap (λ q. cleared q m.state) same
+
+module _ (m : Machine) (version : Version) (digest bytes : List ℕ)
+    (i : IsSound m.amx (length m.state.cells) version digest bytes) (low high : ℕ)
+    (low_is : low ≡ bits_of (registers_at bytes).hea)
+    (high_is : high ≡ bits_of (registers_at bytes).stk) where
+  abbrev empty : State
+  empty = cleared (registers_at bytes) m.state
+
+  abbrev heap_in : State
+  heap_in = first_state m.amx m.state version digest bytes i
+
+  abbrev all_in : State
+  all_in = last_state m.amx m.state version digest bytes i
+
+  -- the row of the heap
+
+  pub heap_row : (s : State) → s ≡ empty → IsLiveRow s 0 (low / 4)
+  heap_row s e =
+      subst (λ it. IsLiveRow it 0 (low / 4)) (sym e)
+      (subst (λ n. IsLiveRow empty 0 (n / 4)) (sym low_is)
+      (heap_is_live m.amx m.state version digest bytes i))
+
+  pub heap_long : CELLS + 4 * (low / 4) ≤ length bytes
+  heap_long = omega (arith, low_is, (long_enough m.amx m.state version digest bytes i).0)
+
+  heap_put : (s t : State) → s ≡ empty → t ≡ with_row s 0 (cells_at bytes CELLS (low / 4))
+      → t ≡ heap_in
+  heap_put s t e put =
+      put ∙ ap (λ it. with_row it 0 (cells_at bytes CELLS (low / 4))) e
+      ∙ ap (λ n. with_row empty 0 (cells_at bytes CELLS (n / 4))) low_is
+
+  -- and that of the stack
+
+  module _ (count : ℕ) (many : count ≡ length m.state.cells) where
+    pub stack_count : high / 4 ≤ count
+    stack_count = omega (arith, high_is, i.stack.2, many)
+
+    pub stack_row : (s t : State) → s ≡ empty → t ≡ with_row s 0 (cells_at bytes CELLS (low / 4))
+        → IsLiveRow t high (count - high / 4)
+    stack_row s t e put =
+        subst (λ it. IsLiveRow it high (count - high / 4)) (sym (heap_put s t e put))
+        (subst (λ k. IsLiveRow heap_in k (count - k / 4)) (sym high_is)
+        (subst (λ j. IsLiveRow heap_in (bits_of (registers_at bytes).stk)
+        (j - bits_of (registers_at bytes).stk / 4)) (sym many)
+        (stack_is_live m.amx m.state version digest bytes i)))
+
+    there : (place : ℕ) → place ≡ stack_place version low high
+        → place ≡ stack_place version (bits_of (registers_at bytes).hea)
+        (bits_of (registers_at bytes).stk)
+    there place e =
+        e ∙ ap (λ h. stack_place version h high) low_is
+        ∙ ap (λ k. stack_place version (bits_of (registers_at bytes).hea) k) high_is
+
+    pub stack_long : (place : ℕ) → place ≡ stack_place version low high
+        → place + 4 * (count - high / 4) ≤ length bytes
+    stack_long place e =
+        omega (
+          arith,
+          there place e,
+          high_is,
+          many,
+          (long_enough m.amx m.state version digest bytes i).1,
+        )
+
+    pub all_put : (s t u : State) (place : ℕ) → s ≡ empty
+        → t ≡ with_row s 0 (cells_at bytes CELLS (low / 4)) → place ≡ stack_place version low high
+        → u ≡ with_row t high (cells_at bytes place (count - high / 4)) → u ≡ all_in
+    all_put s t u place e put at then =
+        then ∙ ap (λ it. with_row it high (cells_at bytes place (count - high / 4)))
+        (heap_put s t e put)
+        ∙ ap (λ k. with_row heap_in k (cells_at bytes place (count - k / 4))) high_is
+        ∙ ap (λ p. with_row heap_in (bits_of (registers_at bytes).stk)
+        (cells_at bytes p (count - bits_of (registers_at bytes).stk / 4))) (there place at)
+        ∙ ap (λ n. with_row heap_in (bits_of (registers_at bytes).stk)
+        (cells_at bytes (stack_place version (bits_of (registers_at bytes).hea)
+        (bits_of (registers_at bytes).stk)) (n - bits_of (registers_at bytes).stk / 4))) many

@@ -12,7 +12,7 @@ use Rattle.std.proofs.Math.Seq.{take-append-add}
 use Rattle.pawn_cells.specs.Cells.{IsCell, equal}
 use Rattle.amx_ops.specs.Access.{with_cell}
 use Rattle.amx_ops.specs.State.{State, stp}
-use Rattle.amx_ops.proofs.CellLaws.{cell_of_cell}
+use Rattle.pawn_cells.proofs.CellLaws.{cell_of_cell}
 use Rattle.amx_format.specs.Numbers.{word_at, cell_at, cells_at}
 use Rattle.amx_machine.specs.Machine.{Machine}
 use Rattle.amx_image.specs.Faults.{are_zero}

@@ -9,8 +9,8 @@ use Rattle.std.proofs.lemmas.List.Elements.{All-append}
 use Rattle.pawn_cells.specs.Cells.{IsCell, bits_of, cell_of}
 use Rattle.amx_ops.specs.State.{State}
 use Rattle.amx_ops.specs.Moves.{live_from}
-use Rattle.amx_effects.specs.declared.host.Registers.{Registers}
-use Rattle.amx_effects.specs.Hosting.{registers_of}
+use Rattle.amx_step.specs.declared.host_registers.Registers.{Registers}
+use Rattle.amx_step.specs.Hosting.{registers_of}
 use Rattle.amx_format.specs.Layout.{half, word, cells}
 use Rattle.amx_format.specs.Numbers.{half_at, word_at, cells_at}
 use Rattle.amx_format.proofs.Numbers.{length-word, word_at-word, cells_at-cells}
@@ -285,3 +285,10 @@ heap_within m k = within (nat_lt 0 m.state.hea) refl
           k.in_order.order.2,
         ))
     within false e = omega (arith, ltb-false 0 m.state.hea e)
+
+-- what is lent from STK on, as a host reads it, is the stack
+pub stack_lent : (m : Machine) (r : Registers) (part : List ℤ) → r ≡ registers_of m.state
+    → IsKept m → part ≡ live_from m.state (bits_of r.stk)
+    → part ≡ drop (m.state.stk / 4) m.state.cells
+stack_lent m r part e kept is =
+    is ∙ ap (λ q. live_from m.state (bits_of q.stk)) e ∙ stack_is m kept

@@ -6,7 +6,7 @@ use Rattle.pawn_cells.specs.Cells.{bits_of, equal}
 use Rattle.amx_ops.specs.declared.amx.Amx.{Amx}
 use Rattle.amx_ops.specs.Instructions.{is_start}
 use Rattle.amx_ops.specs.State.{first_hea}
-use Rattle.amx_effects.specs.declared.host.Registers.{Registers}
+use Rattle.amx_step.specs.declared.host_registers.Registers.{Registers}
 use Rattle.amx_format.specs.Numbers.{half_at, word_at, cells_at}
 use Rattle.amx_image.specs.declared.fault.ImageFault.{ImageFault}
 use Rattle.amx_image.specs.declared.fault.ImageFault.TheVariants as fault

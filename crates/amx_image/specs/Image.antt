@@ -1,8 +1,8 @@
 -- The image of a state at a script's position, for a file with a digest.
 use Rattle.std.specs.Prelude.{◌≡◌, ◌+◌, ◌*◌, ◌/◌, ◌++◌, ℕ, ℤ, List, length, take, drop}
 use Rattle.amx_ops.specs.State.{State}
-use Rattle.amx_effects.specs.declared.host.Registers.{Registers}
-use Rattle.amx_effects.specs.Hosting.{registers_of}
+use Rattle.amx_step.specs.declared.host_registers.Registers.{Registers}
+use Rattle.amx_step.specs.Hosting.{registers_of}
 use Rattle.amx_format.specs.Numbers.{half_at, word_at, cell_at, cells_at}
 use Rattle.amx_image.specs.declared.version.Version.{Version}
 use Rattle.amx_image.specs.declared.version.Version.TheVariants.{Whole, Live}

@@ -4,7 +4,7 @@ use Rattle.amx_ops.specs.declared.amx.Amx.{Amx}
 use Rattle.amx_ops.specs.State.{State}
 use Rattle.amx_ops.specs.States.{IsRestorable}
 use Rattle.amx_machine.specs.declared.mode.Mode.TheVariants as mode
-use Rattle.amx_effects.specs.Machine.{cell_count}
+use Rattle.amx_step.specs.Machine.{cell_count}
 use Rattle.amx_machine.specs.Machine.{Machine}
 use Rattle.amx_image.specs.declared.fault.ImageFault.{ImageFault}
 use Rattle.amx_image.specs.declared.version.Version.{Version}

@@ -1,6 +1,6 @@
 -- The bytes of an image with the live cells, as they are written one behind another.
 use Rattle.std.specs.Prelude.{◌++◌, ℕ, ℤ, List, [], ◌∷◌}
-use Rattle.amx_effects.specs.declared.host.Registers.{Registers}
+use Rattle.amx_step.specs.declared.host_registers.Registers.{Registers}
 use Rattle.amx_format.specs.Layout.{half, word, cells}
 use Rattle.amx_image.specs.declared.place.TheConstants.{MAGIC}
 use Rattle.amx_image.specs.declared.version.TheConstants.{LIVE}

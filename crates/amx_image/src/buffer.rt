@@ -1,6 +1,6 @@
 ghost use Rattle.std.specs.Prelude.{◌≡◌, ◌≤◌, ◌+◌, ◌*◌, ◌++◌, [], All, IfOk, length};
 ghost use Rattle.pawn_cells.specs.Cells.{IsCell};
-ghost use Rattle.amx_effects.specs.Machine.{cell_count};
+ghost use Rattle.amx_step.specs.Machine.{cell_count};
 ghost use Rattle.amx_format.specs.Layout.{half, word, cells};
 
 use super::place::CELLS;

@@ -7,7 +7,8 @@ ghost use Rattle.amx_image.specs.Faults.{state_fault, fault_behind, first_fault}
 ghost use Rattle.amx_image.specs.Examined.{Tells, IsVersionOf};
 ghost use Rattle.amx_image.specs.declared.version.Version.TheVariants as kind;
 
-use super::fault::{self, ImageFault};
+use super::fault;
+use super::fault::ImageFault;
 use super::number::{read_cell, read_half, read_registers, read_word};
 use super::place::{CELLS, COUNT, DIGEST, MAGIC, VERSION, ZERO};
 use super::version::Version;

@@ -4,7 +4,7 @@
 mod buffer;
 mod examine;
 mod fault;
-mod laws;
+mod images;
 mod number;
 mod place;
 mod restore;
@@ -13,6 +13,6 @@ mod version;
 
 pub use buffer::ImageBuffer;
 pub use fault::ImageFault;
-pub use laws::{an_image_is_of_one_state, images_keep_the_trace};
+pub use images::{an_image_is_of_one_state, images_keep_the_trace};
 pub use restore::restore_into;
 pub use save::{digest, save_into};

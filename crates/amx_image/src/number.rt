@@ -2,7 +2,8 @@ ghost use Rattle.std.specs.Prelude.{◌≡◌, ◌+◌, ◌^◌, ◌<◌, ◌≤
 ghost use Rattle.amx_format.specs.Numbers.{half_at, word_at, cell_at};
 ghost use Rattle.amx_image.specs.Image.{registers_at};
 
-use super::place::{self, CELLS};
+use super::place;
+use super::place::CELLS;
 use amx_machine::Registers;
 use byteorder::{ByteOrder, LittleEndian};
 

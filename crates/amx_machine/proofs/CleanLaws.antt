@@ -8,11 +8,11 @@ use Rattle.amx_ops.specs.Table.{is_number}
 use Rattle.amx_ops.specs.State.{State, Turned, Goes, Errs, Halts, Asks, swept}
 use Rattle.amx_ops.specs.Effects.{halted}
 use Rattle.amx_ops.specs.Step.{step}
-use Rattle.amx_effects.specs.Machine.{Machine as Core}
-use Rattle.amx_effects.specs.Hosting.{AreInOrder}
-use Rattle.amx_effects.specs.declared.turn.Turn.{Turn}
-use Rattle.amx_effects.specs.declared.turn.Turn.TheVariants as turn
-use Rattle.amx_steps.specs.Runs.{Ran, runs, with_state}
+use Rattle.amx_step.specs.Machine.{Machine as Core}
+use Rattle.amx_step.specs.Hosting.{AreInOrder}
+use Rattle.amx_step.specs.declared.turn.Turn.{Turn}
+use Rattle.amx_step.specs.declared.turn.Turn.TheVariants as turn
+use Rattle.amx_step.specs.Runs.{Ran, runs, with_state}
 use Rattle.amx_machine.specs.declared.mode.Mode.{Mode}
 use Rattle.amx_machine.specs.declared.mode.Mode.TheVariants as mode
 use Rattle.amx_machine.specs.Machine.{resting, IsClean}

@@ -14,8 +14,8 @@ use Rattle.amx_ops.specs.declared.amx.Amx.{Amx}
 use Rattle.amx_ops.specs.State.{State, swept}
 use Rattle.amx_ops.specs.Access.{is_live}
 use Rattle.amx_ops.specs.Moves.{live_from, with_write}
-use Rattle.amx_effects.specs.Hosting.{AreInOrder, with_live}
-use Rattle.amx_effects.proofs.HostLaws.{no_part}
+use Rattle.amx_step.specs.Hosting.{AreInOrder, with_live}
+use Rattle.amx_step.proofs.HostLaws.{no_part}
 use Rattle.amx_machine.specs.declared.mode.Mode.{Mode}
 use Rattle.amx_machine.specs.declared.mode.Mode.TheVariants as mode
 use Rattle.amx_machine.specs.Machine.{resting}

@@ -5,8 +5,8 @@ use Rattle.pawn_cells.specs.Cells.{bits_of}
 use Rattle.amx_ops.specs.declared.amx.Amx.{Amx}
 use Rattle.amx_ops.specs.State.{State, swept}
 use Rattle.amx_ops.specs.Moves.{live_from, arguments}
-use Rattle.amx_effects.specs.declared.host.Registers.{Registers}
-use Rattle.amx_effects.specs.Hosting.{AreInOrder, registers_of, cleared}
+use Rattle.amx_step.specs.declared.host_registers.Registers.{Registers}
+use Rattle.amx_step.specs.Hosting.{AreInOrder, registers_of, cleared}
 use Rattle.amx_machine.specs.declared.mode.Mode.{Mode}
 use Rattle.amx_machine.specs.declared.mode.Mode.TheVariants as mode
 use Rattle.amx_machine.specs.Machine.{resting, IsClean}

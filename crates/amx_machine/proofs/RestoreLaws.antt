@@ -12,11 +12,11 @@ use Rattle.amx_ops.specs.declared.amx.Amx.{Amx}
 use Rattle.amx_ops.specs.State.{State, Errs, stp, swept}
 use Rattle.amx_ops.specs.Access.{is_live, with_cell, store}
 use Rattle.amx_ops.specs.Effects.{at_next}
-use Rattle.amx_effects.specs.Machine.{Machine as Core}
-use Rattle.amx_effects.specs.Hosting.{AreInOrder}
-use Rattle.amx_effects.specs.Turns.{IsTurn}
-use Rattle.amx_effects.specs.declared.turn.Turn.{Turn}
-use Rattle.amx_effects.specs.declared.turn.Turn.TheVariants as turn
+use Rattle.amx_step.specs.Machine.{Machine as Core}
+use Rattle.amx_step.specs.Hosting.{AreInOrder}
+use Rattle.amx_step.specs.Turns.{IsTurn}
+use Rattle.amx_step.specs.declared.turn.Turn.{Turn}
+use Rattle.amx_step.specs.declared.turn.Turn.TheVariants as turn
 use Rattle.amx_machine.specs.declared.mode.Mode.{Mode}
 use Rattle.amx_machine.specs.declared.mode.Mode.TheVariants as mode
 use Rattle.amx_machine.specs.Machine.{in_mode, resting}

@@ -10,7 +10,7 @@ use Rattle.pawn_cells.specs.Cells.{bits_of}
 use Rattle.amx_ops.specs.declared.amx.Amx.{Amx}
 use Rattle.amx_ops.specs.State.{State, stp, swept, cell_at}
 use Rattle.amx_ops.specs.Moves.{live_from, arguments}
-use Rattle.amx_effects.specs.Hosting.{AreInOrder}
+use Rattle.amx_step.specs.Hosting.{AreInOrder}
 
 -- cells from number h to before number k made 0
 module _ (xs : List ℤ) (h k : ℕ) (low : h ≤ k) (high : k ≤ length xs) where

@@ -4,8 +4,8 @@ use Rattle.amx_ops.specs.declared.amx.Amx.{Amx}
 use Rattle.amx_ops.specs.State.{State, stp, swept}
 use Rattle.amx_ops.specs.Trace.{loaded}
 use Rattle.amx_ops.specs.Writable.{memory_limit}
-use Rattle.amx_effects.specs.Machine.{Machine as Core, cell_count}
-use Rattle.amx_effects.specs.Hosting.{AreInOrder}
+use Rattle.amx_step.specs.Machine.{Machine as Core, cell_count}
+use Rattle.amx_step.specs.Hosting.{AreInOrder}
 use Rattle.amx_machine.specs.declared.mode.Mode.{Mode}
 use Rattle.amx_machine.specs.declared.mode.Mode.TheVariants as mode
 

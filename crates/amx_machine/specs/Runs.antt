@@ -3,11 +3,11 @@ use Rattle.std.specs.Prelude.{◌≡◌, ℕ, ℤ, pos, Bool, true, false, ◌==
 use Rattle.std.specs.Prelude.{if◌then◌else◌}
 use Rattle.amx_ops.specs.Table.{is_number}
 use Rattle.amx_ops.specs.State.{State}
-use Rattle.amx_effects.specs.Machine.{Machine as Core}
-use Rattle.amx_effects.specs.declared.turn.Turn.{Turn}
-use Rattle.amx_effects.specs.declared.turn.Turn.TheVariants as turn
-use Rattle.amx_steps.specs.Runs.{runs}
-use Rattle.amx_steps.specs.Runs as steps
+use Rattle.amx_step.specs.Machine.{Machine as Core}
+use Rattle.amx_step.specs.declared.turn.Turn.{Turn}
+use Rattle.amx_step.specs.declared.turn.Turn.TheVariants as turn
+use Rattle.amx_step.specs.Runs.{runs}
+use Rattle.amx_step.specs.Runs as steps
 use Rattle.amx_machine.specs.declared.event.Event.{Event}
 use Rattle.amx_machine.specs.declared.event.Event.TheVariants as event
 use Rattle.amx_machine.specs.declared.mode.Mode.{Mode}

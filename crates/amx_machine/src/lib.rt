@@ -8,7 +8,7 @@ mod mode;
 mod restore;
 mod start;
 
-pub use amx_effects::Registers;
+pub use amx_step::Registers;
 pub use event::Event;
 pub use machine::Machine;
 pub use start::StartFault;

@@ -9,8 +9,8 @@ ghost use Rattle.amx_machine.specs.declared.mode.Mode.TheVariants as mode;
 use super::event::Event;
 use super::mode::Mode;
 use super::start::StartFault;
-use amx_effects::{Core, Turn};
 use amx_ops::Amx;
+use amx_step::{Core, Turn};
 use amx_verify::Verified;
 use pawn_base::Memory;
 use std::alloc::Global;
@@ -91,7 +91,8 @@ impl<'v> Machine<'v> {
             return (0, Event::Going);
         }
         self.wake();
-        let (steps, turn) = amx_steps::run(&mut self.core, count);
+        let (steps, turn) = amx_step::run(&mut self.core, count);
+        // For the prover alone: by its clauses what is dead is 0 at a sleep.
         let _registers = self.core.registers();
         (steps, self.settle(turn))
     }

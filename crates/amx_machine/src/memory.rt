@@ -3,13 +3,13 @@ ghost use Rattle.std.specs.Prelude.{drop, length, option_map, pos, unwrap_or};
 ghost use Rattle.std.specs.List.{slice_index_or};
 ghost use Rattle.pawn_cells.specs.Cells.{bits_of};
 ghost use Rattle.amx_ops.specs.Moves as moves;
-ghost use Rattle.amx_effects.specs.Hosting.{AreInOrder, registers_of, cleared};
+ghost use Rattle.amx_step.specs.Hosting.{AreInOrder, registers_of, cleared};
 ghost use Rattle.amx_machine.specs.Machine.{IsKept};
 ghost use Rattle.amx_machine.specs.declared.mode.Mode.TheVariants as mode;
 
 use super::machine::Machine;
 use super::mode::Mode;
-use amx_effects::Registers;
+use amx_step::Registers;
 
 // Registers, arguments and memory.
 impl<'v> Machine<'v> {
@@ -27,6 +27,7 @@ impl<'v> Machine<'v> {
         ensures { result ≡ slice_index_or (unwrap_or (moves.arguments self.now.state) []) index
             (pos 0) }
     {
+        // For the prover alone: by its clauses the registers are in order.
         let _ = self.core.registers();
         self.core.native_arg(index)
     }

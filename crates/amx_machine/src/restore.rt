@@ -10,8 +10,10 @@ impl<'v> Machine<'v> {
         requires { IsTrue (is_live self.old.state at) }
         ensures { self.new ≡ record self.old { state = with_cell self.old.state at value } }
     {
+        // For the prover alone: by its clauses a cell that is live isn't dead.
         let _ = self.core.registers();
         let next = self.core.cip();
+        // The cell is live, so that this is no error.
         let _ = self.core.store(at, value, next);
     }
 }

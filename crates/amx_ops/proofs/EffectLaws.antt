@@ -17,7 +17,7 @@ use Rattle.amx_ops.specs.Keeps.{Leaves}
 use Rattle.amx_ops.specs.Effects.{at_next, jump, jump_if, paired, case_in, case_of, register}
 use Rattle.amx_ops.specs.Effects.{divide, stack_to, heap_to, when_multiple, set_register, returned}
 use Rattle.amx_ops.specs.Effects.{halted, ask}
-use Rattle.amx_ops.proofs.CellLaws.{cell_of_cell, wrap_cell, bits_fit, small_cell, floor_rem_cell}
+use Rattle.pawn_cells.proofs.CellLaws.{cell_of_cell, wrap_cell, bits_fit, small_cell, floor_rem_cell}
 use Rattle.amx_ops.proofs.StateLaws.{guard, with_pri, with_alt, with_frm, with_cip, with_stk}
 use Rattle.amx_ops.proofs.StateLaws.{with_hea, swept_keeps, swept_same}
 

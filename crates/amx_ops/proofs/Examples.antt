@@ -8,24 +8,15 @@ use Rattle.amx_ops.specs.declared.amx.Amx.{Amx}
 use Rattle.amx_ops.specs.Runs.{Steps, Over_by, segment}
 use Rattle.amx_ops.specs.Table.{row_at}
 use Rattle.amx_ops.specs.Trace.{trace_from}
+use Rattle.amx_ops.proofs.Made.{amx_of}
 
-abbrev file_of : List ℤ → List (List ℕ) → Amx
-file_of code names = record {
-  flags = 0;
-  version = 8;
-  code = code;
-  store = [];
-  room = 4096;
-  entry = pos 8;
-  publics = [];
-  natives = map (λ name. record { address = pos 0; name = name }) names;
-  libraries = [];
-  variables = [];
-  tags = [];
-}
+abbrev pub file_of : List ℤ → List (List ℕ) → Amx
+file_of code names =
+    amx_of 0 8 code [] 4096 (pos 8) []
+    (map (λ name. record { address = pos 0; name = name }) names) [] [] []
 
 -- HALT 0; PROC, ZERO.pri, RETN
-abbrev empty_main : List ℤ
+abbrev pub empty_main : List ℤ
 empty_main = pos 120 ∷ pos 0 ∷ pos 46 ∷ pos 89 ∷ pos 48 ∷ []
 
 empty_main_is_done : (trace_from (file_of empty_main []) 4096 plain (pos 8) 10000000 []).stop

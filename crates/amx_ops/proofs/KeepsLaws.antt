@@ -26,7 +26,7 @@ use Rattle.amx_ops.specs.Table.{is_number}
 use Rattle.amx_ops.specs.Trace.{Entry, Main, Public, address_of, loaded, pushed_by, pushed_all}
 use Rattle.amx_ops.specs.Trace.{fresh, start_at}
 use Rattle.amx_ops.specs.Keeps.{IsRunnable, Leaves, reached, KeepsStates}
-use Rattle.amx_ops.proofs.CellLaws.{cell_of_cell, bits_fit, small_cell}
+use Rattle.pawn_cells.proofs.CellLaws.{cell_of_cell, bits_fit, small_cell}
 use Rattle.amx_ops.proofs.FetchLaws.{both_none, fetched_within}
 use Rattle.amx_ops.proofs.StateLaws.{pushed}
 use Rattle.amx_ops.proofs.StepLaws.{steps}

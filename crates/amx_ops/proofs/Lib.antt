@@ -1,11 +1,15 @@
-pub mod CellLaws
+pub mod AnswerLaws
+pub mod ByteLaws
 pub mod CutLaws
 pub mod EffectLaws
 pub mod Examples
 pub mod FetchLaws
+pub mod FrontLaws
 pub mod KeepsLaws
+pub mod Made
 pub mod NativeExamples
 pub mod NativeLaws
+pub mod NativeSizes
 pub mod Pins
 pub mod PlaceLaws
 pub mod Rows

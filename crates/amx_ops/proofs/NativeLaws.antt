@@ -1,262 +1,112 @@
 -- A call of a native keeps a state in its form.
-use Rattle.std.proofs.Common.{◌≡◌, ◌-◌, ◌/◌, ◌%◌, ◌≤◌, ◌==◌, ℕ, zero, suc, ℤ, List, [], ◌∷◌, Bool}
-use Rattle.std.proofs.Common.{true, false, cond, All, Option, None, Some, IfSome, find, length}
-use Rattle.std.proofs.Common.{take, drop, slice_get, nat_le, nat_lt, refl, ◌∙◌, arith, length-drop}
-use Rattle.std.proofs.Common.{leb-true}
-use Rattle.std.proofs.lemmas.List.{length-take}
-use Rattle.std.proofs.lemmas.List.Elements.{All-nil, All-cons, All-head, All-tail}
-use Rattle.pawn_cells.specs.Cells.{IsCell, bits_of}
+use Rattle.std.proofs.Common.{◌/◌, ℕ, ℤ, List, [], ◌∷◌, Bool, true, false, cond, All, Option}
+use Rattle.std.proofs.Common.{None, Some, IfSome, length, slice_get, nat_le}
+use Rattle.std.proofs.lemmas.List.Elements.{All-nil, All-head, All-tail}
+use Rattle.pawn_cells.specs.Cells.{IsCell}
 use Rattle.host_script.specs.declared.script.Script.{Script}
-use Rattle.host_script.specs.declared.script.Native.{Native}
 use Rattle.host_script.specs.declared.script.Write.{Write}
 use Rattle.host_script.specs.declared.script.Form.{Form}
-use Rattle.host_script.specs.declared.script.Form.TheVariants as form
 use Rattle.host_script.specs.declared.script.Answer.{Answer}
 use Rattle.host_script.specs.declared.script.Answer.TheVariants.{Given, Error}
-use Rattle.host_script.specs.declared.event.Seen.{Seen}
-use Rattle.host_script.specs.Ranges.{IsNative, IsWrite, IsAnswer, IsScript}
-use Rattle.host_script.specs.Script.{Turn, native_of, listed_or, forms_of, turn_at, turn_by}
-use Rattle.host_script.specs.Script.{turn_of, characters}
+use Rattle.host_script.specs.Ranges.{IsWrite, IsAnswer, IsScript}
+use Rattle.host_script.specs.Script.{Turn, native_of, forms_of, turn_of}
 use Rattle.host_script.specs.NativeCall as call
-use Rattle.host_script.specs.NativeCall.{Trap, Sight, Sees, Blind, Hold, Sought, Put, Called}
-use Rattle.host_script.specs.NativeCall.{Ends_there, Answers, with_sight, see_all, put_into}
-use Rattle.host_script.specs.NativeCall.{put_for, with_put, puts_of, called_by, called_with}
-use Rattle.host_script.specs.NativeCall.{called_on, native_call}
+use Rattle.host_script.specs.NativeCall.{Sight, Sees, Blind, Hold, Sought, Put, Called, Ends_there}
+use Rattle.host_script.specs.NativeCall.{Answers, see_all, put_into, put_for, puts_of, called_by}
+use Rattle.host_script.specs.NativeCall.{called_with, called_on, native_call}
 use Rattle.amx_ops.specs.declared.amx.Amx.{Amx}
 use Rattle.amx_ops.specs.State.{State}
 use Rattle.amx_ops.specs.States.{IsState}
 use Rattle.amx_ops.specs.Keeps.{reached}
-use Rattle.amx_ops.specs.Moves.{Config, live_from, held_at, read_text, look, with_write}
-use Rattle.amx_ops.specs.Moves.{with_writes, answered, asked}
-use Rattle.amx_ops.proofs.CellLaws.{small_cell}
-use Rattle.amx_ops.proofs.StateLaws.{length-put, cells-put, with_pri, with_cells}
+use Rattle.amx_ops.specs.Moves.{Config, look, with_write, with_writes, answered, asked}
+use Rattle.amx_ops.proofs.AnswerLaws.{turn_is}
+use Rattle.amx_ops.proofs.NativeSizes.{IsCalled, with_put_is, call_is, length-written}
+use Rattle.amx_ops.proofs.StateLaws.{cells-put, with_pri, with_cells}
 
--- ---- what a script answers
+-- ---- what it writes: cells
 
-result_by : (o : Option Native) (natives : List Native) (name : List ℕ) → IfSome o IsNative
-    → IfSome (listed_or o name).result IsCell
-result_by None natives name h = small_cell 0 (omega arith)
-result_by (Some native) natives name h = h.result
+abbrev HasCells : Put ℕ → Type 0
+HasCells put = All IsCell put.values
 
-found_by : {X : Type 0} (P : X → Type 0) (b : Bool) (x : X) (o : Option X) → P x → IfSome o P
-    → IfSome (cond b (Some x) o) P
-found_by P true x o p h = p
-found_by P false x o p h = h
+put_by : (to : ℕ) (values : List ℤ) (b : Bool) → All IsCell values
+    → IfSome (cond b (Some (record { to = to; values = values })) None) HasCells
+put_by to values true c = c
+put_by to values false c = tt
 
-found : {X : Type 0} (P : X → Type 0) (test : X → Bool) (xs : List X) → All P xs
-    → IfSome (find test xs) P
-found P test [] h = tt
-found P test (x ∷ xs) h =
-    found_by P (test x) x (find test xs) (All-head P x xs h) (found P test xs (All-tail P x xs h))
+put_into_cells : (o : Option (Hold ℕ)) (values : List ℤ) → All IsCell values
+    → IfSome (put_into o values) HasCells
+put_into_cells None values c = tt
+put_into_cells (Some hold) values c = put_by hold.at values (nat_le (length values) hold.cells) c
 
-at_place : {X : Type 0} (P : X → Type 0) (xs : List X) (n : ℕ) → All P xs
-    → IfSome (slice_get xs n) P
-at_place P [] n h = tt
-at_place P (x ∷ xs) zero h = All-head P x xs h
-at_place P (x ∷ xs) (suc n) h = at_place P xs n (All-tail P x xs h)
+put_for_cells : (o : Option (Sought ℕ)) (values : List ℤ) → All IsCell values
+    → IfSome (put_for o values) HasCells
+put_for_cells None values c = tt
+put_for_cells (Some sought) values c = put_into_cells sought.hold values c
 
-turn_at_is : (o : Option Answer) (position : ℕ) → IfSome o IsAnswer
-    → IsAnswer (turn_at o position).answer
-turn_at_is None position h = (small_cell 0 (omega arith), All-nil IsWrite)
-turn_at_is (Some answer) position h = h
-
-turn_by_is : (o : Option ℤ) (script : Script) (position : ℕ) → IfSome o IsCell
-    → All IsAnswer script.answers → IsAnswer (turn_by o script position).answer
-turn_by_is None script position h g =
-    turn_at_is (slice_get script.answers position) position
-    (at_place IsAnswer script.answers position g)
-turn_by_is (Some result) script position h g = (h, All-nil IsWrite)
-
-turn_is : (script : Script) (name : List ℕ) (position : ℕ) → IsScript script
-    → IsAnswer (turn_of script (native_of script name) position).answer
-turn_is script name position h =
-    turn_by_is (native_of script name).result script position
-    (result_by (find _ script.natives) script.natives name
-    (found IsNative _ script.natives h.natives)) h.answers
-
--- ---- where it may write
-
--- a place of cells among so many
-record IsHeld (size : ℕ) (hold : Hold ℕ) : Type 0 where
-  within : hold.cells ≤ size - hold.at / 4
-
-record IsPut (size : ℕ) (put : Put ℕ) : Type 0 where
-  cells : All IsCell put.values
-  within : length put.values ≤ size - put.to / 4
-
-abbrev Seen_as : {A : Type 0} → (A → Type 0) → Sight A → Type 0
-Seen_as P (Sees a) = P a
-Seen_as P (Blind trap) = Unit {0}
-
-abbrev IsSought : ℕ → Sought ℕ → Type 0
-IsSought size it = IfSome it.hold (IsHeld size)
-
-live_by : (s : State) (a : ℕ) (b c d : Bool)
-    → length (cond b (cond c (drop (a / 4) (take (s.hea / 4) s.cells))
-    (cond d (drop (a / 4) s.cells) [])) []) ≤ length s.cells - a / 4
-live_by s a true true d =
-    omega (arith, length-drop (a / 4) (take (s.hea / 4) s.cells), length-take (s.hea / 4) s.cells)
-live_by s a true false true = omega (arith, length-drop (a / 4) s.cells)
-live_by s a true false false = omega arith
-live_by s a false c d = omega arith
-
-live_within : (s : State) (a : ℕ) → length (live_from s a) ≤ length s.cells - a / 4
-live_within s a = live_by s a (a % 4 == 0) (nat_lt a s.hea) (nat_le s.stk a)
-
-held_by : (size a count : ℕ) (cells : List ℤ) (it : Seen) (b : Bool)
-    → nat_le count (length cells) ≡ b → length cells ≤ size - a / 4
-    → Seen_as (IsSought size) (cond b
-    (Sees (record { seen = it; hold = Some (record { at = a; cells = count }) }))
-    (Blind call.native_error))
-held_by size a count cells it true e h =
-    let k = leb-true count (length cells) e in record { within = omega arith }
-held_by size a count cells it false e h = tt
-
-held_is : (s : State) (a count : ℕ) (it : Seen)
-    → Seen_as (IsSought (length s.cells)) (held_at a count (live_from s a) it)
-held_is s a count it =
-    held_by (length s.cells) a count (live_from s a) it (nat_le count (length (live_from s a))) refl
-    (live_within s a)
-
-text_is : (size : ℕ) (o : Option (List ℤ)) → Seen_as (IsSought size) (read_text o)
-text_is size None = tt
-text_is size (Some text) = tt
-
-look_is : (s : State) (v : ℤ) (f : Form) → Seen_as (IsSought (length s.cells)) (look s v f)
-look_is s v form.Cell = tt
-look_is s v form.Ref = held_is s (bits_of v) 1 _
-look_is s v form.Text = text_is (length s.cells) (characters (live_from s (bits_of v)))
-look_is s v (form.Cells count) = held_is s (bits_of v) count _
-
-with_sight_is : {A B : Type 0} (P : A → Type 0) (Q : B → Type 0) (sight : Sight A)
-    (go : A → Sight B) → Seen_as P sight
-    → ((a : A) → P a → Seen_as Q (go a)) → Seen_as Q (with_sight sight go)
-with_sight_is P Q (Sees a) go h f = f a h
-with_sight_is P Q (Blind trap) go h f = tt
-
-all_seen : (s : State) (cells : List ℤ) (forms : List Form)
-    → Seen_as (All (IsSought (length s.cells))) (see_all (look s) cells forms)
-all_seen s [] forms = All-nil (IsSought (length s.cells))
-all_seen s (cell ∷ cells) [] = All-nil (IsSought (length s.cells))
-all_seen s (cell ∷ cells) (form ∷ forms) =
-    let P = IsSought (length s.cells) in
-    with_sight_is P (All P) (look s cell form)
-    (λ sought. with_sight (see_all (look s) cells forms) (λ others. Sees (sought ∷ others)))
-    (look_is s cell form)
-    (λ sought h. with_sight_is (All P) (All P) (see_all (look s) cells forms)
-    (λ others. Sees (sought ∷ others)) (all_seen s cells forms)
-    (λ others g. All-cons P sought others h g))
-
--- ---- what it writes
-
-put_by : (size : ℕ) (hold : Hold ℕ) (values : List ℤ) (b : Bool)
-    → nat_le (length values) hold.cells ≡ b → IsHeld size hold → All IsCell values
-    → IfSome (cond b (Some (record { to = hold.at; values = values })) None) (IsPut size)
-put_by size hold values true e h c =
-    let k = leb-true (length values) hold.cells e in
-    record { cells = c; within = omega (arith, h.within) }
-put_by size hold values false e h c = tt
-
-put_into_is : (size : ℕ) (o : Option (Hold ℕ)) (values : List ℤ) → IfSome o (IsHeld size)
-    → All IsCell values → IfSome (put_into o values) (IsPut size)
-put_into_is size None values h c = tt
-put_into_is size (Some hold) values h c =
-    put_by size hold values (nat_le (length values) hold.cells) refl h c
-
-put_for_is : (size : ℕ) (o : Option (Sought ℕ)) (values : List ℤ) → IfSome o (IsSought size)
-    → All IsCell values → IfSome (put_for o values) (IsPut size)
-put_for_is size None values h c = tt
-put_for_is size (Some sought) values h c = put_into_is size sought.hold values h c
-
-with_put_is : (size : ℕ) (o : Option (Put ℕ)) (others : Option (List (Put ℕ)))
-    → IfSome o (IsPut size) → IfSome others (All (IsPut size))
-    → IfSome (with_put o others) (All (IsPut size))
-with_put_is size None others h g = tt
-with_put_is size (Some put) None h g = tt
-with_put_is size (Some put) (Some others) h g = All-cons (IsPut size) put others h g
-
-puts_are : (size : ℕ) (seen : List (Sought ℕ)) (writes : List Write) → All (IsSought size) seen
-    → All IsWrite writes
-    → IfSome (puts_of seen writes) (All (IsPut size))
-puts_are size seen [] h g = All-nil (IsPut size)
-puts_are size seen (write ∷ writes) h g =
-    with_put_is size (put_for (slice_get seen write.arg) write.cells) (puts_of seen writes)
-    (put_for_is size (slice_get seen write.arg) write.cells
-    (at_place (IsSought size) seen write.arg h) (All-head IsWrite write writes g).cells)
-    (puts_are size seen writes h (All-tail IsWrite write writes g))
+puts_cells : (seen : List (Sought ℕ)) (writes : List Write) → All IsWrite writes
+    → IfSome (puts_of seen writes) (All HasCells)
+puts_cells seen [] g = All-nil HasCells
+puts_cells seen (write ∷ writes) g =
+    with_put_is HasCells (put_for (slice_get seen write.arg) write.cells) (puts_of seen writes)
+    (put_for_cells (slice_get seen write.arg) write.cells (All-head IsWrite write writes g).cells)
+    (puts_cells seen writes (All-tail IsWrite write writes g))
 
 -- ---- the call
 
-abbrev IsCalled : ℕ → Called ℕ → Type 0
-IsCalled size (Ends_there trap position) = Unit {0}
-IsCalled size (Answers event result position puts) = IsCell result × All (IsPut size) puts
+abbrev Gives : Called ℕ → Type 0
+Gives (Ends_there trap position) = Unit {0}
+Gives (Answers event result position puts) = IsCell result × All HasCells puts
 
-answered_is : (size : ℕ) (name : List ℕ) (seen : List (Sought ℕ)) (result : ℤ) (position : ℕ)
-    (o : Option (List (Put ℕ))) → IsCell result
-    → IfSome o (All (IsPut size)) → IsCalled size (call.answered name seen result position o)
-answered_is size name seen result position None c h = tt
-answered_is size name seen result position (Some puts) c h = (c, h)
+answered_gives : (name : List ℕ) (seen : List (Sought ℕ)) (result : ℤ) (position : ℕ)
+    (o : Option (List (Put ℕ))) → IsCell result → IfSome o (All HasCells)
+    → Gives (call.answered name seen result position o)
+answered_gives name seen result position None c h = tt
+answered_gives name seen result position (Some puts) c h = (c, h)
 
-called_by_is : (size : ℕ) (name : List ℕ) (seen : List (Sought ℕ)) (answer : Answer) (position : ℕ)
-    → All (IsSought size) seen → IsAnswer answer
-    → IsCalled size (called_by name seen answer position)
-called_by_is size name seen (Given result writes) position h g =
-    answered_is size name seen result position (puts_of seen writes) g.0
-    (puts_are size seen writes h g.1)
-called_by_is size name seen (Error code) position h g = tt
+called_by_gives : (name : List ℕ) (seen : List (Sought ℕ)) (answer : Answer) (position : ℕ)
+    → IsAnswer answer → Gives (called_by name seen answer position)
+called_by_gives name seen (Given result writes) position g =
+    answered_gives name seen result position (puts_of seen writes) g.0
+    (puts_cells seen writes g.1)
+called_by_gives name seen (Error code) position g = tt
 
-called_with_is : (size : ℕ) (name : List ℕ) (position : ℕ) (turn : Turn)
-    (sight : Sight (List (Sought ℕ))) → Seen_as (All (IsSought size)) sight
-    → IsAnswer turn.answer → IsCalled size (called_with name position turn sight)
-called_with_is size name position turn (Sees seen) h g =
-    called_by_is size name seen turn.answer turn.position h g
-called_with_is size name position turn (Blind trap) h g = tt
+called_with_gives : (name : List ℕ) (position : ℕ) (turn : Turn)
+    (sight : Sight (List (Sought ℕ))) → IsAnswer turn.answer
+    → Gives (called_with name position turn sight)
+called_with_gives name position turn (Sees seen) g =
+    called_by_gives name seen turn.answer turn.position g
+called_with_gives name position turn (Blind trap) g = tt
 
-called_on_is : (s : State) (name : List ℕ) (cells : List ℤ) (position : ℕ) (turn : Turn)
+called_on_gives : (s : State) (name : List ℕ) (cells : List ℤ) (position : ℕ) (turn : Turn)
     (o : Option (List Form)) → IsAnswer turn.answer
-    → IsCalled (length s.cells) (called_on (look s) name cells position turn o)
-called_on_is s name cells position turn None g = tt
-called_on_is s name cells position turn (Some forms) g =
-    called_with_is (length s.cells) name position turn (see_all (look s) cells forms)
-    (all_seen s cells forms) g
+    → Gives (called_on (look s) name cells position turn o)
+called_on_gives s name cells position turn None g = tt
+called_on_gives s name cells position turn (Some forms) g =
+    called_with_gives name position turn (see_all (look s) cells forms) g
 
-call_is : (script : Script) (s : State) (name : List ℕ) (cells : List ℤ) (position : ℕ)
-    → IsScript script
-    → IsCalled (length s.cells) (native_call script (look s) name cells position)
-call_is script s name cells position h =
-    called_on_is s name cells position (turn_of script (native_of script name) position)
-    (forms_of (native_of script name) (length cells))
-    (turn_is script name position h)
+call_gives : (script : Script) (s : State) (name : List ℕ) (cells : List ℤ) (position : ℕ)
+    → IsScript script → Gives (native_call script (look s) name cells position)
+call_gives script s name cells position h =
+    called_on_gives s name cells position (turn_of script (native_of script name) position)
+    (forms_of (native_of script name) (length cells)) (turn_is script name position h)
 
 -- ---- the state then
 
-length-written : (puts : List (Put ℕ)) (cells : List ℤ) → All (IsPut (length cells)) puts
-    → length (with_writes puts cells) ≡ length cells
-length-written [] cells h = refl
-length-written (put ∷ puts) cells h =
-    let p = All-head (IsPut (length cells)) put puts h in
-    let e : length (with_write put cells) ≡ length cells =
-    length-put cells put.values (put.to / 4) _ p.within refl in
-    length-written puts (with_write put cells) (rw e (All-tail (IsPut (length cells)) put puts h))
-    ∙ e
-
-cells-written : (size : ℕ) (puts : List (Put ℕ)) (cells : List ℤ) → All (IsPut size) puts
-    → All IsCell cells → All IsCell (with_writes puts cells)
-cells-written size [] cells h c = c
-cells-written size (put ∷ puts) cells h c =
-    cells-written size puts (with_write put cells) (All-tail (IsPut size) put puts h)
-    (cells-put cells put.values (put.to / 4) _ c (All-head (IsPut size) put puts h).cells)
+cells-written : (puts : List (Put ℕ)) (cells : List ℤ) → All HasCells puts → All IsCell cells
+    → All IsCell (with_writes puts cells)
+cells-written [] cells h c = c
+cells-written (put ∷ puts) cells h c =
+    cells-written puts (with_write put cells) (All-tail HasCells put puts h)
+    (cells-put cells put.values (put.to / 4) _ c (All-head HasCells put puts h))
 
 module _ (amx : Amx) where
   answered_keeps : (called : Called ℕ) (s : State) (c : Config) → IsCalled (length s.cells) called
-      → IsState amx s
-      → IsState amx (reached (answered called s c)).state
-  answered_keeps (Ends_there trap position) s c g h = h
-  answered_keeps (Answers event result position puts) s c g h =
-      with_pri amx (record s { cells = with_writes puts s.cells }) result g.0
-      (with_cells amx s (with_writes puts s.cells)
-      (cells-written (length s.cells) puts s.cells g.1 h.cells)
-      (length-written puts s.cells g.1) h)
+      → Gives called → IsState amx s → IsState amx (reached (answered called s c)).state
+  answered_keeps (Ends_there trap position) s c g f h = h
+  answered_keeps (Answers event result position puts) s c g f h =
+      with_pri amx (record s { cells = with_writes puts s.cells }) result f.0
+      (with_cells amx s (with_writes puts s.cells) (cells-written puts s.cells f.1 h.cells)
+      (length-written puts s.cells g) h)
 
   pub asked_keeps : (script : Script) (name : List ℕ) (o : Option (List ℤ)) (s : State) (c : Config)
       → IsScript script → IsState amx s
@@ -264,4 +114,4 @@ module _ (amx : Amx) where
   asked_keeps script name None s c g h = h
   asked_keeps script name (Some cells) s c g h =
       answered_keeps (native_call script (look s) name cells c.position) s c
-      (call_is script s name cells c.position g) h
+      (call_is script s name cells c.position) (call_gives script s name cells c.position g) h

@@ -19,7 +19,7 @@ use Rattle.amx_ops.specs.Keeps.{Leaves}
 use Rattle.amx_ops.specs.Access.{is_live, is_live_part, are_live, load, store, raise, load_part}
 use Rattle.amx_ops.specs.Access.{store_part, part, with_part, bytes_at, is_touched, four_bytes}
 use Rattle.amx_ops.specs.Access.{byte_moved, moved, cell_moved, copy, compare, order_of, fill}
-use Rattle.amx_ops.proofs.CellLaws.{cell_of_cell, wrap_cell, small_cell}
+use Rattle.pawn_cells.proofs.CellLaws.{cell_of_cell, wrap_cell, small_cell}
 
 -- a cell of a list, or 0 behind its end
 pub get_cell : (cells : List ℤ) (i : ℕ) → All IsCell cells → IsCell (get_or cells i (pos 0))
@@ -48,53 +48,15 @@ cells-put cells new i k h g =
 module _ (amx : Amx) where
   -- ---- one register, or the cells
 
-  pub with_pri : (s : State) (x : ℤ) → IsCell x → IsState amx s → IsState amx (record s { pri = x })
-  with_pri s x c h =
+  -- the registers that hold a number of their range
+  with_numbers : (s : State) (pri alt : ℤ) (frm cip : ℕ) → IsCell pri → IsCell alt → frm < 2 ^ 32
+      → cip < 2 ^ 32 → IsState amx s
+      → IsState amx (record s { pri = pri; alt = alt; frm = frm; cip = cip })
+  with_numbers s pri alt frm cip p a f c h =
       record {
-        pri = c;
-        alt = h.alt;
-        frm = h.frm;
-        cip = h.cip;
-        cells = h.cells;
-        size = h.size;
-        whole = h.whole;
-        order = h.order;
-      }
-
-  pub with_alt : (s : State) (x : ℤ) → IsCell x → IsState amx s → IsState amx (record s { alt = x })
-  with_alt s x c h =
-      record {
-        pri = h.pri;
-        alt = c;
-        frm = h.frm;
-        cip = h.cip;
-        cells = h.cells;
-        size = h.size;
-        whole = h.whole;
-        order = h.order;
-      }
-
-  pub with_frm : (s : State) (n : ℕ) → n < 2 ^ 32 → IsState amx s
-      → IsState amx (record s { frm = n })
-  with_frm s n c h =
-      record {
-        pri = h.pri;
-        alt = h.alt;
-        frm = c;
-        cip = h.cip;
-        cells = h.cells;
-        size = h.size;
-        whole = h.whole;
-        order = h.order;
-      }
-
-  pub with_cip : (s : State) (n : ℕ) → n < 2 ^ 32 → IsState amx s
-      → IsState amx (record s { cip = n })
-  with_cip s n c h =
-      record {
-        pri = h.pri;
-        alt = h.alt;
-        frm = h.frm;
+        pri = p;
+        alt = a;
+        frm = f;
         cip = c;
         cells = h.cells;
         size = h.size;
@@ -102,31 +64,42 @@ module _ (amx : Amx) where
         order = h.order;
       }
 
-  pub with_stk : (s : State) (n : ℕ) → n % 4 ≡ 0 → s.hea ≤ n → n ≤ stp s → IsState amx s
-      → IsState amx (record s { stk = n })
-  with_stk s n c low high h = record {
+  pub with_pri : (s : State) (x : ℤ) → IsCell x → IsState amx s → IsState amx (record s { pri = x })
+  with_pri s x c h = with_numbers s x s.alt s.frm s.cip c h.alt h.frm h.cip h
+
+  pub with_alt : (s : State) (x : ℤ) → IsCell x → IsState amx s → IsState amx (record s { alt = x })
+  with_alt s x c h = with_numbers s s.pri x s.frm s.cip h.pri c h.frm h.cip h
+
+  pub with_frm : (s : State) (n : ℕ) → n < 2 ^ 32 → IsState amx s
+      → IsState amx (record s { frm = n })
+  with_frm s n c h = with_numbers s s.pri s.alt n s.cip h.pri h.alt c h.cip h
+
+  pub with_cip : (s : State) (n : ℕ) → n < 2 ^ 32 → IsState amx s
+      → IsState amx (record s { cip = n })
+  with_cip s n c h = with_numbers s s.pri s.alt s.frm n h.pri h.alt h.frm c h
+
+  -- the ends of heap and stack
+  with_ends : (s : State) (hea stk : ℕ) → (hea % 4 ≡ 0) × (stk % 4 ≡ 0)
+      → (first_hea amx ≤ hea) × (hea ≤ stk) × (stk ≤ stp s) → IsState amx s
+      → IsState amx (record s { hea = hea; stk = stk })
+  with_ends s hea stk whole order h = record {
     pri = h.pri;
     alt = h.alt;
     frm = h.frm;
     cip = h.cip;
     cells = h.cells;
     size = h.size;
-    whole = (h.whole.0, c);
-    order = (h.order.0, low, high);
+    whole = whole;
+    order = order;
   }
+
+  pub with_stk : (s : State) (n : ℕ) → n % 4 ≡ 0 → s.hea ≤ n → n ≤ stp s → IsState amx s
+      → IsState amx (record s { stk = n })
+  with_stk s n c low high h = with_ends s s.hea n (h.whole.0, c) (h.order.0, low, high) h
 
   pub with_hea : (s : State) (n : ℕ) → n % 4 ≡ 0 → first_hea amx ≤ n → n ≤ s.stk → IsState amx s
       → IsState amx (record s { hea = n })
-  with_hea s n c low high h = record {
-    pri = h.pri;
-    alt = h.alt;
-    frm = h.frm;
-    cip = h.cip;
-    cells = h.cells;
-    size = h.size;
-    whole = (c, h.whole.1);
-    order = (low, high, h.order.2);
-  }
+  with_hea s n c low high h = with_ends s n s.stk (c, h.whole.1) (low, high, h.order.2) h
 
   pub with_cells : (s : State) (new : List ℤ) → All IsCell new → length new ≡ length s.cells
       → IsState amx s → IsState amx (record s { cells = new })

@@ -21,8 +21,8 @@ use Rattle.amx_ops.specs.Keeps.{Leaves, IsRunnable}
 use Rattle.amx_ops.specs.Access.{load, store, in_frame}
 use Rattle.amx_ops.specs.Effects.{at_next, jump, jump_if, case_of, register, returned}
 use Rattle.amx_ops.specs.Step.{act, act_by, act_on, step}
-use Rattle.amx_ops.proofs.CellLaws.{cell_of_cell, wrap_cell, bits_fit, sum_fits, shr_cell}
-use Rattle.amx_ops.proofs.CellLaws.{truth_cell}
+use Rattle.pawn_cells.proofs.CellLaws.{cell_of_cell, wrap_cell, bits_fit, sum_fits, shr_cell}
+use Rattle.pawn_cells.proofs.CellLaws.{truth_cell}
 use Rattle.amx_ops.proofs.FetchLaws.{fetched_is, fetched_within, all_proper, operand_proper}
 use Rattle.amx_ops.proofs.StateLaws.{with_pri, with_alt, with_frm, load_keeps, store_keeps}
 use Rattle.amx_ops.proofs.StateLaws.{raise_keeps, load_part_keeps, store_part_keeps, copy_keeps}

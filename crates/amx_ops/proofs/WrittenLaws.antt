@@ -24,6 +24,13 @@ use Rattle.amx_ops.proofs.FetchLaws.{none_broken, kind_is, number_is, cell_is}
 
 -- ---- read back
 
+-- what is read of some cells in front of others: one instruction, and then what is read of those
+abbrev pub Stands_first : (p n : ℕ) (v : ℤ) (cells rest : List ℤ) → Type 0
+Stands_first p n v cells rest =
+    placed_from p 0 (cells ++ rest)
+    ≡ record { at = p; instr = record { op = n; operand = v; cells = length cells } }
+    ∷ placed_from (p + 4 * length cells) 0 rest
+
 -- cells that belong to the instruction before
 passed_over : (p : ℕ) (xs rest : List ℤ)
     → placed_from p (length xs) (xs ++ rest) ≡ placed_from (p + 4 * length xs) 0 rest
@@ -67,23 +74,16 @@ placed_table p n (pos count) (default ∷ pairs) rest e h =
     } ∷ its) others
 placed_table p n (negsuc k) table rest e h = absurd h
 
-instr_is : (n : ℕ) (v : ℤ) (kind : Operand) → IsProper kind v
+pub instr_is : (n : ℕ) (v : ℤ) (kind : Operand) → IsProper kind v
     → instr_by n v kind ≡ record { op = n; operand = v; cells = length (cells_by n v kind) }
 instr_is n v operand.Nothing h = rw h refl
 instr_is n v operand.Cases h = absurd h
 instr_is n v kind h = refl
 
 -- an instruction without a table
-placed_plain : (p n : ℕ) (v : ℤ) (kind : Operand) (table rest : List ℤ) → kind ≢ operand.Cases
+pub placed_plain : (p n : ℕ) (v : ℤ) (kind : Operand) (table rest : List ℤ) → kind ≢ operand.Cases
     → operand_at (pos n) ≡ Some (n, kind)
-    → IsProper kind v → table ≡ []
-    → placed_from p 0 ((cells_by n v kind ++ table) ++ rest)
-    ≡ record {
-      at = p;
-      instr = record
-          { op = n; operand = v; cells = length (cells_by n v kind ++ table) };
-    }
-    ∷ placed_from (p + 4 * length (cells_by n v kind ++ table)) 0 rest
+    → IsProper kind v → table ≡ [] → Stands_first p n v (cells_by n v kind ++ table) rest
 placed_plain p n v kind table rest h e proper none =
     let same : cells_by n v kind ++ table ≡ cells_by n v kind =
     ap (λ t. cells_by n v kind ++ t) none ∙ append-nil (cells_by n v kind) in
@@ -93,13 +93,7 @@ placed_plain p n v kind table rest h e proper none =
 
 placed_by_form : (p n : ℕ) (v : ℤ) (kind : Operand) (table rest : List ℤ)
     → operand_at (pos n) ≡ Some (n, kind) → IsWrittenBy kind v table
-    → placed_from p 0 ((cells_by n v kind ++ table) ++ rest)
-    ≡ record {
-      at = p;
-      instr = record
-          { op = n; operand = v; cells = length (cells_by n v kind ++ table) };
-    }
-    ∷ placed_from (p + 4 * length (cells_by n v kind ++ table)) 0 rest
+    → Stands_first p n v (cells_by n v kind ++ table) rest
 placed_by_form p n v operand.Cases table rest e h = placed_table p n v table rest e h
 placed_by_form p n v kind table rest e h =
     placed_plain p n v kind table rest (λ same. let no : ⊥ = cc in no) e h.0 h.1

@@ -1,31 +1,16 @@
 -- The listing of the file of an empty main, and lines of each kind.
 use Rattle.std.proofs.Common.{◌≡◌, pos, negsuc, [], ◌∷◌, ◌++◌, codes, refl}
 use Rattle.std.specs.Fmt.{digits}
-use Rattle.amx_ops.specs.declared.amx.Amx.{Amx}
 use Rattle.amx_ops.specs.Table.{row_at}
+use Rattle.amx_ops.proofs.Examples.{empty_main, file_of}
 use Rattle.amx_text.specs.Lines.{address_text, record_line}
 use Rattle.amx_text.specs.Listing.{code_lines, data_from, listing}
 
-empty_main : Amx
-empty_main = record {
-  flags = 0;
-  version = 8;
-  code = pos 120 ∷ pos 0 ∷ pos 46 ∷ pos 89 ∷ pos 48 ∷ [];
-  store = [];
-  room = 4096;
-  entry = pos 8;
-  publics = [];
-  natives = [];
-  libraries = [];
-  variables = [];
-  tags = [];
-}
-
-of_an_empty_main : listing empty_main
+of_an_empty_main : listing (file_of empty_main [])
     ≡ codes "amx flags 0 version 8 code 5 data 0 room 4096 entry 8\n"
     ++ (codes "code\n00000000 HALT 0\n00000008 PROC\n"
     ++ codes "0000000c ZERO.pri\n00000010 RETN\ndata\nend\n")
-unfolding row_at address_text digits empty_main
+unfolding row_at address_text digits
 of_an_empty_main = refl
 
 -- a case table shows its count, its default and its pairs

@@ -1,4 +1,5 @@
 pub mod Examples
 pub mod LineLaws
-pub mod ListingLaws
 pub mod ListText
+pub mod ListingLaws
+pub mod RecordLaws

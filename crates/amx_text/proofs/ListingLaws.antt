@@ -6,38 +6,13 @@ use Rattle.std.specs.List.{flat_map}
 use Rattle.std.proofs.lemmas.List.{drop-drop}
 use Rattle.std.proofs.Math.ListN.{drop_of_length-le}
 use Rattle.amx_ops.specs.declared.instr.Instr.{Instr}
-use Rattle.amx_ops.specs.Instructions.{Placed, placed_from, placed_by, front}
+use Rattle.amx_ops.specs.Instructions.{placed_from, placed_by, front}
+use Rattle.amx_ops.proofs.FrontLaws.{placed_front}
 use Rattle.amx_text.specs.Lines.{instruction_line, data_line}
 use Rattle.amx_text.specs.Listing.{line_of, data_from}
 use Rattle.amx_text.specs.declared.listing.TheConstants.{WIDTH}
 
 -- ---- code
-
-abbrev at_place : ℕ → Instr → Placed
-at_place at i = record { at = at; instr = i }
-
-passed_over : (at k : ℕ) (cells : List ℤ) → k ≤ length cells
-    → placed_from at k cells ≡ placed_from (at + 4 * k) 0 (drop k cells)
-passed_over at zero cells h = ap (λ a. placed_from a 0 cells) (omega arith)
-passed_over at (suc k) [] h = absurd (omega (arith, h))
-passed_over at (suc k) (cell ∷ cells) h =
-    passed_over (at + 4) k cells (omega (arith, h))
-    ∙ ap (λ a. placed_from a 0 (drop k cells)) (omega arith)
-
-placed_front : (at : ℕ) (i : Instr) (cells : List ℤ) → front cells ≡ Some i → 1 ≤ i.cells
-    → i.cells ≤ length cells
-    → placed_from at 0 cells ≡ at_place at i ∷ placed_from (at + 4 * i.cells) 0 (drop i.cells cells)
-placed_front at i [] e more within = absurd (omega (arith, more, within))
-placed_front at i (cell ∷ cells) e more within =
-    let k = i.cells - 1 in
-    let up : i.cells ≡ suc k = omega (arith, more) in
-    let rest : placed_from (at + 4) k cells
-    ≡ placed_from (at + 4 * i.cells) 0 (drop i.cells (cell ∷ cells)) =
-    passed_over (at + 4) k cells (omega (arith, within, up))
-    ∙ ap (λ a. placed_from a 0 (drop k cells)) (omega (arith, up))
-    ∙ ap (λ n. placed_from (at + 4 * i.cells) 0 (drop n (cell ∷ cells))) (sym up) in
-    ap (λ o. placed_by at o (λ i. placed_from (at + 4) (i.cells - 1) cells)) e
-    ∙ ap (λ its. at_place at i ∷ its) rest
 
 -- the lines of the cells from a place on
 abbrev pub code_from : List ℤ → ℕ → List ℤ → List ℕ

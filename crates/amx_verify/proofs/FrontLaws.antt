@@ -1,5 +1,5 @@
 -- The first fault of code, instruction by instruction from the front.
-use Rattle.std.proofs.Common.{◌≡◌, ◌+◌, ◌-◌, ◌*◌, ◌≤◌, ℕ, zero, suc, ℤ, List, [], ◌∷◌, Option, None}
+use Rattle.std.proofs.Common.{◌≡◌, ◌+◌, ◌-◌, ◌*◌, ◌≤◌, ℕ, ℤ, List, [], ◌∷◌, Option, None}
 use Rattle.std.proofs.Common.{Some, Ok, Err, length, drop, refl, sym, ap, ◌∙◌, arith, subst}
 use Rattle.std.proofs.lemmas.List.{drop-drop}
 use Rattle.std.proofs.lemmas.List.Sums.{sum_by-cons}
@@ -8,38 +8,11 @@ use Rattle.std.proofs.Math.ListN.{drop_of_length-le}
 use Rattle.amx_ops.specs.declared.instr.Instr.{Instr}
 use Rattle.amx_ops.specs.Instructions.{Placed, placed_from, placed_by, cells_in, front}
 use Rattle.amx_ops.specs.Valid.{Fault, or_else, first_of, proper, broken}
+use Rattle.amx_ops.proofs.FrontLaws.{placed_one, placed_front}
 use Rattle.amx_verify.specs.declared.fault.VerifyFault.{VerifyFault}
 use Rattle.amx_verify.specs.declared.fault.VerifyFault.TheVariants as answer
 use Rattle.amx_verify.specs.Verdict.{Tells}
 use Rattle.amx_verify.specs.Fronts.{whole_fault, at_front, FrontIs}
-
-abbrev pub placed_one : ℕ → Instr → Placed
-placed_one at i = record { at = at; instr = i }
-
-passed_over : (at k : ℕ) (cells : List ℤ) → k ≤ length cells
-    → placed_from at k cells ≡ placed_from (at + 4 * k) 0 (drop k cells)
-passed_over at zero cells h = ap (λ a. placed_from a 0 cells) (omega arith)
-passed_over at (suc k) [] h = absurd (omega (arith, h))
-passed_over at (suc k) (cell ∷ cells) h =
-    passed_over (at + 4) k cells (omega (arith, h))
-    ∙ ap (λ a. placed_from a 0 (drop k cells)) (omega arith)
-
--- the instruction at the front, and those behind it
-pub placed_front : (at : ℕ) (i : Instr) (cells : List ℤ) → front cells ≡ Some i → 1 ≤ i.cells
-    → i.cells ≤ length cells
-    → placed_from at 0 cells ≡ placed_one at i
-    ∷ placed_from (at + 4 * i.cells) 0 (drop i.cells cells)
-placed_front at i [] e more within = absurd (omega (arith, more, within))
-placed_front at i (cell ∷ cells) e more within =
-    let k = i.cells - 1 in
-    let up : i.cells ≡ suc k = omega (arith, more) in
-    let rest : placed_from (at + 4) k cells
-    ≡ placed_from (at + 4 * i.cells) 0 (drop i.cells (cell ∷ cells)) =
-    passed_over (at + 4) k cells (omega (arith, within, up))
-    ∙ ap (λ a. placed_from a 0 (drop k cells)) (omega (arith, up))
-    ∙ ap (λ n. placed_from (at + 4 * i.cells) 0 (drop n (cell ∷ cells))) (sym up) in
-    ap (λ o. placed_by at o (λ i. placed_from (at + 4) (i.cells - 1) cells)) e
-    ∙ ap (λ its. placed_one at i ∷ its) rest
 
 pub none_placed : (at : ℕ) (cells : List ℤ) → front cells ≡ None → placed_from at 0 cells ≡ []
 none_placed at [] e = refl

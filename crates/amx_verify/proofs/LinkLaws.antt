@@ -13,8 +13,8 @@ use Rattle.amx_ops.specs.Valid.{entry_fault, main_fault, publics_fault}
 use Rattle.amx_verify.specs.declared.fault.VerifyFault.{VerifyFault}
 use Rattle.amx_verify.specs.Verdict.{Tells, fault_in}
 use Rattle.amx_verify.specs.Fronts.{whole_fault, link_fault_from}
-use Rattle.amx_verify.proofs.FrontLaws.{placed_one, placed_front, none_placed, tells_first}
-use Rattle.amx_verify.proofs.FrontLaws.{tells_next, none_next}
+use Rattle.amx_ops.proofs.FrontLaws.{placed_one, placed_front}
+use Rattle.amx_verify.proofs.FrontLaws.{none_placed, tells_first, tells_next, none_next}
 
 module _ (code rest : List ℤ) (place : ℕ) (is : rest ≡ drop place code)
     (so_far : link_fault_from code (4 * place) (drop place code) ≡ link_fault_from code 0 code)

@@ -2,10 +2,10 @@
 #![tactic(auto)]
 
 mod fault;
+mod instructions;
 mod links;
 mod marked;
 mod verified;
-mod whole;
 
 pub use fault::VerifyFault;
 pub use verified::{Verified, verify};

@@ -6,8 +6,8 @@ ghost use Rattle.amx_ops.specs.Valid as valid;
 ghost use Rattle.amx_verify.specs.Verdict.{fault_in, Judges};
 
 use super::fault::VerifyFault;
+use super::instructions::check_whole;
 use super::marked::Marked;
-use super::whole::check_whole;
 use amx_ops::Amx;
 use std::alloc::Global;
 use std::marker::Model;

@@ -5,23 +5,23 @@ use Rattle.std.proofs.Common.{length-set}
 use Rattle.std.proofs.lemmas.List.{drop_all}
 use Rattle.std.specs.Option.{option_map}
 use Rattle.pawn_tree.specs.declared.name.At.{At}
-use Rattle.pawn_program.specs.Program.{Arg, Args, no_args, then_arg}
-use Rattle.pawn_program.specs.declared.node.Arg as held
-use Rattle.pawn_program.specs.View.{arg_view, args_view}
-use Rattle.pawn_scopes.specs.Verdict.{Verdict, Stands, Breaks, after, both, faults_of}
-use Rattle.pawn_typing.specs.declared.fault.TheConstants.{ARGUMENT_MISSING}
-use Rattle.pawn_typing.specs.Around.{Around}
-use Rattle.pawn_typing.specs.Around as around
-use Rattle.pawn_calls.specs.Filling as filling
-use Rattle.pawn_calls.specs.Defaults.{arg_of, args_of}
-use Rattle.pawn_calls.specs.Calls.{args_in}
+use Rattle.pawn_meaning.specs.Program.{Arg, Args, no_args, then_arg}
+use Rattle.pawn_meaning.specs.declared.node.Arg as held
+use Rattle.pawn_meaning.specs.View.{arg_view, args_view}
+use Rattle.names_rules.specs.Verdict.{Verdict, Stands, Breaks, after, both, faults_of}
+use Rattle.types_rules.specs.declared.fault.TheConstants.{ARGUMENT_MISSING}
+use Rattle.types_rules.specs.Around.{Around}
+use Rattle.types_rules.specs.Around as around
+use Rattle.types_rules.specs.Filling as filling
+use Rattle.types_rules.specs.Defaults.{arg_of, args_of}
+use Rattle.types_rules.specs.Calls.{args_in}
 use Rattle.pawn_verdict.specs.declared.fault.CheckFault.{CheckFault}
 use Rattle.pawn_verdict.specs.declared.fault.CheckFault.TheVariants.{Source}
 use Rattle.pawn_verdict.specs.Answers.{Fails}
 use Rattle.pawn_verdict.proofs.VerdictLaws.{fails_after, fails_first}
-use Rattle.check_types.specs.declared.context.Param.{Param}
-use Rattle.check_types.specs.ContextView.{param_view}
-use Rattle.check_types.proofs.ThreadLaws.{next}
+use Rattle.check_nodes.specs.declared.context.Param.{Param}
+use Rattle.check_nodes.specs.ContextView.{param_view}
+use Rattle.check_nodes.proofs.ThreadLaws.{next}
 use Rattle.check_calls.specs.declared.filling.Filled.{Filled}
 use Rattle.check_calls.specs.FillingView.{filled_view, slots_view}
 

@@ -2,12 +2,12 @@
 use Rattle.std.proofs.Common.{◌≡◌, ◌+◌, ◌<◌, ℕ, List, [], ◌∷◌, ◌++◌, length, get_or, map, Option}
 use Rattle.std.proofs.Common.{None, refl, ap, subst, sym}
 use Rattle.std.proofs.lemmas.List.{length_push}
-use Rattle.pawn_scopes.specs.Verdict.{Verdict, Stands}
-use Rattle.pawn_typing.specs.Around as around
-use Rattle.pawn_calls.specs.Filling as filling
-use Rattle.check_types.specs.declared.context.Param.{Param}
-use Rattle.check_types.specs.ContextView.{param_view}
-use Rattle.check_types.proofs.ThreadLaws.{Threaded, thread_more}
+use Rattle.names_rules.specs.Verdict.{Verdict, Stands}
+use Rattle.types_rules.specs.Around as around
+use Rattle.types_rules.specs.Filling as filling
+use Rattle.check_nodes.specs.declared.context.Param.{Param}
+use Rattle.check_nodes.specs.ContextView.{param_view}
+use Rattle.check_nodes.proofs.ThreadLaws.{Threaded, thread_more}
 use Rattle.check_calls.specs.Empty.{nothing_for}
 use Rattle.check_calls.specs.FillingView.{slots_view}
 

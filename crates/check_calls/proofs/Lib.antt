@@ -1,7 +1,11 @@
-pub mod PutLaws
 pub mod ArgsLaws
+pub mod CopyLaws
 pub mod FillLaws
+pub mod MadeLaws
 pub mod NameLaws
 pub mod NumberLaws
-pub mod MadeLaws
+pub mod PackedTextLaws
+pub mod PutLaws
 pub mod ShownLaws
+pub mod UpdateLaws
+pub mod UpdateSignLaws

@@ -3,7 +3,7 @@ use Rattle.std.proofs.Common.{◌≡◌, ◌+◌, ◌<◌, ◌≤◌, ℕ, List,
 use Rattle.std.proofs.Common.{refl, sym, subst, ◌∙◌, append_assoc, append-nil}
 use Rattle.std.specs.Prelude.{flat_map}
 use Rattle.std.proofs.lemmas.List.{drop_all, length_push}
-use Rattle.check_types.proofs.ThreadLaws.{next}
+use Rattle.check_nodes.proofs.ThreadLaws.{next}
 
 module _ {H G X : Type 0} (view : H → G) (of : G → List X) (list : List H) where
   -- what so many elements have, and what the rest has behind it

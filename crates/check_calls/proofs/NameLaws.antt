@@ -4,9 +4,9 @@ use Rattle.std.proofs.Common.{◌≡◌, ◌+◌, ℕ, suc, List, [], ◌∷◌,
 use Rattle.std.proofs.Common.{Some, map, position, refl, sym, ap, ap₂}
 use Rattle.std.specs.List.{position_or_len}
 use Rattle.std.specs.Str.{bytes_eq}
-use Rattle.pawn_typing.specs.Around.{Param}
-use Rattle.check_types.specs.declared.context.Param as held
-use Rattle.check_types.specs.ContextView.{param_view}
+use Rattle.types_rules.specs.Around.{Param}
+use Rattle.check_nodes.specs.declared.context.Param as held
+use Rattle.check_nodes.specs.ContextView.{param_view}
 
 passed : (name : List ℕ) (params : List held.Param)
     → position_or_len (λ (p : held.Param). bytes_eq p.name name) params

@@ -6,10 +6,10 @@ use Rattle.std.specs.List.{position_from}
 use Rattle.std.specs.Str.{bytes_eq}
 use Rattle.std.proofs.lemmas.List.{drop_all}
 use Rattle.std.proofs.lemmas.Iterator.Adapters.{position_from-zero}
-use Rattle.pawn_typing.specs.Around as around
-use Rattle.check_types.specs.declared.context.Param.{Param}
-use Rattle.check_types.specs.ContextView.{param_view}
-use Rattle.check_types.proofs.ThreadLaws.{next}
+use Rattle.types_rules.specs.Around as around
+use Rattle.check_nodes.specs.declared.context.Param.{Param}
+use Rattle.check_nodes.specs.ContextView.{param_view}
+use Rattle.check_nodes.proofs.ThreadLaws.{next}
 use Rattle.check_calls.specs.declared.numbers.Numbers.{Numbers}
 use Rattle.check_calls.specs.Numbers.{Table, number_in, AreNumbers}
 use Rattle.check_calls.proofs.NameLaws.{place_is}

@@ -7,9 +7,9 @@ use Rattle.std.proofs.lemmas.Option.{slice_get_past}
 use Rattle.std.specs.Option.{option_map}
 use Rattle.std.specs.Prelude.{slice_get}
 use Rattle.pawn_tree.specs.declared.name.At.{At}
-use Rattle.pawn_scopes.specs.Verdict.{Stands, faults_of}
-use Rattle.pawn_typing.specs.declared.fault.TheConstants.{ARGUMENT_TWICE, TOO_MANY_ARGUMENTS}
-use Rattle.pawn_calls.specs.Filling.{put}
+use Rattle.names_rules.specs.Verdict.{Stands, faults_of}
+use Rattle.types_rules.specs.declared.fault.TheConstants.{ARGUMENT_TWICE, TOO_MANY_ARGUMENTS}
+use Rattle.types_rules.specs.Filling.{put}
 use Rattle.pawn_verdict.specs.declared.fault.CheckFault.TheVariants.{Source}
 use Rattle.pawn_verdict.specs.Answers.{Fails}
 use Rattle.check_calls.specs.declared.filling.Filled.{Filled}

@@ -1,7 +1,7 @@
 -- What is shown of the slots says the size and tag of what each parameter got.
 use Rattle.std.proofs.Common.{◌≡◌, ℕ, zero, suc, List, [], ◌∷◌, map, Option, Some, None, refl}
 use Rattle.std.specs.Prelude.{slice_get}
-use Rattle.pawn_calls.specs.Defaults.{size_given, tag_given}
+use Rattle.types_rules.specs.Defaults.{size_given, tag_given}
 use Rattle.check_calls.specs.declared.filling.Filled.{Filled}
 use Rattle.check_calls.specs.declared.filling.Filled.TheVariants.{Argument, Default}
 use Rattle.check_calls.specs.FillingView.{slots_view}

@@ -1,7 +1,7 @@
 -- What is called, as the rules of calls see it.
 use Rattle.std.specs.Prelude.{option_map}
-use Rattle.pawn_calls.specs.Calls as plain
-use Rattle.check_types.specs.ContextView.{head_view}
+use Rattle.types_rules.specs.Calls as plain
+use Rattle.check_nodes.specs.ContextView.{head_view}
 use Rattle.check_calls.specs.declared.calls.Callee.{Callee}
 
 -- a function or a native, with its head if that is known

@@ -1,6 +1,6 @@
 -- What a parameter has before any argument.
 use Rattle.std.specs.Prelude.{Option, None}
-use Rattle.check_types.specs.declared.context.Param.{Param}
+use Rattle.check_nodes.specs.declared.context.Param.{Param}
 use Rattle.check_calls.specs.declared.filling.Filled.{Filled}
 
 -- no argument, and no default yet

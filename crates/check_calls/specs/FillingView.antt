@@ -1,8 +1,8 @@
 -- The arguments of a call so far, as the rules of calls see them.
 use Rattle.std.specs.Prelude.{List, Option, map, option_map}
-use Rattle.pawn_program.specs.View.{arg_view, object_view}
-use Rattle.pawn_calls.specs.Filling as plain
-use Rattle.check_types.specs.TypedView.{typed_view}
+use Rattle.pawn_meaning.specs.View.{arg_view, object_view}
+use Rattle.types_rules.specs.Filling as plain
+use Rattle.check_nodes.specs.TypedView.{typed_view}
 use Rattle.check_calls.specs.declared.filling.Offer.{Offer}
 use Rattle.check_calls.specs.declared.filling.Offer.TheVariants as offer
 use Rattle.check_calls.specs.declared.filling.Filled.{Filled}

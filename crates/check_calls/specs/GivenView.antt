@@ -1,11 +1,11 @@
 -- Arguments, as the rules of calls see them.
 use Rattle.std.specs.declared.alloc.Global.{Global}
 use Rattle.std.specs.declared.boxed.Box.{Box}
-use Rattle.pawn_program.specs.Program.{Arg}
-use Rattle.pawn_program.specs.View.{array_view, arg_view}
-use Rattle.pawn_program.specs.declared.node.Arg as held
-use Rattle.pawn_calls.specs.Given as plain
-use Rattle.pawn_calls.specs.Filling as filling
+use Rattle.pawn_meaning.specs.Program.{Arg}
+use Rattle.pawn_meaning.specs.View.{array_view, arg_view}
+use Rattle.pawn_meaning.specs.declared.node.Arg as held
+use Rattle.types_rules.specs.Given as plain
+use Rattle.types_rules.specs.Filling as filling
 use Rattle.check_calls.specs.declared.given.Argued.{Argued}
 use Rattle.check_calls.specs.declared.given.Given.{Given}
 use Rattle.check_calls.specs.declared.given.Passed.{Passed}

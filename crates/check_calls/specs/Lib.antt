@@ -1,6 +1,11 @@
-pub mod GivenView
-pub mod Empty
-pub mod Numbers
-pub mod FillingView
-pub mod Shown
 pub mod CalleeView
+pub mod Empty
+pub mod FillingView
+pub mod GivenView
+pub mod Held
+pub mod Numbers
+pub mod Shown
+pub mod Source
+pub mod TargetView
+pub mod Updated
+pub mod WholeView

@@ -3,7 +3,7 @@ use Rattle.std.specs.Prelude.{◌≡◌, ℕ, List, Option, position}
 use Rattle.std.specs.Borrow.{Bor}
 use Rattle.std.specs.Map.{lookup}
 use Rattle.std.specs.Str.{bytes_eq}
-use Rattle.check_types.specs.declared.context.Param.{Param}
+use Rattle.check_nodes.specs.declared.context.Param.{Param}
 
 -- numbers by names
 abbrev pub Table : Type 0

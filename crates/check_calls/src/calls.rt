@@ -1,22 +1,22 @@
 ghost use Rattle.std.specs.Prelude.{◌≡◌, ◌++◌, map, flat_map, option_map, IfOk};
-ghost use Rattle.pawn_program.specs.View.{args_view, expr_view, object_view};
-ghost use Rattle.pawn_calls.specs.Calls as spec;
+ghost use Rattle.pawn_meaning.specs.View.{args_view, expr_view, object_view};
+ghost use Rattle.types_rules.specs.Calls as spec;
 ghost use Rattle.pawn_verdict.specs.Answers.{Answers};
-ghost use Rattle.check_types.specs.ContextView.{around_view, head_view};
-ghost use Rattle.check_types.specs.MeaningView.{meaning_view};
-ghost use Rattle.check_types.specs.TypedView.{typed_view};
+ghost use Rattle.check_nodes.specs.ContextView.{around_view, head_view};
+ghost use Rattle.check_nodes.specs.MeaningView.{meaning_view};
+ghost use Rattle.check_nodes.specs.TypedView.{typed_view};
 ghost use Rattle.check_calls.specs.CalleeView.{callee_view};
 ghost use Rattle.check_calls.specs.FillingView.{offer_view};
 
 use super::defaults::args;
 use super::filling::{Offer, fill};
-use check_types::{Callable, Context, Form, Head, Made, Meaning, Typed};
+use check_nodes::{Callable, Context, Form, Head, Made, Meaning, Typed};
 use pawn_base::{List, Memory};
-use pawn_program::{Arg, Expr};
+use pawn_meaning::{Arg, Expr};
 use pawn_tree::At;
-use pawn_typing::UNDEFINED;
 use pawn_verdict::{CheckFault, broken};
 use std::alloc::Global;
+use types_rules::UNDEFINED;
 
 /// What is called: whether it is a native, its number, the tag of what it gives, and its head,
 /// unless that isn't known yet.
@@ -167,7 +167,7 @@ fn made_in(alloc: Global, offers: Vec<Offer>) -> Result<Made, Memory>
 ///
 /// 50 for a name that no parameter has, 55 and 58 for an argument that doesn't fit its parameter,
 /// 59 for a parameter without an argument, 60 for one that got two, 61 for an argument too many.
-#[tactic(auto, unfolding(pawn_calls::specs::Calls::call_rule))]
+#[tactic(auto, unfolding(types_rules::specs::Calls::call_rule))]
 pub fn call(
     alloc: Global,
     cx: &Context,

@@ -1,23 +1,23 @@
 ghost use Rattle.std.specs.Prelude.{◌≡◌, [], ◌∷◌, ◌++◌, List, Option, map};
 ghost use Rattle.std.specs.Prelude.{option_map, slice_get, IfOk};
-ghost use Rattle.pawn_program.specs.View.{args_view};
-ghost use Rattle.pawn_calls.specs.Defaults as spec;
+ghost use Rattle.pawn_meaning.specs.View.{args_view};
+ghost use Rattle.types_rules.specs.Defaults as spec;
 ghost use Rattle.pawn_verdict.specs.Answers.{Answers};
-ghost use Rattle.check_types.specs.ContextView.{around_view, param_view};
+ghost use Rattle.check_nodes.specs.ContextView.{around_view, param_view};
 ghost use Rattle.check_calls.specs.GivenView.{arg_code};
 ghost use Rattle.check_calls.specs.declared.filling.Filled.{Filled as Held};
 ghost use Rattle.check_calls.specs.FillingView.{filled_view, slots_view};
 ghost use Rattle.check_calls.specs.Shown.{shown_in, size_shown, tag_shown};
 
 use super::filling::Filled;
-use check_types::{Context, Param, ParamDefault, UNTAGGED, converter_to, first_tag};
+use check_nodes::{Context, Param, ParamDefault, UNTAGGED, converter_to, first_tag};
 use pawn_base::{List, Memory};
-use pawn_program::{Arg, Expr};
+use pawn_meaning::{Arg, Expr};
 use pawn_tree::At;
-use pawn_typing::ARGUMENT_MISSING;
 use pawn_verdict::{CheckFault, broken};
 use std::alloc::Global;
 use std::mem;
+use types_rules::ARGUMENT_MISSING;
 
 /// What `sizeof` and `tagof` of a parameter are with its argument.
 #[derive(Clone, Copy)]

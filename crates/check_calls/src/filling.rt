@@ -1,28 +1,31 @@
-ghost use Rattle.std.specs.Prelude.{◌≡◌, ◌+◌, map, option_map, position, slice_get, IfOk, IfSome};
+ghost use Rattle.std.specs.Prelude.{◌≡◌, ◌+◌, [], ◌∷◌, ◌++◌, map, option_map, position, slice_get};
+ghost use Rattle.std.specs.Prelude.{IfOk, IfSome};
 ghost use Rattle.std.specs.Str.{bytes_eq};
-ghost use Rattle.pawn_scopes.specs.Verdict.{Stands, after};
-ghost use Rattle.pawn_typing.specs.Around.{Param as Plain};
-ghost use Rattle.pawn_calls.specs.Given.{given_rule};
-ghost use Rattle.pawn_calls.specs.Filling as spec;
+ghost use Rattle.pawn_meaning.specs.View.{arg_view, object_view};
+ghost use Rattle.names_rules.specs.Verdict.{Stands, after};
+ghost use Rattle.types_rules.specs.Around.{Param as Plain};
+ghost use Rattle.types_rules.specs.Given.{given_rule};
+ghost use Rattle.types_rules.specs.Filling as spec;
 ghost use Rattle.pawn_verdict.specs.Answers.{Answers};
-ghost use Rattle.check_types.specs.declared.context.Param.{Param as Held};
-ghost use Rattle.check_types.specs.ContextView.{around_view, param_view, head_view};
-ghost use Rattle.check_types.specs.TypedView.{typed_view};
+ghost use Rattle.check_nodes.specs.declared.context.Param.{Param as Held};
+ghost use Rattle.check_nodes.specs.ContextView.{around_view, param_view, head_view};
+ghost use Rattle.check_nodes.specs.TypedView.{typed_view};
 ghost use Rattle.check_calls.specs.Empty.{nothing_for};
 ghost use Rattle.check_calls.specs.Numbers.{AreNumbers};
 ghost use Rattle.check_calls.specs.declared.numbers.Numbers.{Numbers as Table};
+ghost use Rattle.check_calls.specs.GivenView.{arg_code};
 ghost use Rattle.check_calls.specs.FillingView.{filled_view, filling_view, offer_view, slots_view};
 
-use super::given::{Argued, give, rest_given};
+use super::given::{Argued, Given, give, rest_given};
 use super::numbers::{Numbers, numbers_of};
-use check_types::{Context, Head, Made, Param, Typed};
+use check_nodes::{Context, Head, Made, Param, Typed};
 use pawn_base::{Bytes, List, Memory};
-use pawn_program::Arg;
+use pawn_meaning::Arg;
 use pawn_tree::At;
-use pawn_typing::{ARGUMENT_MISSING, ARGUMENT_TWICE, TOO_MANY_ARGUMENTS, UNDEFINED};
 use pawn_verdict::{CheckFault, broken};
 use std::alloc::Global;
 use std::mem;
+use types_rules::{ARGUMENT_MISSING, ARGUMENT_TWICE, TOO_MANY_ARGUMENTS, UNDEFINED};
 
 /// An argument as it stands in the call.
 #[derive(Drop)]
@@ -115,13 +118,21 @@ fn for_param(
         (λ slots.
         Stands (spec.argued (filling_view done) (typed_view x) it slots next)))) result }
 {
-    let it = give(alloc, cx, at, param, x)?;
+    let it = match give(alloc, cx, at, param, x) {
+        Ok(it) => it,
+        Err(fault) => {
+            // by name, since a `?` would write its drop out
+            drop(done);
+            return Err(fault);
+        }
+    };
+    let made = done.made.then(it.made);
     let slots = put(at, i, Filled::Argument(it.argued), done.slots)?;
     Ok(Filling {
         next,
         slots,
         rest: done.rest,
-        made: done.made.then(it.made)?,
+        made: made?,
     })
 }
 
@@ -132,6 +143,28 @@ fn one_more(count: usize) -> Result<usize, Memory>
         None => Err(Memory),
         Some(more) => Ok(more),
     }
+}
+
+/// With one more argument of `...`.
+fn with_rest(done: Filling, it: Given) -> Result<Filling, Memory>
+    ensures { IfOk result (λ all. filling_view all ≡ record {
+      next = done.next + 1;
+      slots = slots_view done.slots.items;
+      rest = map arg_view done.rest ++ arg_code it.argued.code ∷ [];
+      literals = map object_view done.made.literals ++ map object_view it.made.literals;
+      warned = done.made.warned ++ it.made.warned;
+    }) }
+{
+    let next = one_more(done.next);
+    let made = done.made.then(it.made);
+    let mut rest = done.rest;
+    rest.push(Box::into_inner(it.argued.code))?;
+    Ok(Filling {
+        next: next?,
+        slots: done.slots,
+        rest,
+        made: made?,
+    })
 }
 
 /// An argument behind all parameters, which belongs to `...`.
@@ -147,18 +180,19 @@ fn for_rest(
         (filling_view done) head.now.rest (typed_view x)) result }
 {
     match &head.rest {
-        None => Err(broken(TOO_MANY_ARGUMENTS, at.place)),
-        Some(tags) => {
-            let it = rest_given(alloc, cx, tags.as_slice(), x)?;
-            let mut rest = done.rest;
-            rest.push(Box::into_inner(it.argued.code))?;
-            Ok(Filling {
-                next: one_more(done.next)?,
-                slots: done.slots,
-                rest,
-                made: done.made.then(it.made)?,
-            })
+        None => {
+            // by name, here and below, since the end of a block would write their drops out
+            drop(done);
+            drop(x);
+            Err(broken(TOO_MANY_ARGUMENTS, at.place))
         }
+        Some(tags) => match rest_given(alloc, cx, tags.as_slice(), x) {
+            Ok(it) => Ok(with_rest(done, it)?),
+            Err(_) => {
+                drop(done);
+                Err(CheckFault::Memory)
+            }
+        },
     }
 }
 
@@ -202,11 +236,14 @@ fn skipped(cx: &Context, at: At, head: &Head, done: Filling) -> Result<Filling, 
     ensures { Answers filling_view (spec.skipped (around_view cx.now) at (head_view head.now)
         (filling_view done) (slice_get (map param_view head.now.params) done.next)) result }
 {
-    match head.params.as_slice().get(done.next) {
-        None => match &head.rest {
-            None => Err(broken(TOO_MANY_ARGUMENTS, at.place)),
-            Some(_) => Err(broken(ARGUMENT_MISSING, at.place)),
-        },
+    match param_at(head, done.next) {
+        None => {
+            drop(done);
+            match &head.rest {
+                None => Err(broken(TOO_MANY_ARGUMENTS, at.place)),
+                Some(_) => Err(broken(ARGUMENT_MISSING, at.place)),
+            }
+        }
         Some(_) => {
             let slots = put(at, done.next, Filled::Default, done.slots)?;
             Ok(Filling {
@@ -268,9 +305,17 @@ fn named(
 {
     let next = done.next;
     match find_param(head, numbers, name) {
-        None => Err(broken(UNDEFINED, at.place)),
+        None => {
+            drop(done);
+            drop(x);
+            Err(broken(UNDEFINED, at.place))
+        }
         Some(i) => match param_at(head, i) {
-            None => Err(broken(UNDEFINED, at.place)),
+            None => {
+                drop(done);
+                drop(x);
+                Err(broken(UNDEFINED, at.place))
+            }
             Some(param) => for_param(alloc, cx, at, done, i, param, x, next),
         },
     }

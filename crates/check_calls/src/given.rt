@@ -1,23 +1,26 @@
-ghost use Rattle.std.specs.Prelude.{◌≡◌, IfOk};
+ghost use Rattle.std.specs.Prelude.{◌≡◌, ◌++◌, IfOk};
 ghost use Rattle.std.specs.Option.{option_to_list};
 ghost use Rattle.std.specs.Str.{bytes_eq};
-ghost use Rattle.pawn_program.specs.View.{scalar_view, array_view, arg_view};
-ghost use Rattle.pawn_calls.specs.Given as spec;
+ghost use Rattle.pawn_meaning.specs.View.{scalar_view, array_view, arg_view};
+ghost use Rattle.names_rules.specs.Verdict.{Stands};
+ghost use Rattle.types_rules.specs.Given as spec;
+ghost use Rattle.types_rules.specs.Rule.{also};
+ghost use Rattle.types_rules.specs.Tests.{unless_passed};
 ghost use Rattle.pawn_verdict.specs.Answers.{Answers};
-ghost use Rattle.check_types.specs.CodeView.{code_view};
-ghost use Rattle.check_types.specs.ContextView.{around_view, param_view};
-ghost use Rattle.check_types.specs.ExtentView.{extent_view};
-ghost use Rattle.check_types.specs.TypedView.{form_view, typed_view};
+ghost use Rattle.check_nodes.specs.CodeView.{code_view};
+ghost use Rattle.check_nodes.specs.ContextView.{around_view, param_view};
+ghost use Rattle.check_nodes.specs.ExtentView.{extent_view};
+ghost use Rattle.check_nodes.specs.TypedView.{form_view, typed_view};
 ghost use Rattle.check_calls.specs.GivenView.{given_view, passed_view};
 
-use check_types::{Context, Extent, Form, Made, Param, Typed, line, send};
+use check_nodes::{Context, Extent, Form, Made, Param, Typed, line, send};
 use pawn_base::Memory;
-use pawn_program::{Arg, Array, Expr, Scalar};
+use pawn_meaning::{Arg, Array, Expr, Scalar};
 use pawn_tags::matches;
 use pawn_tree::At;
-use pawn_typing::{ARGUMENT_KIND, SIZES_DIFFER};
 use pawn_verdict::{CheckFault, broken};
 use std::alloc::Global;
+use types_rules::{ARGUMENT_KIND, SIZES_DIFFER};
 
 /// An argument in the program, and what `sizeof` and `tagof` of its parameter are with it.
 #[derive(Drop)]
@@ -34,14 +37,30 @@ pub struct Given {
     pub made: Made,
 }
 
-fn given_as(code: Box<Arg>, size: u32, tag: u32, made: Made) -> Given
-    ensures argued { result.argued ≡ record { code = code; size = size; tag = tag } }
-    ensures made { result.made ≡ made }
+/// An argument of a size and a tag, with a warning before these where its test failed.
+fn give_tested(
+    alloc: Global,
+    arg: Arg,
+    size: u32,
+    tag: u32,
+    made: Made,
+    passed: bool,
+    at: At,
+) -> Result<Given, Memory>
+    ensures given { IfOk result (λ it. given_view it ≡ record {
+      code = arg_view arg;
+      size = size;
+      tag = tag;
+      warned = unless_passed passed at ++ made.warned;
+    }) }
+    ensures literals { IfOk result (λ it. it.made.literals ≡ made.literals) }
 {
-    Given {
+    let made = made.tested_first(alloc, passed, at);
+    let code = Box::new(alloc, arg)?;
+    Ok(Given {
         argued: Argued { code, size, tag },
-        made,
-    }
+        made: made?,
+    })
 }
 
 // ---- a plain parameter
@@ -57,7 +76,7 @@ fn value(alloc: Global, at: At, form: Form) -> Result<Box<Expr>, CheckFault>
     }
 }
 
-#[tactic(auto, unfolding(pawn_calls::specs::Given::plain_given), using(pawn_verdict::proofs::VerdictLaws::verdicts))]
+#[tactic(auto, unfolding(types_rules::specs::Given::plain_given), using(pawn_verdict::proofs::VerdictLaws::verdicts))]
 fn plain_given(
     alloc: Global,
     cx: &Context,
@@ -71,9 +90,9 @@ fn plain_given(
 {
     let code = value(alloc, at, x.form)?;
     let sent = send(alloc, cx, param.tags.as_slice(), x.tag, code)?;
-    let made = x.made.tested_first(alloc, sent.passed, x.at)?;
-    let code = Box::new(alloc, Arg::Value(Box::into_inner(sent.code)))?;
-    Ok(given_as(code, 1, x.tag, made))
+    let arg = Arg::Value(Box::into_inner(sent.code));
+    let given = give_tested(alloc, arg, 1, x.tag, x.made, sent.passed, x.at)?;
+    Ok(given)
 }
 
 // ---- a reference
@@ -124,8 +143,13 @@ fn place(at: At, wanted: bool, form: Form) -> Result<Scalar, CheckFault>
     match form {
         Form::Place(place, constant) => {
             let place = cell_of_memory(at, place)?;
-            keeps_constant(at, constant, wanted)?;
-            Ok(place)
+            match keeps_constant(at, constant, wanted) {
+                Ok(_) => Ok(place),
+                Err(fault) => {
+                    drop(place);
+                    Err(fault)
+                }
+            }
         }
         Form::Value(_) => Err(broken(ARGUMENT_KIND, at.place)),
         Form::Whole(..) => Err(broken(ARGUMENT_KIND, at.place)),
@@ -133,7 +157,7 @@ fn place(at: At, wanted: bool, form: Form) -> Result<Scalar, CheckFault>
     }
 }
 
-#[tactic(auto, unfolding(pawn_calls::specs::Given::reference_given), using(pawn_verdict::proofs::VerdictLaws::verdicts))]
+#[tactic(auto, unfolding(types_rules::specs::Given::reference_given), using(pawn_verdict::proofs::VerdictLaws::verdicts))]
 fn reference_given(
     alloc: Global,
     cx: &Context,
@@ -148,9 +172,8 @@ fn reference_given(
 {
     let place = place(at, param.constant, x.form)?;
     let passed = matches(&cx.tags, param.tags.as_slice(), x.tag);
-    let made = x.made.tested_first(alloc, passed, x.at)?;
-    let code = Box::new(alloc, Arg::Ref(place))?;
-    Ok(given_as(code, 1, x.tag, made))
+    let given = give_tested(alloc, Arg::Ref(place), 1, x.tag, x.made, passed, x.at)?;
+    Ok(given)
 }
 
 // ---- an array
@@ -244,6 +267,20 @@ fn fitting(at: At, wanted: Extent, extent: Extent, array: Array) -> Result<Array
     }
 }
 
+/// An array with its first size, where one that is constant goes only to what is constant too.
+fn kept(at: At, constant: bool, keeps: bool, array: Array, size: u32) -> Result<Passed, CheckFault>
+    ensures { Answers passed_view (also (spec.keeps_constant at constant keeps)
+        (Stands (record { array = array_view array; size = size }))) result }
+{
+    match keeps_constant(at, constant, keeps) {
+        Ok(_) => Ok(Passed { array, size }),
+        Err(fault) => {
+            drop(array);
+            Err(fault)
+        }
+    }
+}
+
 #[tactic(auto, using(pawn_verdict::proofs::VerdictLaws::verdicts))]
 fn array(at: At, keeps: bool, wanted: Extent, form: Form) -> Result<Passed, CheckFault>
     ensures { Answers passed_view
@@ -253,14 +290,11 @@ fn array(at: At, keeps: bool, wanted: Extent, form: Form) -> Result<Passed, Chec
         Form::Value(_) => Err(broken(ARGUMENT_KIND, at.place)),
         Form::Place(place, constant) => {
             let array = rest_from(at, wanted, place)?;
-            keeps_constant(at, constant, keeps)?;
-            Ok(Passed { array, size: 0 })
+            kept(at, constant, keeps, array, 0)
         }
         Form::Whole(array, extent, constant) => {
             let array = fitting(at, wanted, extent, array)?;
-            keeps_constant(at, constant, keeps)?;
-            let size = extent.first.unwrap_or(0);
-            Ok(Passed { array, size })
+            kept(at, constant, keeps, array, extent.first.unwrap_or(0))
         }
         Form::Literal(object, cells) => {
             let array = fitting(at, wanted, line(cells), Array::Object(object))?;
@@ -269,7 +303,7 @@ fn array(at: At, keeps: bool, wanted: Extent, form: Form) -> Result<Passed, Chec
     }
 }
 
-#[tactic(auto, unfolding(pawn_calls::specs::Given::array_given), using(pawn_verdict::proofs::VerdictLaws::verdicts))]
+#[tactic(auto, unfolding(types_rules::specs::Given::array_given), using(pawn_verdict::proofs::VerdictLaws::verdicts))]
 fn array_given(
     alloc: Global,
     cx: &Context,
@@ -284,9 +318,9 @@ fn array_given(
 {
     let it = array(at, param.constant, wanted, x.form)?;
     let passed = matches(&cx.tags, param.tags.as_slice(), x.tag);
-    let made = x.made.tested_first(alloc, passed, x.at)?;
-    let code = Box::new(alloc, Arg::Whole(it.array))?;
-    Ok(given_as(code, it.size, x.tag, made))
+    let arg = Arg::Whole(it.array);
+    let given = give_tested(alloc, arg, it.size, x.tag, x.made, passed, x.at)?;
+    Ok(given)
 }
 
 // ---- all kinds
@@ -345,14 +379,12 @@ fn rest_arg(form: Form) -> Arg
 }
 
 /// An argument of `...` with so many tags.
-#[tactic(auto, unfolding(pawn_calls::specs::Given::rest_rule))]
+#[tactic(auto, unfolding(types_rules::specs::Given::rest_rule))]
 pub fn rest_given(alloc: Global, cx: &Context, tags: &[u32], x: Typed) -> Result<Given, Memory>
     ensures rule { IfOk result (λ it. given_view it
         ≡ spec.rest_rule (around_view cx.now) tags.now (typed_view x)) }
     ensures literals { IfOk result (λ it. it.made.literals ≡ x.made.literals) }
 {
     let passed = matches(&cx.tags, tags, x.tag);
-    let made = x.made.tested_first(alloc, passed, x.at)?;
-    let code = Box::new(alloc, rest_arg(x.form))?;
-    Ok(given_as(code, 1, x.tag, made))
+    give_tested(alloc, rest_arg(x.form), 1, x.tag, x.made, passed, x.at)
 }

@@ -1,16 +1,20 @@
-//! Calls and their arguments: what a parameter, or `...`, is given by one, each argument put to its
-//! parameter, parameters without one, and the typed call.
+//! Calls and places: arguments for parameters, indexes, assignments, texts.
 #![tactic(auto)]
 
+mod assignments;
 mod calls;
 mod defaults;
 mod filling;
 mod given;
+mod indexes;
 mod numbers;
+mod signs;
+mod text_cells;
+mod updates;
+mod wanted_array;
 
+pub use assignments::assign;
 pub use calls::{Callee, call, find_callee};
-pub use check_types::Memory;
-pub use defaults::Shown;
-pub use filling::{Filled, Filling, Offer, fill};
-pub use given::{Argued, Given};
-pub use pawn_verdict::CheckFault;
+pub use filling::Offer;
+pub use indexes::{character, index};
+pub use text_cells::text;

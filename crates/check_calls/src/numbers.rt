@@ -2,7 +2,7 @@ ghost use Rattle.std.specs.Prelude.{◌≡◌, Some, if◌then◌else◌, List a
 ghost use Rattle.std.specs.Str.{bytes_eq};
 ghost use Rattle.check_calls.specs.Numbers.{AreNumbers, number_in};
 
-use check_types::Param;
+use check_nodes::Param;
 use indexmap::IndexMap;
 use pawn_base::Memory;
 use std::alloc::Global;

@@ -9,18 +9,18 @@ use Rattle.pawn_tree.specs.declared.declaration.Decl as held
 use Rattle.pawn_tree.specs.Variables.{Var}
 use Rattle.pawn_tree.specs.Declarations.{Decl}
 use Rattle.pawn_tree.specs.View.{decl_view, var_view}
-use Rattle.pawn_scopes.specs.Verdict.{Verdict, Stands, Breaks, Fault, after, both, faults_of}
-use Rattle.pawn_typing.specs.Around.{Around, Head}
+use Rattle.names_rules.specs.Verdict.{Verdict, Stands, Breaks, Fault, after, both, faults_of}
+use Rattle.types_rules.specs.Around.{Around, Head}
 use Rattle.pawn_verdict.specs.declared.fault.CheckFault.{CheckFault}
 use Rattle.pawn_verdict.specs.Answers.{Fails}
-use Rattle.pawn_bodies.specs.Points.{Point, behind_var, behind_vars}
-use Rattle.pawn_bodies.specs.Locals.{local_by}
-use Rattle.pawn_bodies.specs.Stood.{Stood}
-use Rattle.pawn_typed.specs.Sources.{Source}
-use Rattle.pawn_typed.specs.Declarations.{Done, done_behind, nothing_done, objects_done, globals}
-use Rattle.pawn_typed.specs.Declarations.{decl_rule, declarations}
-use Rattle.pawn_typed.specs.Paths.{behind_decl, heads, heads_of}
-use Rattle.check_types.proofs.ThreadLaws.{next}
+use Rattle.types_rules.specs.Points.{Point, behind_var, behind_vars}
+use Rattle.types_rules.specs.Locals.{local_by}
+use Rattle.types_rules.specs.Stood.{Stood}
+use Rattle.types_rules.specs.Sources.{Source}
+use Rattle.types_rules.specs.Declarations.{Done, done_behind, nothing_done, objects_done, globals}
+use Rattle.types_rules.specs.Declarations.{decl_rule, declarations}
+use Rattle.types_rules.specs.Paths.{behind_decl, heads, heads_of}
+use Rattle.check_nodes.proofs.ThreadLaws.{next}
 use Rattle.check_locals.specs.Rows.{joined, Walked}
 use Rattle.check_locals.proofs.RowLaws.{walked_begins, walked_more, walked_fails, walked_all}
 

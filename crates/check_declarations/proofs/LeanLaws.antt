@@ -4,15 +4,15 @@ use Rattle.pawn_tree.specs.declared.name.At.{At}
 use Rattle.pawn_tree.specs.declared.variable.Storage.TheVariants as storage
 use Rattle.pawn_tree.specs.Variables.{Var}
 use Rattle.pawn_tree.specs.Declarations.{Decl, Variables, Constant, Enum, Native, Forward, Function}
-use Rattle.pawn_scopes.specs.Verdict.{Verdict, Stands, both}
-use Rattle.pawn_typing.specs.Rule.{unless_faults}
-use Rattle.pawn_typing.specs.Around.{Around}
-use Rattle.pawn_bodies.specs.Points.{Point, behind_var}
-use Rattle.pawn_bodies.specs.Locals.{local_by, vars_parts}
-use Rattle.pawn_typed.specs.Sources.{Source}
-use Rattle.pawn_typed.specs.Declarations.{Done, done_behind, objects_done, globals, decl_rule}
-use Rattle.pawn_typed.specs.Declarations.{declarations}
-use Rattle.pawn_typed.specs.Paths.{behind_decl}
+use Rattle.names_rules.specs.Verdict.{Verdict, Stands, both}
+use Rattle.types_rules.specs.Rule.{unless_faults}
+use Rattle.types_rules.specs.Around.{Around}
+use Rattle.types_rules.specs.Points.{Point, behind_var}
+use Rattle.types_rules.specs.Locals.{local_by, vars_parts}
+use Rattle.types_rules.specs.Sources.{Source}
+use Rattle.types_rules.specs.Declarations.{Done, done_behind, objects_done, globals, decl_rule}
+use Rattle.types_rules.specs.Declarations.{declarations}
+use Rattle.types_rules.specs.Paths.{behind_decl}
 
 -- without the headings and the names that are called
 abbrev pub lean : Source → Source

@@ -8,12 +8,12 @@ use Rattle.pawn_tree.specs.Variables.{Var}
 use Rattle.pawn_tree.specs.Statements.{Stmt, Empty, Do, Block, If, While, DoWhile, For, Switch}
 use Rattle.pawn_tree.specs.Statements.{Return, Exit, Sleep, Assert, Break, Continue, State, Local}
 use Rattle.pawn_tree.specs.Statements.{Constant}
-use Rattle.pawn_typing.specs.Around.{Around}
-use Rattle.pawn_typing.specs.Scope.{Scope, Entry, with_entries}
-use Rattle.pawn_bodies.specs.Counts.{objects_in, objects_of_var, objects_of_vars}
-use Rattle.pawn_bodies.specs.Points.{Point, behind, behind_var, behind_vars, beyond}
-use Rattle.check_types.specs.Scopes.{Block as Held, Blocks, block_view, outer_by, outer_of}
-use Rattle.check_types.specs.Scopes.{scope_view}
+use Rattle.types_rules.specs.Around.{Around}
+use Rattle.types_rules.specs.Scope.{Scope, Entry, with_entries}
+use Rattle.types_rules.specs.Counts.{objects_in, objects_of_var, objects_of_vars}
+use Rattle.types_rules.specs.Points.{Point, behind, behind_var, behind_vars, beyond}
+use Rattle.check_nodes.specs.Scopes.{Block as Held, Blocks, block_view, outer_by, outer_of}
+use Rattle.check_nodes.specs.Scopes.{scope_view}
 use Rattle.check_locals.specs.declared.point.Point as held
 use Rattle.check_locals.specs.PointView.{point_view}
 

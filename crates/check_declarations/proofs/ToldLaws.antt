@@ -2,12 +2,12 @@
 use Rattle.std.proofs.Common.{◌≡◌, Result, Ok, Err, Option}
 use Rattle.std.specs.Prelude.{IfOk, IsErrAnd}
 use Rattle.std.proofs.lemmas.Result.{err_from_is_err_and}
-use Rattle.pawn_scopes.specs.Verdict.{Verdict, faults_of}
+use Rattle.names_rules.specs.Verdict.{Verdict, faults_of}
 use Rattle.pawn_verdict.specs.Answers.{Fails}
 use Rattle.pawn_verdict.specs.declared.fault.CheckFault.{CheckFault}
-use Rattle.part_verdict.specs.declared.fault.PartFault.{PartFault}
-use Rattle.part_verdict.specs.declared.fault.PartFault.TheVariants.{Source, Fallen, Memory}
-use Rattle.part_verdict.specs.PartAnswers.{Judged}
+use Rattle.check_nodes.specs.declared.fault.PartFault.{PartFault}
+use Rattle.check_nodes.specs.declared.fault.PartFault.TheVariants.{Source, Fallen, Memory}
+use Rattle.check_nodes.specs.PartAnswers.{Judged}
 use Rattle.check_heads.specs.SoFar.{UnlessMemory}
 use Rattle.check_locals.specs.Tells.{Tells, told_part}
 

@@ -2,13 +2,13 @@
 use Rattle.std.specs.Prelude.{[], false}
 use Rattle.pawn_tree.specs.declared.name.At.{At}
 use Rattle.pawn_tree.specs.Declarations.{FunctionOf}
-use Rattle.pawn_scopes.specs.Verdict.{Verdict}
-use Rattle.pawn_bodies.specs.Points.{Point, tag_of}
-use Rattle.pawn_bodies.specs.Statements.{stmt}
-use Rattle.pawn_bodies.specs.Stood.{Stood}
-use Rattle.pawn_typed.specs.Declarations.{body_point}
-use Rattle.check_types.specs.ContextView.{around_view}
-use Rattle.pawn_typed.specs.Sources.{Source}
+use Rattle.names_rules.specs.Verdict.{Verdict}
+use Rattle.types_rules.specs.Points.{Point, tag_of}
+use Rattle.types_rules.specs.Statements.{stmt}
+use Rattle.types_rules.specs.Stood.{Stood}
+use Rattle.types_rules.specs.Declarations.{body_point}
+use Rattle.check_nodes.specs.ContextView.{around_view}
+use Rattle.types_rules.specs.Sources.{Source}
 use Rattle.check_source.specs.AutomataView.{automata_view}
 use Rattle.check_source.specs.GroupsView.{groups_view}
 use Rattle.check_declarations.specs.declared.known.Known.{Known}

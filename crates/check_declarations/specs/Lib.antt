@@ -1,2 +1,13 @@
+pub mod DoneView
+pub mod Filled
 pub mod Fits
 pub mod KnownView
+pub mod Listed
+pub mod Marked
+pub mod Marks
+pub mod Mentioned
+pub mod NumberedNames
+pub mod ObjectCells
+pub mod PassedView
+pub mod Routed
+pub mod SourceParts

@@ -1,11 +1,11 @@
-ghost use Rattle.pawn_typed.specs.Declarations as spec;
+ghost use Rattle.types_rules.specs.Declarations as spec;
 ghost use Rattle.pawn_verdict.specs.Answers.{Answers};
 ghost use Rattle.check_source.specs.KeyView.{key_view};
 
 use check_source::Key;
 use pawn_tree::{At, HeadName};
-use pawn_typing::BAD_OPERATOR;
 use pawn_verdict::{CheckFault, broken};
+use types_rules::BAD_OPERATOR;
 
 /// An operator has a head that some operator may have.
 ///

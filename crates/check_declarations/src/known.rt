@@ -1,5 +1,5 @@
+use check_nodes::Context;
 use check_source::{Automata, Groups};
-use check_types::Context;
 
 /// What is known of a source where its declarations are judged: the whole, its automata, its
 /// functions by their keys, and the automaton of an entry function's fallback.

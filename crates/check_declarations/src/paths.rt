@@ -1,17 +1,17 @@
 ghost use Rattle.std.specs.Prelude.{◌≡◌, ◌++◌, [], ◌∷◌, map, option_map, IfOk, OnOk};
 ghost use Rattle.pawn_tree.specs.View.{decl_view, head_view as tree_view, item_view};
-ghost use Rattle.pawn_bodies.specs.Points as points;
-ghost use Rattle.pawn_heads.specs.Params as params;
-ghost use Rattle.pawn_typed.specs.Enums as enums;
-ghost use Rattle.pawn_typed.specs.Paths as spec;
-ghost use Rattle.check_types.specs.ContextView.{around_view, head_view};
+ghost use Rattle.types_rules.specs.Points as points;
+ghost use Rattle.types_rules.specs.Params as params;
+ghost use Rattle.types_rules.specs.Enums as enums;
+ghost use Rattle.types_rules.specs.Paths as spec;
+ghost use Rattle.check_nodes.specs.ContextView.{around_view, head_view};
 ghost use Rattle.check_locals.specs.PointView.{point_view};
 
 use super::constants::declare_constant;
 use super::globals::declare_vars;
 use check_heads::{declare_enum, head_of};
 use check_locals::{Point, objects_in, tag_of};
-use check_types::{Context, Head as Typed};
+use check_nodes::{Context, Head as Typed};
 use pawn_base::{List, Memory};
 use pawn_tree::{At, Decl, Head, Item, Name};
 use std::alloc::Global;

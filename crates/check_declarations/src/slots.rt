@@ -1,10 +1,10 @@
 ghost use Rattle.std.specs.Prelude.{◌≡◌, ◌+◌, [], ◌∷◌, map, IfOk};
 ghost use Rattle.pawn_tree.specs.View.{param_view};
-ghost use Rattle.pawn_program.specs.View.{slot_view};
-ghost use Rattle.pawn_typed.specs.Declarations as spec;
+ghost use Rattle.pawn_meaning.specs.View.{slot_view};
+ghost use Rattle.types_rules.specs.Declarations as spec;
 
 use pawn_base::{List, Memory};
-use pawn_program::Slot;
+use pawn_meaning::Slot;
 use pawn_tree::Param;
 use std::alloc::Global;
 

@@ -3,10 +3,10 @@ use Rattle.std.proofs.Common.{◌≡◌, ◌+◌, ◌<◌, ◌≤◌, ℕ, List,
 use Rattle.std.proofs.Common.{refl, subst, arith}
 use Rattle.std.specs.Prelude.{Result, Ok, Err}
 use Rattle.std.proofs.lemmas.List.{drop_all}
-use Rattle.pawn_scopes.specs.Verdict.{Verdict, Stands, Breaks, after}
-use Rattle.part_verdict.specs.declared.fault.PartFault.{PartFault}
-use Rattle.part_verdict.specs.PartAnswers.{PartAnswers, Judged}
-use Rattle.check_types.proofs.ThreadLaws.{next}
+use Rattle.names_rules.specs.Verdict.{Verdict, Stands, Breaks, after}
+use Rattle.check_nodes.specs.declared.fault.PartFault.{PartFault}
+use Rattle.check_nodes.specs.PartAnswers.{PartAnswers, Judged}
+use Rattle.check_nodes.proofs.ThreadLaws.{next}
 use Rattle.check_expressions.specs.SoFar.{behind, SoFar}
 use Rattle.check_expressions.proofs.PairLaws.{judged_always, judged_map}
 use Rattle.check_expressions.proofs.SoFarLaws.{with, all_so_far, moved}

@@ -1,4 +1,13 @@
-pub mod PairLaws
-pub mod SoFarLaws
+pub mod BehindLaws
+pub mod BesideLaws
+pub mod BracesLaws
 pub mod CollectLaws
-pub mod CountLaws
+pub mod ElementLaws
+pub mod FirstSizeLaws
+pub mod GoingOnLaws
+pub mod InnerLaws
+pub mod LiteralCountLaws
+pub mod LiteralLaws
+pub mod PairLaws
+pub mod SizeLaws
+pub mod SoFarLaws

@@ -1,16 +1,16 @@
 -- A node of two parts tells the fault of the first one, unless it only falls.
 use Rattle.std.proofs.Common.{◌≡◌, ℕ, refl, sym, subst, ◌∙◌}
 use Rattle.std.specs.Prelude.{Result, Ok, Err}
-use Rattle.pawn_scopes.specs.Verdict.{Verdict, Stands, Breaks, after, both, faults_of}
-use Rattle.pawn_typing.specs.Rule.{pair}
+use Rattle.names_rules.specs.Verdict.{Verdict, Stands, Breaks, after, both, faults_of}
+use Rattle.types_rules.specs.Rule.{pair}
 use Rattle.pawn_verdict.specs.declared.fault.CheckFault.{CheckFault}
 use Rattle.pawn_verdict.specs.declared.fault.CheckFault.TheVariants as check
 use Rattle.pawn_verdict.specs.Answers.{Fails}
-use Rattle.part_verdict.specs.declared.fault.PartFault.{PartFault}
-use Rattle.part_verdict.specs.declared.fault.PartFault.TheVariants.{Source, Fallen, Memory}
-use Rattle.part_verdict.specs.PartAnswers.{FailsPart, PartAnswers, Judged, part_of}
-use Rattle.part_verdict.proofs.PartLaws.{part_after, part_first_broken, part_second, part_fallen}
-use Rattle.part_verdict.proofs.PartLaws.{part_falls, fails_part}
+use Rattle.check_nodes.specs.declared.fault.PartFault.{PartFault}
+use Rattle.check_nodes.specs.declared.fault.PartFault.TheVariants.{Source, Fallen, Memory}
+use Rattle.check_nodes.specs.PartAnswers.{FailsPart, PartAnswers, Judged, part_of}
+use Rattle.check_nodes.proofs.PartLaws.{part_after, part_first_broken, part_second, part_fallen}
+use Rattle.check_nodes.proofs.PartLaws.{part_falls, fails_part}
 use Rattle.check_expressions.specs.Faults.{told, both_of}
 
 -- ---- what holds where all is judged

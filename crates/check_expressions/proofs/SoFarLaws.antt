@@ -3,11 +3,11 @@ use Rattle.std.proofs.Common.{◌≡◌, ℕ, List, [], ◌∷◌, ◌++◌, map
 use Rattle.std.proofs.Common.{append_assoc, append-nil}
 use Rattle.std.proofs.lemmas.List.{map-append}
 use Rattle.std.specs.Prelude.{Result, Ok, Err}
-use Rattle.pawn_scopes.specs.Verdict.{Verdict, Stands, Breaks, Fault, after, both, faults_of}
-use Rattle.part_verdict.specs.declared.fault.PartFault.{PartFault}
-use Rattle.part_verdict.specs.declared.fault.PartFault.TheVariants.{Source, Fallen, Memory}
-use Rattle.part_verdict.specs.PartAnswers.{FailsPart, PartAnswers, Judged}
-use Rattle.part_verdict.proofs.PartLaws.{part_after, part_first_broken}
+use Rattle.names_rules.specs.Verdict.{Verdict, Stands, Breaks, Fault, after, both, faults_of}
+use Rattle.check_nodes.specs.declared.fault.PartFault.{PartFault}
+use Rattle.check_nodes.specs.declared.fault.PartFault.TheVariants.{Source, Fallen, Memory}
+use Rattle.check_nodes.specs.PartAnswers.{FailsPart, PartAnswers, Judged}
+use Rattle.check_nodes.proofs.PartLaws.{part_after, part_first_broken}
 use Rattle.check_expressions.specs.Faults.{told, both_of}
 use Rattle.check_expressions.specs.SoFar.{behind, SoFar}
 

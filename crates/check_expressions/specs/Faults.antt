@@ -1,7 +1,7 @@
 -- Which fault is told where one of two parts doesn't stand.
 use Rattle.std.specs.Prelude.{Result, Ok, Err}
-use Rattle.part_verdict.specs.declared.fault.PartFault.{PartFault}
-use Rattle.part_verdict.specs.declared.fault.PartFault.TheVariants.{Source, Fallen, Memory}
+use Rattle.check_nodes.specs.declared.fault.PartFault.{PartFault}
+use Rattle.check_nodes.specs.declared.fault.PartFault.TheVariants.{Source, Fallen, Memory}
 
 -- that of the first, unless it only falls
 abbrev pub told : PartFault → PartFault → PartFault

@@ -1,4 +1,12 @@
+pub mod Beside
+pub mod Counted
 pub mod Faults
+pub mod GoingOn
+pub mod Inner
+pub mod Joined
+pub mod JudgedView
 pub mod Links
+pub mod Listed
 pub mod Nodes
 pub mod SoFar
+pub mod ValueViews

@@ -1,12 +1,12 @@
 -- The rules of the nodes that have one operand, and of those that have two.
 use Rattle.pawn_tree.specs.declared.name.At.{At}
-use Rattle.pawn_scopes.specs.Verdict.{Verdict, Stands}
-use Rattle.pawn_typing.specs.Around.{Around}
-use Rattle.pawn_typing.specs.Assignments.{assign_rule}
-use Rattle.pawn_typing.specs.Indexes.{character_rule, index_rule}
-use Rattle.pawn_typing.specs.Operators.{binary_rule, paren_rule, tagged_rule}
-use Rattle.pawn_typing.specs.Prefixes.{postfix_rule, prefix_rule}
-use Rattle.pawn_typing.specs.Typed.{Typed}
+use Rattle.names_rules.specs.Verdict.{Verdict, Stands}
+use Rattle.types_rules.specs.Around.{Around}
+use Rattle.types_rules.specs.Assignments.{assign_rule}
+use Rattle.types_rules.specs.Indexes.{character_rule, index_rule}
+use Rattle.types_rules.specs.Operators.{binary_rule, paren_rule, tagged_rule}
+use Rattle.types_rules.specs.Prefixes.{postfix_rule, prefix_rule}
+use Rattle.types_rules.specs.Typed.{Typed}
 use Rattle.check_expressions.specs.declared.nodes.Single.{Single}
 use Rattle.check_expressions.specs.declared.nodes.Single.TheVariants as single
 use Rattle.check_expressions.specs.declared.nodes.Double.{Double}

@@ -1,9 +1,9 @@
 -- The verdict of a list whose elements are judged one by one, by those judged so far.
 use Rattle.std.specs.Prelude.{◌≡◌, List, ◌++◌, Result, Ok, Err}
 use Rattle.std.specs.List.{Contains}
-use Rattle.pawn_scopes.specs.Verdict.{Verdict, Stands, Breaks, after, faults_of}
-use Rattle.part_verdict.specs.declared.fault.PartFault.{PartFault}
-use Rattle.part_verdict.specs.declared.fault.PartFault.TheVariants.{Source, Fallen, Memory}
+use Rattle.names_rules.specs.Verdict.{Verdict, Stands, Breaks, after, faults_of}
+use Rattle.check_nodes.specs.declared.fault.PartFault.{PartFault}
+use Rattle.check_nodes.specs.declared.fault.PartFault.TheVariants.{Source, Fallen, Memory}
 
 -- elements before those of a verdict
 abbrev pub behind : {A : Type 0} → List A → Verdict (List A) → Verdict (List A)

@@ -1,14 +1,14 @@
 ghost use Rattle.std.specs.Prelude.{◌≡◌, ◌+◌, map};
 ghost use Rattle.pawn_tree.specs.Expressions.{args, links};
 ghost use Rattle.pawn_tree.specs.View.{expr_view, arg_view, link_view};
-ghost use Rattle.pawn_calls.specs.Literals.{literals, literals_of_arg, literals_of_link};
-ghost use Rattle.pawn_calls.specs.Literals.{arg_literals, link_literals};
-ghost use Rattle.pawn_calls.specs.Expressions as spec;
-ghost use Rattle.part_verdict.specs.PartAnswers.{Judged, PartAnswers};
-ghost use Rattle.check_types.specs.ContextView.{around_view};
-ghost use Rattle.check_types.specs.TypedView.{typed_view};
-ghost use Rattle.check_types.specs.Scopes.{scope_view};
-ghost use Rattle.check_rules.specs.Compared.{compared_view};
+ghost use Rattle.types_rules.specs.Literals.{literals, literals_of_arg, literals_of_link};
+ghost use Rattle.types_rules.specs.Literals.{arg_literals, link_literals};
+ghost use Rattle.types_rules.specs.Expressions as spec;
+ghost use Rattle.check_nodes.specs.PartAnswers.{Judged, PartAnswers};
+ghost use Rattle.check_nodes.specs.ContextView.{around_view};
+ghost use Rattle.check_nodes.specs.TypedView.{typed_view};
+ghost use Rattle.check_nodes.specs.Scopes.{scope_view};
+ghost use Rattle.check_nodes.specs.Compared.{compared_view};
 ghost use Rattle.check_calls.specs.FillingView.{offer_view};
 ghost use Rattle.check_expressions.specs.Links.{operand_in};
 
@@ -16,9 +16,7 @@ use super::leaves::{call_of, name_of, number_of, sizeof_rule, tagof_rule, text_o
 use super::lists::{compare, named, positional, sign_of, with_link, with_offer};
 use super::nodes::{Double, Single, chained, choose, with_operand, with_operands};
 use check_calls::Offer;
-use check_rules::Compared;
-use check_types::{Context, Scopes, Typed};
-use part_verdict::PartFault;
+use check_nodes::{Compared, Context, PartFault, Scopes, Typed};
 use pawn_base::List;
 use pawn_tree::{Arg, Expr, Link};
 use std::alloc::Global;

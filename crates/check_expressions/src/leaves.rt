@@ -1,27 +1,25 @@
 ghost use Rattle.std.specs.Prelude.{◌≡◌, ◌+◌, ℕ, List, map, option_map, length, pos, IfOk};
 ghost use Rattle.pawn_cells.specs.Cells.{cell_of};
 ghost use Rattle.pawn_tags.specs.Tags.{untagged};
-ghost use Rattle.pawn_scopes.specs.Verdict.{Verdict, Stands, after};
-ghost use Rattle.pawn_typing.specs.Names as names;
-ghost use Rattle.pawn_typing.specs.Scope.{found};
-ghost use Rattle.pawn_typing.specs.Texts.{text_cells};
-ghost use Rattle.pawn_calls.specs.Calls as calls;
-ghost use Rattle.pawn_calls.specs.Filling.{Offer as PlainOffer};
+ghost use Rattle.names_rules.specs.Verdict.{Verdict, Stands, after};
+ghost use Rattle.types_rules.specs.NamesAndNumbers as names;
+ghost use Rattle.types_rules.specs.Scope.{found};
+ghost use Rattle.types_rules.specs.Texts.{text_cells};
+ghost use Rattle.types_rules.specs.Calls as calls;
+ghost use Rattle.types_rules.specs.Filling.{Offer as PlainOffer};
 ghost use Rattle.pawn_verdict.specs.Answers.{Answers};
-ghost use Rattle.part_verdict.specs.PartAnswers.{Judged, PartAnswers};
-ghost use Rattle.check_types.specs.ContextView.{around_view};
-ghost use Rattle.check_types.specs.TypedView.{typed_view};
-ghost use Rattle.check_types.specs.Scopes.{scope_view, sight_view};
+ghost use Rattle.check_nodes.specs.PartAnswers.{Judged, PartAnswers};
+ghost use Rattle.check_nodes.specs.ContextView.{around_view};
+ghost use Rattle.check_nodes.specs.TypedView.{typed_view};
+ghost use Rattle.check_nodes.specs.Scopes.{scope_view, sight_view};
 ghost use Rattle.check_calls.specs.CalleeView.{callee_view};
 ghost use Rattle.check_calls.specs.FillingView.{offer_view};
 
-use check_calls::{Callee, Offer, call, find_callee};
-use check_places::text;
-use check_types::{
-    Context, Scopes, Sight, Typed, make_number, name, sizeof_name, sizeof_text, tagof_name,
-    tagof_tag,
+use check_calls::{Callee, Offer, call, find_callee, text};
+use check_nodes::{
+    Context, PartFault, Scopes, Sight, Typed, make_number, name, sizeof_name, sizeof_text,
+    tagof_name, tagof_tag,
 };
-use part_verdict::PartFault;
 use pawn_base::{Bytes, Memory};
 use pawn_tree::{At, SizeofOperand, TagofOperand};
 use pawn_verdict::CheckFault;
@@ -51,7 +49,7 @@ fn text_at(
 }
 
 /// A text, which is one more object.
-#[tactic(auto, using(part_verdict::proofs::PartLaws::parts, crate::proofs::PairLaws::pairs))]
+#[tactic(auto, using(check_nodes::proofs::PartLaws::parts, crate::proofs::PairLaws::pairs))]
 pub fn text_of(
     alloc: Global,
     objects: &mut u32,
@@ -82,7 +80,7 @@ fn sight_of(scopes: &Scopes, name: &Bytes) -> Option<Sight>
 }
 
 /// What is told of a name as an expression.
-#[tactic(auto, using(part_verdict::proofs::PartLaws::parts))]
+#[tactic(auto, using(check_nodes::proofs::PartLaws::parts))]
 fn name_in_sight(alloc: Global, at: At, sight: Option<Sight>) -> Result<Typed, PartFault>
     ensures { PartAnswers typed_view (names.name_rule at (option_map sight_view sight)) result }
 {
@@ -105,7 +103,7 @@ pub fn name_of(alloc: Global, scopes: &Scopes, at: At, it: &Bytes) -> Result<Typ
 // ---- `sizeof` and `tagof`
 
 /// What is told of the size of a name.
-#[tactic(auto, using(part_verdict::proofs::PartLaws::parts))]
+#[tactic(auto, using(check_nodes::proofs::PartLaws::parts))]
 fn size_in_sight(
     alloc: Global,
     at: At,
@@ -154,7 +152,7 @@ fn size_of_text(
 }
 
 /// `sizeof` with its operand.
-#[tactic(auto, unfolding(pawn_typing::specs::Names::sizeof_rule), using(part_verdict::proofs::PartLaws::parts))]
+#[tactic(auto, unfolding(types_rules::specs::NamesAndNumbers::sizeof_rule), using(check_nodes::proofs::PartLaws::parts))]
 pub fn sizeof_rule(
     alloc: Global,
     scopes: &Scopes,
@@ -174,7 +172,7 @@ pub fn sizeof_rule(
 }
 
 /// What is told of the tag of a name.
-#[tactic(auto, using(part_verdict::proofs::PartLaws::parts))]
+#[tactic(auto, using(check_nodes::proofs::PartLaws::parts))]
 fn tag_in_sight(alloc: Global, at: At, sight: Option<Sight>) -> Result<Typed, PartFault>
     ensures { PartAnswers typed_view (after (names.tag_of at (option_map sight_view sight))
         (λ tag. Stands (names.constant_value at (cell_of tag) untagged))) result }
@@ -196,7 +194,7 @@ fn tag_of_name(alloc: Global, scopes: &Scopes, at: At, it: &Bytes) -> Result<Typ
 }
 
 /// `tagof` with its operand.
-#[tactic(auto, unfolding(pawn_typing::specs::Names::tagof_rule))]
+#[tactic(auto, unfolding(types_rules::specs::NamesAndNumbers::tagof_rule))]
 pub fn tagof_rule(
     alloc: Global,
     cx: &Context,
@@ -216,7 +214,7 @@ pub fn tagof_rule(
 // ---- calls
 
 /// What is told of a name that is called.
-#[tactic(auto, using(part_verdict::proofs::PartLaws::parts))]
+#[tactic(auto, using(check_nodes::proofs::PartLaws::parts))]
 fn callee_in_sight<'a>(
     cx: &'a Context,
     at: At,
@@ -246,7 +244,7 @@ fn callee_of<'a>(
 }
 
 /// A call by a name with what is offered to it.
-#[tactic(auto, using(part_verdict::proofs::PartLaws::parts))]
+#[tactic(auto, using(check_nodes::proofs::PartLaws::parts))]
 fn call_with(
     alloc: Global,
     cx: &Context,
@@ -265,7 +263,7 @@ fn call_with(
 }
 
 /// A call by a name.
-#[tactic(auto, using(part_verdict::proofs::PartLaws::parts, crate::proofs::PairLaws::pairs))]
+#[tactic(auto, using(check_nodes::proofs::PartLaws::parts, crate::proofs::PairLaws::pairs))]
 pub fn call_of(
     alloc: Global,
     cx: &Context,

@@ -1,23 +1,21 @@
 ghost use Rattle.std.specs.Prelude.{◌≡◌, ℕ, List, ◌∷◌, map};
 ghost use Rattle.pawn_tree.specs.View.{link_view};
-ghost use Rattle.pawn_scopes.specs.Verdict.{Verdict, Stands, after};
-ghost use Rattle.pawn_scopes.specs.Verdict as spec;
-ghost use Rattle.pawn_typing.specs.Typed.{Typed as Plain};
-ghost use Rattle.pawn_typing.specs.Chains.{Compared as PlainLink, link_rule};
-ghost use Rattle.pawn_calls.specs.Filling.{Offer as PlainOffer};
-ghost use Rattle.pawn_calls.specs.Filling as filling;
-ghost use Rattle.part_verdict.specs.PartAnswers.{Judged, PartAnswers};
-ghost use Rattle.check_types.specs.TypedView.{typed_view};
-ghost use Rattle.check_rules.specs.Compared.{compared_view};
+ghost use Rattle.names_rules.specs.Verdict.{Verdict, Stands, after};
+ghost use Rattle.names_rules.specs.Verdict as spec;
+ghost use Rattle.types_rules.specs.Typed.{Typed as Plain};
+ghost use Rattle.types_rules.specs.Chains.{Compared as PlainLink, link_rule};
+ghost use Rattle.types_rules.specs.Filling.{Offer as PlainOffer};
+ghost use Rattle.types_rules.specs.Filling as filling;
+ghost use Rattle.check_nodes.specs.PartAnswers.{Judged, PartAnswers};
+ghost use Rattle.check_nodes.specs.TypedView.{typed_view};
+ghost use Rattle.check_nodes.specs.Compared.{compared_view};
 ghost use Rattle.check_calls.specs.FillingView.{offer_view};
 ghost use Rattle.check_expressions.specs.Links.{sign_in};
 ghost use Rattle.check_expressions.specs.SoFar.{SoFar};
 
-use super::faults::both;
+use super::told_faults::both;
 use check_calls::Offer;
-use check_rules::{Compared, link};
-use check_types::Typed;
-use part_verdict::PartFault;
+use check_nodes::{Compared, PartFault, Typed, link};
 use pawn_base::Bytes;
 use pawn_token::Sign;
 use pawn_tree::Link;
@@ -34,7 +32,7 @@ pub fn sign_of(it: &Link) -> Sign
 }
 
 /// A link with its operand.
-#[tactic(auto, using(part_verdict::proofs::PartLaws::parts, crate::proofs::PairLaws::pairs))]
+#[tactic(auto, using(check_nodes::proofs::PartLaws::parts, crate::proofs::PairLaws::pairs))]
 pub fn compare(sign: Sign, x: Result<Typed, PartFault>) -> Result<Compared, PartFault>
     ensures answer { (v : Verdict Plain) → PartAnswers typed_view v x →
         PartAnswers compared_view (after v (λ x. link_rule x.at sign x)) result }
@@ -64,7 +62,7 @@ pub fn with_link(
 // ---- what a call is offered
 
 /// An argument by its place.
-#[tactic(auto, using(part_verdict::proofs::PartLaws::parts, crate::proofs::PairLaws::pairs))]
+#[tactic(auto, using(check_nodes::proofs::PartLaws::parts, crate::proofs::PairLaws::pairs))]
 pub fn positional<'a>(x: Result<Typed, PartFault>) -> Result<Offer<'a>, PartFault>
     ensures answer { (v : Verdict Plain) → PartAnswers typed_view v x →
         PartAnswers offer_view (after v (λ x. Stands (filling.Positional x))) result }
@@ -75,7 +73,7 @@ pub fn positional<'a>(x: Result<Typed, PartFault>) -> Result<Offer<'a>, PartFaul
 }
 
 /// An argument by the name of its parameter.
-#[tactic(auto, using(part_verdict::proofs::PartLaws::parts, crate::proofs::PairLaws::pairs))]
+#[tactic(auto, using(check_nodes::proofs::PartLaws::parts, crate::proofs::PairLaws::pairs))]
 pub fn named<'a>(name: &'a Bytes, x: Result<Typed, PartFault>) -> Result<Offer<'a>, PartFault>
     ensures answer { (v : Verdict Plain) → PartAnswers typed_view v x →
         PartAnswers offer_view (after v (λ x. Stands (filling.Named name.now x))) result }

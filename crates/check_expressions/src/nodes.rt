@@ -1,23 +1,23 @@
 ghost use Rattle.std.specs.Prelude.{◌≡◌, ℕ, List, map};
-ghost use Rattle.pawn_scopes.specs.Verdict.{Verdict, after};
-ghost use Rattle.pawn_scopes.specs.Verdict as spec;
-ghost use Rattle.pawn_typing.specs.Rule.{pair};
-ghost use Rattle.pawn_typing.specs.Typed.{Typed as Plain};
-ghost use Rattle.pawn_typing.specs.Chains.{Compared as PlainLink, chain_rule};
-ghost use Rattle.pawn_typing.specs.Choices.{choice_rule};
-ghost use Rattle.pawn_typing.specs.Operators.{tagged_rule};
+ghost use Rattle.names_rules.specs.Verdict.{Verdict, after};
+ghost use Rattle.names_rules.specs.Verdict as spec;
+ghost use Rattle.types_rules.specs.Rule.{pair};
+ghost use Rattle.types_rules.specs.Typed.{Typed as Plain};
+ghost use Rattle.types_rules.specs.Chains.{Compared as PlainLink, chain_rule};
+ghost use Rattle.types_rules.specs.Choices.{choice_rule};
+ghost use Rattle.types_rules.specs.Operators.{tagged_rule};
 ghost use Rattle.pawn_verdict.specs.Answers.{Answers};
-ghost use Rattle.part_verdict.specs.PartAnswers.{Judged, PartAnswers};
-ghost use Rattle.check_types.specs.ContextView.{around_view};
-ghost use Rattle.check_types.specs.TypedView.{typed_view};
-ghost use Rattle.check_rules.specs.Compared.{compared_view};
+ghost use Rattle.check_nodes.specs.PartAnswers.{Judged, PartAnswers};
+ghost use Rattle.check_nodes.specs.ContextView.{around_view};
+ghost use Rattle.check_nodes.specs.TypedView.{typed_view};
+ghost use Rattle.check_nodes.specs.Compared.{compared_view};
 ghost use Rattle.check_expressions.specs.Nodes.{double_rule, single_rule};
 
-use super::faults::both;
-use check_places::{assign, character, index};
-use check_rules::{Compared, binary, chain, choice, postfix, prefix};
-use check_types::{Context, Typed, paren, tagged};
-use part_verdict::PartFault;
+use super::told_faults::both;
+use check_calls::{assign, character, index};
+use check_nodes::{
+    Compared, Context, PartFault, Typed, binary, chain, choice, paren, postfix, prefix, tagged,
+};
 use pawn_base::Bytes;
 use pawn_token::Sign;
 use pawn_tree::At;
@@ -64,7 +64,7 @@ fn single_typed(
 }
 
 /// A node of one operand.
-#[tactic(auto, using(part_verdict::proofs::PartLaws::parts, crate::proofs::PairLaws::pairs))]
+#[tactic(auto, using(check_nodes::proofs::PartLaws::parts, crate::proofs::PairLaws::pairs))]
 pub fn with_operand(
     alloc: Global,
     cx: &Context,

@@ -5,12 +5,12 @@ use Rattle.std.proofs.Common.{arith}
 use Rattle.std.specs.Prelude.{slice_get, filter, flat_map}
 use Rattle.std.proofs.lemmas.Bool.{false≢true}
 use Rattle.std.proofs.lemmas.List.Elements.{Contains-append_left, Contains-append_right}
-use Rattle.pawn_scopes.specs.Verdict.{Fault}
+use Rattle.names_rules.specs.Verdict.{Fault}
 use Rattle.pawn_verdict.specs.Answers.{Fails}
 use Rattle.pawn_verdict.specs.declared.fault.CheckFault.{CheckFault}
 use Rattle.pawn_verdict.specs.declared.fault.CheckFault.TheVariants.{Source as Broken, Memory}
-use Rattle.pawn_typed.specs.Sources.{Source, Stated}
-use Rattle.pawn_typed.specs.Functions.{differing, head_faults}
+use Rattle.types_rules.specs.Sources.{Source, Stated}
+use Rattle.types_rules.specs.Functions.{differing, head_faults}
 use Rattle.check_source.proofs.PlaceLaws.{place}
 
 fails_left : (xs ys : List Fault) (fault : CheckFault) → Fails xs fault → Fails (xs ++ ys) fault

@@ -6,10 +6,11 @@ use Rattle.std.specs.Cmp.{nat_eq_equiv, int_eq_equiv}
 use Rattle.std.specs.Cmp.Lexicographic.{nat_list_eq_equiv}
 use Rattle.std.specs.Str.{bytes_eq}
 use Rattle.std.proofs.lemmas.Bool.{false≢true}
-use Rattle.pawn_program.specs.Scope.{Extent}
-use Rattle.pawn_typing.specs.Around.{Default, NoDefault, Always, SizeOf, TagOf, Param, Head}
-use Rattle.pawn_heads.specs.SameHeads.{same_truth, same_default, same_first, same_extent, same_rest}
-use Rattle.pawn_heads.specs.SameHeads.{same_param, same_params, same_head}
+use Rattle.pawn_meaning.specs.Scope.{Extent}
+use Rattle.types_rules.specs.Around.{Default, NoDefault, Always, SizeOf, TagOf, Param, Head}
+use Rattle.types_rules.specs.SameHeads.{same_truth, same_default, same_first}
+use Rattle.types_rules.specs.SameHeads.{same_extent, same_rest}
+use Rattle.types_rules.specs.SameHeads.{same_param, same_params, same_head}
 
 pub both : (a b : Bool) → (a && b) ≡ true → (a ≡ true) × (b ≡ true)
 both true b e = (refl, e)

@@ -4,7 +4,7 @@ use Rattle.std.proofs.Common.{refl, sym, ap, subst, ◌∙◌, arith}
 use Rattle.std.specs.Prelude.{nat_eq}
 use Rattle.std.proofs.lemmas.Bool.{false≢true, eq-eqb, eqb-true}
 use Rattle.std.proofs.lemmas.Option.{same_Some}
-use Rattle.check_functions.specs.Forwards.{AreTold}
+use Rattle.check_functions.specs.EntryForwards.{AreTold}
 
 below_one : (j i : ℕ) → j < i + 1 → i ≢ j → j < i
 below_one j i lt apart = omega (arith, lt, apart)

@@ -4,22 +4,22 @@ use Rattle.std.proofs.Common.{if◌then◌else◌, List, [], ◌∷◌, length, 
 use Rattle.std.proofs.Common.{option_map, inl, inr, refl, sym, ap, subst, ◌∙◌, arith}
 use Rattle.std.specs.Prelude.{slice_get, ◌⊎◌}
 use Rattle.std.proofs.lemmas.Bool.{false≢true, eq-eqb, eqb-true}
-use Rattle.pawn_scopes.specs.Verdict.{Fault}
+use Rattle.names_rules.specs.Verdict.{Fault}
 use Rattle.pawn_verdict.specs.Answers.{Fails}
 use Rattle.pawn_verdict.specs.declared.fault.CheckFault.{CheckFault}
 use Rattle.pawn_verdict.specs.declared.fault.CheckFault.TheVariants.{Source as Broken, Memory}
-use Rattle.pawn_typing.specs.Around.{Head}
-use Rattle.pawn_automata.specs.Keys.{Key, same_key}
-use Rattle.pawn_automata.specs.Groups.{Group, number_of}
-use Rattle.pawn_typed.specs.Headings.{Heading, belongs, is_enters}
-use Rattle.pawn_typed.specs.Sources.{Source, Stated, stated}
-use Rattle.pawn_typed.specs.Functions.{differing, head_faults, heads_of_group}
+use Rattle.types_rules.specs.Around.{Head}
+use Rattle.types_rules.specs.Keys.{Key, same_key}
+use Rattle.types_rules.specs.Groups.{Group, number_of}
+use Rattle.types_rules.specs.Headings.{Heading, belongs, is_enters}
+use Rattle.types_rules.specs.Sources.{Source, Stated, stated}
+use Rattle.types_rules.specs.Functions.{differing, head_faults, heads_of_group}
 use Rattle.check_source.proofs.PlaceLaws.{place, place_is}
 use Rattle.check_source.proofs.TableLaws.{equal_keys}
-use Rattle.check_contexts.specs.Own.{enters_all, own_key, is_key}
-use Rattle.check_contexts.specs.Stated.{head_at}
-use Rattle.check_contexts.proofs.OwnLaws.{keyed_at, role_is, has_number, passes_at}
-use Rattle.check_contexts.proofs.StatedLaws.{stated_get, place_stated}
+use Rattle.check_functions.specs.Own.{enters_all, own_key, is_key}
+use Rattle.check_functions.specs.Stated.{head_at}
+use Rattle.check_functions.proofs.OwnLaws.{keyed_at, role_is, has_number, passes_at}
+use Rattle.check_functions.proofs.StatedLaws.{stated_get, place_stated}
 use Rattle.check_functions.specs.Differ.{differing_by, differing_at, place_faults, number_faults}
 use Rattle.check_functions.specs.Differ.{key_faults, heading_faults, own_faults, group_faults}
 use Rattle.check_functions.specs.Differ.{forward_faults, enters_at, entry_faults, all_heads}

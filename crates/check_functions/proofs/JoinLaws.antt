@@ -5,11 +5,11 @@ use Rattle.std.specs.Prelude.{flat_map}
 use Rattle.std.specs.List.{Contains}
 use Rattle.std.proofs.lemmas.List.Elements.{Contains-append_left, Contains-append_right}
 use Rattle.std.proofs.lemmas.List.Elements.{Contains-append_cases}
-use Rattle.pawn_scopes.specs.Verdict.{Fault}
+use Rattle.names_rules.specs.Verdict.{Fault}
 use Rattle.pawn_verdict.specs.Answers.{Fails}
 use Rattle.pawn_verdict.specs.declared.fault.CheckFault.{CheckFault}
 use Rattle.pawn_verdict.specs.declared.fault.CheckFault.TheVariants.{Source as Broken, Memory}
-use Rattle.check_classifiers.specs.Finds.{Finds}
+use Rattle.check_functions.specs.Finds.{Finds}
 
 module _ {X : Type 0} (f g h whole : X → List Fault)
     (is : (x : X) → whole x ≡ f x ++ (g x ++ h x)) where

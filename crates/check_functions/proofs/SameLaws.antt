@@ -2,10 +2,10 @@
 use Rattle.std.proofs.Common.{◌≡◌, ◌≢◌, ◌<◌, ◌+◌, ℕ, zero, suc, Bool, true, false, ◌&&◌, List, []}
 use Rattle.std.proofs.Common.{◌∷◌, map, length, get_or, drop, refl, sym, ap, ap₂, ◌∙◌, arith}
 use Rattle.std.proofs.lemmas.List.{drop_more}
-use Rattle.pawn_typing.specs.Around as plain
-use Rattle.pawn_heads.specs.SameHeads.{same_param, same_params}
-use Rattle.check_types.specs.declared.context.Param.{Param}
-use Rattle.check_types.specs.ContextView.{param_view}
+use Rattle.types_rules.specs.Around as plain
+use Rattle.types_rules.specs.SameHeads.{same_param, same_params}
+use Rattle.check_nodes.specs.declared.context.Param.{Param}
+use Rattle.check_nodes.specs.ContextView.{param_view}
 
 and_false : (a : Bool) → false ≡ a && false
 and_false true = refl

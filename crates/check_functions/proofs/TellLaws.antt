@@ -5,16 +5,16 @@ use Rattle.std.specs.Prelude.{slice_get, position, Result, Ok, Err}
 use Rattle.std.proofs.lemmas.Bool.{eq-eqb, eqb-true}
 use Rattle.pawn_verdict.specs.Answers.{Fails}
 use Rattle.pawn_verdict.specs.declared.fault.CheckFault.{CheckFault}
-use Rattle.pawn_typing.specs.Around.{Head}
-use Rattle.pawn_automata.specs.Keys.{Key}
-use Rattle.pawn_automata.specs.Groups.{Group, number_of}
-use Rattle.pawn_typed.specs.Headings.{Heading, belongs, is_enters}
-use Rattle.pawn_typed.specs.Sources.{Source, Stated, stated}
-use Rattle.pawn_typed.specs.Functions.{differing}
-use Rattle.check_classifiers.specs.Finds.{Finds}
-use Rattle.check_contexts.specs.Own.{HasNumber}
-use Rattle.check_contexts.specs.Stated.{head_at}
-use Rattle.check_contexts.proofs.StatedLaws.{stated_get}
+use Rattle.types_rules.specs.Around.{Head}
+use Rattle.types_rules.specs.Keys.{Key}
+use Rattle.types_rules.specs.Groups.{Group, number_of}
+use Rattle.types_rules.specs.Headings.{Heading, belongs, is_enters}
+use Rattle.types_rules.specs.Sources.{Source, Stated, stated}
+use Rattle.types_rules.specs.Functions.{differing}
+use Rattle.check_functions.specs.Finds.{Finds}
+use Rattle.check_functions.specs.Own.{HasNumber}
+use Rattle.check_functions.specs.Stated.{head_at}
+use Rattle.check_functions.proofs.StatedLaws.{stated_get}
 use Rattle.check_functions.specs.Differ.{stated_at, differing_by, differing_at, place_faults}
 use Rattle.check_functions.specs.Differ.{number_faults, key_faults, heading_faults, own_faults}
 use Rattle.check_functions.specs.Differ.{group_faults, entry_faults, forward_faults, all_heads}

@@ -2,17 +2,17 @@
 use Rattle.std.specs.Prelude.{◌≡◌, ◌<◌, ℕ, List, [], flat_map, slice_get, Bool, true, false, nat_eq}
 use Rattle.std.specs.Prelude.{if◌then◌else◌, position, option_map, Option, None, Some, Result, Ok}
 use Rattle.std.specs.Prelude.{Err}
-use Rattle.pawn_scopes.specs.Verdict.{Fault}
+use Rattle.names_rules.specs.Verdict.{Fault}
 use Rattle.pawn_verdict.specs.Answers.{Fails}
 use Rattle.pawn_verdict.specs.declared.fault.CheckFault.{CheckFault}
-use Rattle.pawn_typing.specs.Around.{Head}
-use Rattle.pawn_automata.specs.Keys.{Key}
-use Rattle.pawn_automata.specs.Groups.{Group, number_of}
-use Rattle.pawn_typed.specs.Headings.{Heading, belongs, is_enters}
-use Rattle.pawn_typed.specs.Sources.{Source, Stated}
-use Rattle.pawn_typed.specs.Functions.{differs, differing, head_faults, heads_of_group}
-use Rattle.check_contexts.specs.Own.{enters_all, own_key}
-use Rattle.check_contexts.specs.Stated.{head_at}
+use Rattle.types_rules.specs.Around.{Head}
+use Rattle.types_rules.specs.Keys.{Key}
+use Rattle.types_rules.specs.Groups.{Group, number_of}
+use Rattle.types_rules.specs.Headings.{Heading, belongs, is_enters}
+use Rattle.types_rules.specs.Sources.{Source, Stated}
+use Rattle.types_rules.specs.Functions.{differs, differing, head_faults, heads_of_group}
+use Rattle.check_functions.specs.Own.{enters_all, own_key}
+use Rattle.check_functions.specs.Stated.{head_at}
 
 -- what stands at a place against what stands at another
 abbrev pub differing_by : Source → Option Stated → Option Stated → List Fault

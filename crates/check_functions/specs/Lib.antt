@@ -1,2 +1,14 @@
+pub mod Bare
+pub mod Clauses
+pub mod Declares
 pub mod Differ
-pub mod Forwards
+pub mod Distinct
+pub mod EntryForwards
+pub mod Finds
+pub mod FirstsOf
+pub mod ForwardNames
+pub mod Group
+pub mod HeadsView
+pub mod Mixed
+pub mod Own
+pub mod Stated

@@ -1,22 +1,22 @@
 ghost use Rattle.std.specs.Prelude.{◌≡◌, Some, map, option_map};
-ghost use Rattle.pawn_typed.specs.Functions as spec;
-ghost use Rattle.pawn_typed.specs.Sources.{stated};
-ghost use Rattle.check_types.specs.ContextView.{head_view};
+ghost use Rattle.types_rules.specs.Functions as spec;
+ghost use Rattle.types_rules.specs.Sources.{stated};
+ghost use Rattle.check_nodes.specs.ContextView.{head_view};
 ghost use Rattle.check_source.specs.HeadingView.{heading_view};
 ghost use Rattle.check_source.specs.SourceView.{source_view};
-ghost use Rattle.check_classifiers.specs.Finds.{Finds};
-ghost use Rattle.check_contexts.specs.HeadsView.{heads_view};
-ghost use Rattle.check_contexts.specs.Stated.{head_at};
+ghost use Rattle.check_functions.specs.Finds.{Finds};
+ghost use Rattle.check_functions.specs.HeadsView.{heads_view};
+ghost use Rattle.check_functions.specs.Stated.{head_at};
 ghost use Rattle.check_functions.specs.Differ.{differs_by, differing_by, place_faults, stated_at};
 
 use super::places::{head_in, heading_in};
+use super::rules::fault_if;
 use super::same_heads::same_head;
-use check_classifiers::fault_if;
+use check_nodes::Head;
 use check_source::{Heading, Source};
-use check_types::Head;
-use pawn_sight::tag_number;
-use pawn_typing::HEAD_DIFFERS;
+use names_sight::tag_number;
 use pawn_verdict::CheckFault;
+use types_rules::HEAD_DIFFERS;
 
 /// Whether the heads of two headings differ; one that doesn't stand isn't compared.
 pub fn differs(

@@ -1,17 +1,17 @@
 ghost use Rattle.std.specs.Prelude.{◌≡◌, ◌+◌, true, None, Some, map, option_map, length};
-ghost use Rattle.check_types.specs.ContextView.{head_view};
+ghost use Rattle.check_nodes.specs.ContextView.{head_view};
 ghost use Rattle.check_source.specs.HeadingView.{heading_view};
 ghost use Rattle.check_source.specs.SourceView.{source_view};
-ghost use Rattle.check_contexts.specs.HeadsView.{heads_view};
-ghost use Rattle.check_contexts.specs.Stated.{head_at};
+ghost use Rattle.check_functions.specs.HeadsView.{heads_view};
+ghost use Rattle.check_functions.specs.Stated.{head_at};
 ghost use Rattle.check_functions.specs.Differ.{stated_at};
-ghost use Rattle.check_functions.specs.Forwards.{TellOf, are_unlike, is_forward};
+ghost use Rattle.check_functions.specs.EntryForwards.{TellOf, are_unlike, is_forward};
 
 use super::against::differs;
+use super::firsts::enters_all;
 use super::places::{head_in, heading_in};
-use check_contexts::enters_all;
+use check_nodes::Head;
 use check_source::{Heading, Source};
-use check_types::Head;
 
 /// The places of two forwards of `entry` that tell of all of them: the first one whose head stands,
 /// and the first one whose head differs from that. A heading that equals both equals each.

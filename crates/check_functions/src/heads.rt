@@ -1,22 +1,22 @@
-ghost use Rattle.std.specs.Prelude.{◌≡◌, Some, true, map, option_map, length};
-ghost use Rattle.pawn_typed.specs.Sources.{stated};
+ghost use Rattle.std.specs.Prelude.{Some, true, map, option_map, length};
+ghost use Rattle.types_rules.specs.Sources.{stated};
 ghost use Rattle.check_source.specs.KeyView.{key_view};
 ghost use Rattle.check_source.specs.GroupsView.{groups_view, group_view};
 ghost use Rattle.check_source.specs.HeadingView.{heading_view};
 ghost use Rattle.check_source.specs.SourceView.{source_view};
-ghost use Rattle.check_classifiers.specs.Finds.{Finds};
-ghost use Rattle.check_contexts.specs.HeadsView.{heads_view};
-ghost use Rattle.pawn_typed.specs.Headings.{is_enters};
-ghost use Rattle.check_contexts.specs.Own.{AreFirsts, HasNumber};
+ghost use Rattle.check_functions.specs.Finds.{Finds};
+ghost use Rattle.check_functions.specs.HeadsView.{heads_view};
+ghost use Rattle.check_functions.specs.FirstsOf.{AreFirstsOf};
+ghost use Rattle.check_functions.specs.Own.{HasNumber};
 ghost use Rattle.check_functions.specs.Differ as spec;
 ghost use Rattle.check_functions.specs.Differ.{EachOf, PairsOf};
-ghost use Rattle.check_functions.specs.Forwards.{AtPlace};
+ghost use Rattle.check_functions.specs.EntryForwards.{AtPlace};
 
 use super::against::against;
-use super::forwards::{Forwards, find_forwards};
-use check_contexts::{Firsts, own_key};
+use super::firsts::{Firsts, own_key};
+use super::forwards::find_forwards;
+use check_nodes::Head;
 use check_source::{Group, Heading, Key, Source};
-use check_types::Head;
 use pawn_verdict::CheckFault;
 
 /// A heading of the function with this key against the first one.
@@ -28,9 +28,7 @@ fn check_key(
     key: Key,
     place: usize,
 ) -> Result<(), CheckFault>
-    requires { AreFirsts source.now.tags source.now.fallback.now
-        (groups_view source.now.groups) (map heading_view source.now.headings)
-        firsts.now.own.items firsts.now.entry }
+    requires { AreFirstsOf source.now firsts.now }
     ensures { Finds (spec.key_faults (source_view source.now) (stated (source_view source.now)
         (map heading_view source.now.headings) (heads_view heads.now)) place
         (Some (key_view key.entry))) result }
@@ -49,9 +47,7 @@ fn check_own_key(
     key: Option<Key>,
     place: usize,
 ) -> Result<(), CheckFault>
-    requires { AreFirsts source.now.tags source.now.fallback.now
-        (groups_view source.now.groups) (map heading_view source.now.headings)
-        firsts.now.own.items firsts.now.entry }
+    requires { AreFirstsOf source.now firsts.now }
     ensures { Finds (spec.key_faults (source_view source.now) (stated (source_view source.now)
         (map heading_view source.now.headings) (heads_view heads.now)) place
         (option_map key_view key.entry)) result }
@@ -70,9 +66,7 @@ fn check_own(
     it: &Heading,
     place: usize,
 ) -> Result<(), CheckFault>
-    requires { AreFirsts source.now.tags source.now.fallback.now
-        (groups_view source.now.groups) (map heading_view source.now.headings)
-        firsts.now.own.items firsts.now.entry }
+    requires { AreFirstsOf source.now firsts.now }
     ensures { Finds (spec.heading_faults (source_view source.now) (stated (source_view source.now)
         (map heading_view source.now.headings) (heads_view heads.now)) place
         (Some (heading_view it.now))) result }
@@ -83,9 +77,7 @@ fn check_own(
 
 /// All headings, each against the first one of the function that it is of alone.
 fn own_heads(source: &Source, firsts: &Firsts, heads: &[Option<Head>]) -> Result<(), CheckFault>
-    requires { AreFirsts source.now.tags source.now.fallback.now
-        (groups_view source.now.groups) (map heading_view source.now.headings)
-        firsts.now.own.items firsts.now.entry }
+    requires { AreFirstsOf source.now firsts.now }
     ensures { EachOf (spec.own_faults (source_view source.now) (stated (source_view source.now)
         (map heading_view source.now.headings) (heads_view heads.now)))
         (length (map heading_view source.now.headings)) result }
@@ -97,18 +89,6 @@ fn own_heads(source: &Source, firsts: &Firsts, heads: &[Option<Head>]) -> Result
     Ok(())
 }
 
-/// Whether a key is an entry function's.
-fn enters(key: Key) -> bool
-    ensures { result ≡ is_enters (key_view key.entry) }
-{
-    match key {
-        Key::Enters(_) => true,
-        Key::Named(_) => false,
-        Key::Operates(_) => false,
-        Key::Misshapen => false,
-    }
-}
-
 /// A forward of `entry` against the first heading of an entry function.
 fn check_group(
     source: &Source,
@@ -117,15 +97,13 @@ fn check_group(
     group: &Group,
     place: usize,
 ) -> Result<(), CheckFault>
-    requires firsts { AreFirsts source.now.tags source.now.fallback.now
-        (groups_view source.now.groups) (map heading_view source.now.headings)
-        firsts.now.own.items firsts.now.entry }
+    requires firsts { AreFirstsOf source.now firsts.now }
     requires known { HasNumber (groups_view source.now.groups) (key_view group.now.key) }
     ensures { Finds (spec.group_faults (source_view source.now) (stated (source_view source.now)
         (map heading_view source.now.headings) (heads_view heads.now)) place
         (Some (group_view group.now))) result }
 {
-    if !enters(group.key) {
+    if !group.key.enters() {
         return Ok(());
     }
     against(source, heads, firsts.first(source, group.key), place)
@@ -138,9 +116,7 @@ fn check_groups(
     heads: &[Option<Head>],
     place: usize,
 ) -> Result<(), CheckFault>
-    requires { AreFirsts source.now.tags source.now.fallback.now
-        (groups_view source.now.groups) (map heading_view source.now.headings)
-        firsts.now.own.items firsts.now.entry }
+    requires { AreFirstsOf source.now firsts.now }
     ensures { EachOf (spec.forward_faults (source_view source.now) (stated (source_view source.now)
         (map heading_view source.now.headings) (heads_view heads.now)) place true)
         (length (groups_view source.now.groups)) result }
@@ -159,9 +135,7 @@ fn check_at(
     heads: &[Option<Head>],
     place: Option<usize>,
 ) -> Result<(), CheckFault>
-    requires { AreFirsts source.now.tags source.now.fallback.now
-        (groups_view source.now.groups) (map heading_view source.now.headings)
-        firsts.now.own.items firsts.now.entry }
+    requires { AreFirstsOf source.now firsts.now }
     ensures { AtPlace (λ i n. spec.forward_faults (source_view source.now)
         (stated (source_view source.now) (map heading_view source.now.headings)
         (heads_view heads.now)) i true n)
@@ -173,30 +147,10 @@ fn check_at(
     }
 }
 
-/// The forward that differs from the first one, where there is one.
-fn check_other(
-    source: &Source,
-    firsts: &Firsts,
-    heads: &[Option<Head>],
-    forwards: Forwards,
-) -> Result<(), CheckFault>
-    requires { AreFirsts source.now.tags source.now.fallback.now
-        (groups_view source.now.groups) (map heading_view source.now.headings)
-        firsts.now.own.items firsts.now.entry }
-    ensures { AtPlace (λ i n. spec.forward_faults (source_view source.now)
-        (stated (source_view source.now) (map heading_view source.now.headings)
-        (heads_view heads.now)) i true n)
-        (length (groups_view source.now.groups)) forwards.other result }
-{
-    check_at(source, firsts, heads, forwards.other)
-}
-
 /// All forwards of `entry`, each against the first headings of all entry functions. Two of them
 /// tell of all, so that it takes two passes over the functions, and not one for each forward.
 fn entry_heads(source: &Source, firsts: &Firsts, heads: &[Option<Head>]) -> Result<(), CheckFault>
-    requires { AreFirsts source.now.tags source.now.fallback.now
-        (groups_view source.now.groups) (map heading_view source.now.headings)
-        firsts.now.own.items firsts.now.entry }
+    requires { AreFirstsOf source.now firsts.now }
     ensures { PairsOf (spec.entry_faults (source_view source.now) (stated (source_view source.now)
         (map heading_view source.now.headings) (heads_view heads.now)))
         (length (map heading_view source.now.headings))
@@ -204,7 +158,7 @@ fn entry_heads(source: &Source, firsts: &Firsts, heads: &[Option<Head>]) -> Resu
 {
     let forwards = find_forwards(source, heads);
     check_at(source, firsts, heads, forwards.first)?;
-    check_other(source, firsts, heads, forwards)
+    check_at(source, firsts, heads, forwards.other)
 }
 
 /// The heads of each function that differ from its first one (65; Language Guide, "Functions", on
@@ -218,9 +172,7 @@ pub fn head_faults(
     firsts: &Firsts,
     heads: &[Option<Head>],
 ) -> Result<(), CheckFault>
-    requires { AreFirsts source.now.tags source.now.fallback.now
-        (groups_view source.now.groups) (map heading_view source.now.headings)
-        firsts.now.own.items firsts.now.entry }
+    requires { AreFirstsOf source.now firsts.now }
     ensures { Finds (spec.all_heads (source_view source.now) (stated (source_view source.now)
         (map heading_view source.now.headings) (heads_view heads.now))
         (groups_view source.now.groups)) result }

@@ -1,9 +1,9 @@
 ghost use Rattle.std.specs.Prelude.{◌≡◌, map};
-ghost use Rattle.pawn_heads.specs.SameHeads as spec;
-ghost use Rattle.check_types.specs.ContextView.{head_view, param_view};
+ghost use Rattle.types_rules.specs.SameHeads as spec;
+ghost use Rattle.check_nodes.specs.ContextView.{head_view, param_view};
 
 use super::same_params::same_param;
-use check_types::{Head, Param};
+use check_nodes::{Head, Param};
 use pawn_base::List;
 
 /// Whether parameters are equal, one by one.

@@ -1,11 +1,11 @@
 ghost use Rattle.std.specs.Prelude.{◌≡◌, option_map};
 ghost use Rattle.std.specs.Str.{bytes_eq};
-ghost use Rattle.pawn_typing.specs.Around as plain;
-ghost use Rattle.pawn_heads.specs.SameHeads as spec;
-ghost use Rattle.check_types.specs.ExtentView.{extent_view};
-ghost use Rattle.check_types.specs.ContextView.{default_view, param_view};
+ghost use Rattle.types_rules.specs.Around as plain;
+ghost use Rattle.types_rules.specs.SameHeads as spec;
+ghost use Rattle.check_nodes.specs.ExtentView.{extent_view};
+ghost use Rattle.check_nodes.specs.ContextView.{default_view, param_view};
 
-use check_types::{Extent, Param, ParamDefault};
+use check_nodes::{Extent, Param, ParamDefault};
 
 /// Whether two truth values are the same.
 fn same_truth(x: bool, y: bool) -> bool

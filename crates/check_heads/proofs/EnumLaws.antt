@@ -8,14 +8,14 @@ use Rattle.pawn_tree.specs.declared.declaration.Item as held
 use Rattle.pawn_tree.specs.Expressions.{Expr}
 use Rattle.pawn_tree.specs.Declarations.{Item}
 use Rattle.pawn_tree.specs.View.{item_view}
-use Rattle.pawn_scopes.specs.Verdict.{Verdict}
-use Rattle.pawn_typing.specs.Around.{Around}
-use Rattle.pawn_values.specs.Parts.{Judged, judged, maybe_judged, expr_part}
-use Rattle.pawn_typed.specs.Enums.{Counted, behind_item, behind_items, item_rule, items_rule}
-use Rattle.pawn_typed.specs.Enums.{items_parts}
-use Rattle.check_types.proofs.ThreadLaws.{next}
-use Rattle.check_types.specs.Scopes.{Blocks, without}
-use Rattle.check_types.proofs.IndexLaws.{without_none, without_more}
+use Rattle.names_rules.specs.Verdict.{Verdict}
+use Rattle.types_rules.specs.Around.{Around}
+use Rattle.types_rules.specs.VariableParts.{Judged, judged, maybe_judged, expr_part}
+use Rattle.types_rules.specs.Enums.{Counted, behind_item, behind_items, item_rule, items_rule}
+use Rattle.types_rules.specs.Enums.{items_parts}
+use Rattle.check_nodes.proofs.ThreadLaws.{next}
+use Rattle.check_nodes.specs.Scopes.{Blocks, without}
+use Rattle.check_nodes.proofs.IndexLaws.{without_none, without_more}
 use Rattle.check_heads.specs.SoFar.{joined, judged_behind}
 use Rattle.check_heads.proofs.FoldLaws.{Fold, IsFold, Joins}
 use Rattle.check_heads.specs.Counting.{item_warned, warned_behind}

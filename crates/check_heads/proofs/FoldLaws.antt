@@ -5,11 +5,11 @@ use Rattle.std.proofs.lemmas.List.{drop_all}
 use Rattle.std.specs.List.{Contains}
 use Rattle.std.proofs.lemmas.List.Elements.{Contains-append_left, Contains-append_right}
 use Rattle.pawn_cells.specs.declared.place.Place.{Place}
-use Rattle.pawn_scopes.specs.Verdict.{Verdict, Stands, Breaks, Fault, both, faults_of}
-use Rattle.part_verdict.specs.declared.fault.PartFault.{PartFault}
-use Rattle.part_verdict.specs.declared.fault.PartFault.TheVariants.{Source, Fallen, Memory}
-use Rattle.part_verdict.specs.PartAnswers.{FailsPart}
-use Rattle.check_types.proofs.ThreadLaws.{next}
+use Rattle.names_rules.specs.Verdict.{Verdict, Stands, Breaks, Fault, both, faults_of}
+use Rattle.check_nodes.specs.declared.fault.PartFault.{PartFault}
+use Rattle.check_nodes.specs.declared.fault.PartFault.TheVariants.{Source, Fallen, Memory}
+use Rattle.check_nodes.specs.PartAnswers.{FailsPart}
+use Rattle.check_nodes.proofs.ThreadLaws.{next}
 use Rattle.check_heads.specs.SoFar.{so_far, joined, IsBehind, IsBroken}
 
 -- no fault is one of none

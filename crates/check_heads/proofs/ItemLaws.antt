@@ -1,11 +1,11 @@
 -- The value of a constant that doesn't stand.
 use Rattle.std.proofs.Common.{◌≡◌, ◌<◌, ◌≢◌, None, refl, arith}
-use Rattle.pawn_scopes.specs.Verdict.{Verdict, Stands, Breaks}
-use Rattle.pawn_values.specs.Constants.{Constant}
-use Rattle.pawn_typed.specs.Enums.{value_of}
-use Rattle.part_verdict.specs.declared.fault.PartFault.{PartFault}
-use Rattle.part_verdict.specs.declared.fault.PartFault.TheVariants.{Source, Fallen, Memory}
-use Rattle.part_verdict.specs.PartAnswers.{FailsPart}
+use Rattle.names_rules.specs.Verdict.{Verdict, Stands, Breaks}
+use Rattle.types_rules.specs.Constants.{Constant}
+use Rattle.types_rules.specs.Enums.{value_of}
+use Rattle.check_nodes.specs.declared.fault.PartFault.{PartFault}
+use Rattle.check_nodes.specs.declared.fault.PartFault.TheVariants.{Source, Fallen, Memory}
+use Rattle.check_nodes.specs.PartAnswers.{FailsPart}
 
 pub no_value : (w : Verdict Constant) (fault : PartFault)
     → FailsPart w fault → fault ≢ Memory → value_of w ≡ None

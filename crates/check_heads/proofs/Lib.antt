@@ -1,7 +1,7 @@
+pub mod EnumLaws
 pub mod FoldLaws
-pub mod TagLaws
+pub mod ItemLaws
 pub mod MeaningLaws
 pub mod ParamLaws
 pub mod RuleLaws
-pub mod ItemLaws
-pub mod EnumLaws
+pub mod TagLaws

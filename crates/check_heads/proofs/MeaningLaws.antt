@@ -2,15 +2,15 @@
 use Rattle.std.proofs.Common.{◌≡◌, ◌<◌, ◌-◌, ◌≢◌, ℕ, List, [], ◌∷◌, ◌++◌, length, take, Bool, None}
 use Rattle.std.proofs.Common.{refl, ap, ◌∙◌, arith}
 use Rattle.std.proofs.lemmas.Grind.{common_steps}
-use Rattle.pawn_scopes.specs.Verdict.{Verdict, Stands, Breaks}
-use Rattle.pawn_typing.specs.Scope.{Unknown, with_entries}
-use Rattle.pawn_heads.specs.Params.{Headed, Reach, array_param_means, head_of}
-use Rattle.part_verdict.specs.declared.fault.PartFault.{PartFault}
-use Rattle.part_verdict.specs.declared.fault.PartFault.TheVariants.{Source, Fallen, Memory}
-use Rattle.part_verdict.specs.PartAnswers.{FailsPart}
-use Rattle.check_types.specs.Scopes.{Block, Blocks, entry_view, scope_view, with_name, without}
-use Rattle.check_types.proofs.IndexLaws.{name_viewed}
-use Rattle.check_types.specs.declared.scopes.Sight.{Sight}
+use Rattle.names_rules.specs.Verdict.{Verdict, Stands, Breaks}
+use Rattle.types_rules.specs.Scope.{Unknown, with_entries}
+use Rattle.types_rules.specs.Params.{Headed, Reach, array_param_means, head_of}
+use Rattle.check_nodes.specs.declared.fault.PartFault.{PartFault}
+use Rattle.check_nodes.specs.declared.fault.PartFault.TheVariants.{Source, Fallen, Memory}
+use Rattle.check_nodes.specs.PartAnswers.{FailsPart}
+use Rattle.check_nodes.specs.Scopes.{Block, Blocks, entry_view, scope_view, with_name, without}
+use Rattle.check_nodes.proofs.IndexLaws.{name_viewed}
+use Rattle.check_nodes.specs.declared.scopes.Sight.{Sight}
 
 -- ---- one declaration more
 

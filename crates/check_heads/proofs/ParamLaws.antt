@@ -3,12 +3,12 @@ use Rattle.std.proofs.Common.{◌≡◌, ◌+◌, ℕ, List, [], ◌∷◌, ◌+
 use Rattle.std.proofs.Common.{append_assoc, append-nil}
 use Rattle.pawn_tree.specs.declared.name.At.{At}
 use Rattle.pawn_tree.specs.Declarations.{Param, Plain, Rest}
-use Rattle.pawn_scopes.specs.Verdict.{Verdict}
-use Rattle.pawn_typing.specs.Around.{Around}
-use Rattle.pawn_typing.specs.Scope.{Scope, with_entries}
-use Rattle.pawn_values.specs.Parts.{Judged, judged}
-use Rattle.pawn_heads.specs.Params.{Headed, no_params, either, param_rule, param_entries, params}
-use Rattle.pawn_heads.specs.Params.{params_parts, behind_params}
+use Rattle.names_rules.specs.Verdict.{Verdict}
+use Rattle.types_rules.specs.Around.{Around}
+use Rattle.types_rules.specs.Scope.{Scope, with_entries}
+use Rattle.types_rules.specs.VariableParts.{Judged, judged}
+use Rattle.types_rules.specs.Params.{Headed, no_params, either, param_rule, param_entries, params}
+use Rattle.types_rules.specs.Params.{params_parts, behind_params}
 use Rattle.check_heads.specs.ParamParts.{headed_behind, param_part}
 use Rattle.check_heads.specs.SoFar.{joined, judged_behind}
 use Rattle.check_heads.proofs.FoldLaws.{Fold, IsFold, Joins}

@@ -3,13 +3,13 @@
 use Rattle.std.proofs.Common.{◌≡◌, List, ◌∷◌, Result, Ok, Err, ap, sym, ◌∙◌}
 use Rattle.std.proofs.lemmas.Result.{err_from_is_err_and}
 use Rattle.std.specs.Result.{IsErrAnd}
-use Rattle.pawn_scopes.specs.Verdict.{Verdict}
+use Rattle.names_rules.specs.Verdict.{Verdict}
 use Rattle.pawn_verdict.proofs.VerdictLaws.{after_is}
-use Rattle.part_verdict.specs.declared.fault.PartFault.{PartFault}
-use Rattle.part_verdict.specs.declared.fault.PartFault.TheVariants.{Source, Fallen, Memory}
-use Rattle.part_verdict.specs.PartAnswers.{FailsPart, Judged, PartAnswers}
-use Rattle.part_verdict.proofs.PartLaws.{part_after, fails_part}
-use Rattle.check_types.specs.Scopes.{Block, Blocks, outer_by, outer_of}
+use Rattle.check_nodes.specs.declared.fault.PartFault.{PartFault}
+use Rattle.check_nodes.specs.declared.fault.PartFault.TheVariants.{Source, Fallen, Memory}
+use Rattle.check_nodes.specs.PartAnswers.{FailsPart, Judged, PartAnswers}
+use Rattle.check_nodes.proofs.PartLaws.{part_after, fails_part}
+use Rattle.check_nodes.specs.Scopes.{Block, Blocks, outer_by, outer_of}
 use Rattle.check_heads.specs.SoFar.{IsBroken, UnlessMemory}
 
 pub ruleset afters = (part_after, fails_part, after_is)

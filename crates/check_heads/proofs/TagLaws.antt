@@ -2,8 +2,8 @@
 use Rattle.std.proofs.Common.{◌≡◌, ◌<◌, ◌≤◌, ℕ, List, [], ◌∷◌, length, map, refl, arith}
 use Rattle.pawn_tree.specs.declared.name.Name.{Name}
 use Rattle.pawn_tags.specs.Tags.{untagged}
-use Rattle.pawn_typing.specs.Around.{Around, tag_number}
-use Rattle.pawn_heads.specs.Params.{tag_numbers}
+use Rattle.types_rules.specs.Around.{Around, tag_number}
+use Rattle.types_rules.specs.Params.{tag_numbers}
 
 pub no_tag : (cx : Around) (tags : List Name) → length tags ≡ 0
     → tag_numbers cx tags ≡ untagged ∷ []

@@ -2,12 +2,12 @@
 use Rattle.std.specs.Prelude.{◌≡◌, ℤ, List, [], ◌++◌, Option, None, Some, Result, Ok, Err}
 use Rattle.pawn_tree.specs.declared.name.At.{At}
 use Rattle.pawn_tree.specs.Expressions.{Expr}
-use Rattle.pawn_scopes.specs.Verdict.{Verdict, Stands, after}
-use Rattle.pawn_typing.specs.Around.{Around}
-use Rattle.pawn_typing.specs.Scope.{Scope}
-use Rattle.pawn_values.specs.Constants as constants
-use Rattle.pawn_typed.specs.Enums.{Counted, value_of}
-use Rattle.part_verdict.specs.declared.fault.PartFault.{PartFault}
+use Rattle.names_rules.specs.Verdict.{Verdict, Stands, after}
+use Rattle.types_rules.specs.Around.{Around}
+use Rattle.types_rules.specs.Scope.{Scope}
+use Rattle.types_rules.specs.Constants as constants
+use Rattle.types_rules.specs.Enums.{Counted, value_of}
+use Rattle.check_nodes.specs.declared.fault.PartFault.{PartFault}
 use Rattle.check_heads.specs.SoFar.{IsBroken, so_far}
 use Rattle.check_heads.specs.declared.counting.Counting.{Counting}
 use Rattle.check_heads.specs.declared.counting.Progress.{Progress}

@@ -1,10 +1,10 @@
 -- Parameters as the rules of heads see them.
 use Rattle.std.specs.Prelude.{map}
-use Rattle.pawn_program.specs.View.{slot_view}
-use Rattle.pawn_heads.specs.Params as plain
-use Rattle.pawn_heads.specs.ParamDefaults as defaults
-use Rattle.check_types.specs.ContextView.{default_view, param_view}
-use Rattle.check_types.specs.ExtentView.{extent_view}
+use Rattle.pawn_meaning.specs.View.{slot_view}
+use Rattle.types_rules.specs.Params as plain
+use Rattle.types_rules.specs.ParamDefaults as defaults
+use Rattle.check_nodes.specs.ContextView.{default_view, param_view}
+use Rattle.check_nodes.specs.ExtentView.{extent_view}
 use Rattle.check_heads.specs.declared.defaults.Defaulted.{Defaulted}
 use Rattle.check_heads.specs.declared.headed.Headed.{Headed}
 use Rattle.check_heads.specs.declared.reaches.Reach.{Reach}

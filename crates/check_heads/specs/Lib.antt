@@ -1,4 +1,4 @@
+pub mod Counting
 pub mod HeadedView
 pub mod ParamParts
 pub mod SoFar
-pub mod Counting

@@ -3,14 +3,15 @@ use Rattle.std.specs.Prelude.{◌++◌, Bool, true, false, Option, None, Some}
 use Rattle.pawn_tree.specs.declared.name.At.{At}
 use Rattle.pawn_tree.specs.Expressions.{Expr}
 use Rattle.pawn_tree.specs.Declarations as tree
-use Rattle.pawn_scopes.specs.Verdict.{Verdict, Stands}
-use Rattle.pawn_typing.specs.declared.fault.TheConstants.{ARGUMENT_KIND, CONSTANT_NEEDED}
-use Rattle.pawn_typing.specs.Rule.{broken}
-use Rattle.pawn_typing.specs.Around.{Around, Default, NoDefault}
-use Rattle.pawn_typing.specs.Scope.{Scope}
-use Rattle.pawn_values.specs.Parts.{Judged, judged, with_part, all_parts, maybe_judged, dim_part}
-use Rattle.pawn_values.specs.Parts.{expr_part}
-use Rattle.pawn_heads.specs.Params.{Headed, either}
+use Rattle.names_rules.specs.Verdict.{Verdict, Stands}
+use Rattle.types_rules.specs.declared.fault.TheConstants.{ARGUMENT_KIND, CONSTANT_NEEDED}
+use Rattle.types_rules.specs.Rule.{broken}
+use Rattle.types_rules.specs.Around.{Around, Default, NoDefault}
+use Rattle.types_rules.specs.Scope.{Scope}
+use Rattle.types_rules.specs.VariableParts.{Judged, judged, with_part}
+use Rattle.types_rules.specs.VariableParts.{all_parts, maybe_judged, dim_part}
+use Rattle.types_rules.specs.VariableParts.{expr_part}
+use Rattle.types_rules.specs.Params.{Headed, either}
 
 -- an array has no default
 abbrev pub no_default : At → Option Expr → Verdict Default

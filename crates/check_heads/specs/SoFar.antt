@@ -2,11 +2,11 @@
 -- leaves those behind it to be judged.
 use Rattle.std.specs.Prelude.{◌≡◌, [], Bool, true, false, Result, Ok, Err}
 use Rattle.std.specs.List.{Contains}
-use Rattle.pawn_scopes.specs.Verdict.{Verdict, Stands, Breaks, both, faults_of}
-use Rattle.pawn_values.specs.Parts.{Judged, judged}
-use Rattle.pawn_heads.specs.Params as plain
-use Rattle.part_verdict.specs.declared.fault.PartFault.{PartFault}
-use Rattle.part_verdict.specs.declared.fault.PartFault.TheVariants.{Source, Fallen, Memory}
+use Rattle.names_rules.specs.Verdict.{Verdict, Stands, Breaks, both, faults_of}
+use Rattle.types_rules.specs.VariableParts.{Judged, judged}
+use Rattle.types_rules.specs.Params as plain
+use Rattle.check_nodes.specs.declared.fault.PartFault.{PartFault}
+use Rattle.check_nodes.specs.declared.fault.PartFault.TheVariants.{Source, Fallen, Memory}
 use Rattle.check_heads.specs.declared.passes.Progress.{Progress}
 use Rattle.check_heads.specs.HeadedView.{headed_view}
 

@@ -1,11 +1,11 @@
 ghost use Rattle.std.specs.Prelude.{◌≡◌, [], List as Plain};
-ghost use Rattle.pawn_scopes.specs.Verdict.{Stands, Verdict};
+ghost use Rattle.names_rules.specs.Verdict.{Stands, Verdict};
 ghost use Rattle.pawn_tree.specs.declared.name.At.{At as Spot};
-ghost use Rattle.part_verdict.specs.PartAnswers.{PartAnswers};
+ghost use Rattle.check_nodes.specs.PartAnswers.{PartAnswers};
 ghost use Rattle.check_heads.specs.SoFar.{GoesOn};
 ghost use Rattle.check_heads.specs.Counting.{progress_view, warned_behind};
 
-use part_verdict::PartFault;
+use check_nodes::PartFault;
 use pawn_base::List;
 use pawn_tree::At;
 use std::alloc::Global;

@@ -1,30 +1,29 @@
 ghost use Rattle.std.specs.Prelude.{◌≡◌, option_map};
 ghost use Rattle.std.specs.Option.{option_and_then};
-ghost use Rattle.pawn_scopes.specs.Verdict.{Stands, after};
+ghost use Rattle.names_rules.specs.Verdict.{Stands, after};
 ghost use Rattle.pawn_tree.specs.View.{expr_view};
-ghost use Rattle.pawn_typing.specs.Scope.{found};
-ghost use Rattle.pawn_typing.specs.Tests.{unless_passed};
-ghost use Rattle.pawn_calls.specs.Expressions.{expr as expr_rule};
-ghost use Rattle.pawn_heads.specs.ParamDefaults as spec;
+ghost use Rattle.types_rules.specs.Scope.{found};
+ghost use Rattle.types_rules.specs.Tests.{unless_passed};
+ghost use Rattle.types_rules.specs.Expressions.{expr as expr_rule};
+ghost use Rattle.types_rules.specs.ParamDefaults as spec;
 ghost use Rattle.pawn_verdict.specs.Answers.{Answers};
-ghost use Rattle.part_verdict.specs.PartAnswers.{PartAnswers};
-ghost use Rattle.check_types.specs.ContextView.{around_view, default_view};
-ghost use Rattle.check_types.specs.MeaningView.{cell_view, meaning_view, place_view};
-ghost use Rattle.check_types.specs.TypedView.{typed_view};
-ghost use Rattle.check_types.specs.Scopes.{scope_view, sight_view};
+ghost use Rattle.check_nodes.specs.PartAnswers.{PartAnswers};
+ghost use Rattle.check_nodes.specs.ContextView.{around_view, default_view};
+ghost use Rattle.check_nodes.specs.MeaningView.{cell_view, meaning_view, place_view};
+ghost use Rattle.check_nodes.specs.TypedView.{typed_view};
+ghost use Rattle.check_nodes.specs.Scopes.{scope_view, sight_view};
 ghost use Rattle.check_heads.specs.HeadedView.{defaulted_view};
 
 use check_expressions::expr;
-use check_types::{
-    ArrayAt, CellAt, Context, Meaning, ParamDefault, Scopes, Sight, Typed, converter_to,
+use check_nodes::{
+    ArrayAt, CellAt, Context, Meaning, ParamDefault, PartFault, Scopes, Sight, Typed, converter_to,
 };
-use part_verdict::PartFault;
 use pawn_base::List;
 use pawn_tags::matches;
 use pawn_tree::{At, Expr, SizeofOperand, TagofOperand};
-use pawn_typing::CONSTANT_NEEDED;
 use pawn_verdict::{CheckFault, broken};
 use std::alloc::Global;
+use types_rules::CONSTANT_NEEDED;
 
 /// A default, and what it warns of.
 #[derive(Drop)]
@@ -130,7 +129,7 @@ fn computed(scopes: &Scopes, e: &Expr) -> Option<ParamDefault>
 // ---- all defaults
 
 /// What is computed, else a constant.
-#[tactic(auto, unfolding(pawn_values::specs::Constants::constant_rule))]
+#[tactic(auto, unfolding(types_rules::specs::Constants::constant_rule))]
 fn default_by(at: At, x: &Typed, computed: Option<ParamDefault>) -> Result<ParamDefault, CheckFault>
     ensures { Answers default_view
         (spec.default_by at (typed_view x.now) (option_map default_view computed)) result }

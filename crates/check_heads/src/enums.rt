@@ -1,19 +1,18 @@
 ghost use Rattle.std.specs.Prelude.{◌≡◌, length, map, IfOk, OnOk};
 ghost use Rattle.pawn_tree.specs.View.{item_view};
-ghost use Rattle.pawn_typed.specs.Enums as spec;
-ghost use Rattle.part_verdict.specs.PartAnswers.{Judged, PartAnswers};
-ghost use Rattle.check_types.specs.ContextView.{around_view};
-ghost use Rattle.check_types.specs.Scopes.{scope_view, without};
-ghost use Rattle.check_values.specs.JudgedView.{judged_view};
+ghost use Rattle.types_rules.specs.Enums as spec;
+ghost use Rattle.check_nodes.specs.PartAnswers.{Judged, PartAnswers};
+ghost use Rattle.check_nodes.specs.ContextView.{around_view};
+ghost use Rattle.check_nodes.specs.Scopes.{scope_view, without};
+ghost use Rattle.check_expressions.specs.JudgedView.{judged_view};
 ghost use Rattle.check_heads.specs.Counting.{Told, counted};
 
 use super::counting::{Counting, Progress};
 use super::items::{declare_item, item_rule, value_means};
 use super::meanings::declare_sight;
 use super::passes::{all_parts, with_part};
-use check_types::{Context, Scopes};
-use check_values::judge_maybe;
-use part_verdict::PartFault;
+use check_expressions::judge_maybe;
+use check_nodes::{Context, PartFault, Scopes};
 use pawn_base::{List, Memory};
 use pawn_tree::{At, Item, Name};
 use std::alloc::Global;

@@ -1,13 +1,13 @@
 ghost use Rattle.std.specs.Prelude.{◌≡◌, [], ◌∷◌, None, IfOk};
-ghost use Rattle.pawn_program.specs.View.{slot_view};
-ghost use Rattle.pawn_heads.specs.Params as spec;
-ghost use Rattle.check_types.specs.ContextView.{param_view};
+ghost use Rattle.pawn_meaning.specs.View.{slot_view};
+ghost use Rattle.types_rules.specs.Params as spec;
+ghost use Rattle.check_nodes.specs.ContextView.{param_view};
 ghost use Rattle.check_heads.specs.HeadedView.{headed_view};
 ghost use Rattle.check_heads.specs.ParamParts.{headed_behind};
 
-use check_types::Param;
+use check_nodes::Param;
 use pawn_base::{List, Memory};
-use pawn_program::Slot;
+use pawn_meaning::Slot;
 use pawn_tree::At;
 use std::alloc::Global;
 

@@ -1,11 +1,11 @@
 ghost use Rattle.std.specs.Prelude.{◌≡◌, map, option_map, IfOk, OnOk};
 ghost use Rattle.pawn_tree.specs.View.{dim_view, expr_view, head_view as tree_view, param_view};
-ghost use Rattle.pawn_values.specs.Parts as parts;
-ghost use Rattle.pawn_heads.specs.Params as spec;
-ghost use Rattle.part_verdict.specs.PartAnswers.{Judged, PartAnswers};
-ghost use Rattle.check_types.specs.ContextView.{around_view, head_view};
-ghost use Rattle.check_types.specs.Scopes.{outer_of, scope_view};
-ghost use Rattle.check_values.specs.JudgedView.{judged_view};
+ghost use Rattle.types_rules.specs.VariableParts as parts;
+ghost use Rattle.types_rules.specs.Params as spec;
+ghost use Rattle.check_nodes.specs.PartAnswers.{Judged, PartAnswers};
+ghost use Rattle.check_nodes.specs.ContextView.{around_view, head_view};
+ghost use Rattle.check_nodes.specs.Scopes.{outer_of, scope_view};
+ghost use Rattle.check_expressions.specs.JudgedView.{judged_view};
 ghost use Rattle.check_heads.specs.HeadedView.{headed_view};
 ghost use Rattle.check_heads.specs.ParamParts.{param_part};
 ghost use Rattle.check_heads.specs.SoFar.{UnlessMemory};
@@ -14,9 +14,8 @@ use super::headed::Headed;
 use super::meanings::declare_param;
 use super::params::param_rule;
 use super::passes::{Progress, all_parts, number_of, with_part};
-use check_types::{Context, Head as Typed, Scopes};
-use check_values::{judge_dims, judge_maybe};
-use part_verdict::PartFault;
+use check_expressions::{judge_dims, judge_maybe};
+use check_nodes::{Context, Head as Typed, PartFault, Scopes};
 use pawn_base::Memory;
 use pawn_tree::{At, Dim, Expr, Head, Param};
 use std::alloc::Global;
@@ -24,7 +23,7 @@ use std::alloc::Global;
 // ---- the expressions in a head
 
 /// The dimensions and the default of a parameter, as expressions.
-#[tactic(auto, using(part_verdict::proofs::PartLaws::parts))]
+#[tactic(auto, using(check_nodes::proofs::PartLaws::parts))]
 fn judge_plain(
     alloc: Global,
     cx: &Context,

@@ -1,18 +1,17 @@
 ghost use Rattle.std.specs.Prelude.{◌≡◌, ◌+◌, map, option_map, pos, IfOk, OnOk};
 ghost use Rattle.pawn_cells.specs.Cells.{add};
-ghost use Rattle.pawn_scopes.specs.Verdict.{Stands, after};
+ghost use Rattle.names_rules.specs.Verdict.{Stands, after};
 ghost use Rattle.pawn_tree.specs.View.{expr_view, item_view};
-ghost use Rattle.pawn_typed.specs.Enums as spec;
-ghost use Rattle.pawn_values.specs.Constants.{constant};
-ghost use Rattle.part_verdict.specs.PartAnswers.{PartAnswers};
-ghost use Rattle.check_types.specs.ContextView.{around_view};
-ghost use Rattle.check_types.specs.Scopes.{scope_view, sight_view, without};
+ghost use Rattle.types_rules.specs.Enums as spec;
+ghost use Rattle.types_rules.specs.Constants.{constant};
+ghost use Rattle.check_nodes.specs.PartAnswers.{PartAnswers};
+ghost use Rattle.check_nodes.specs.ContextView.{around_view};
+ghost use Rattle.check_nodes.specs.Scopes.{scope_view, sight_view, without};
 ghost use Rattle.check_heads.specs.Counting.{counted, item_warned, value_in};
 
 use super::meanings::declare_sight;
-use check_types::{Context, Meaning, Scopes, Sight};
-use check_values::constant_value;
-use part_verdict::PartFault;
+use check_expressions::constant_value;
+use check_nodes::{Context, Meaning, PartFault, Scopes, Sight};
 use pawn_base::{List, Memory};
 use pawn_cells::Cell;
 use pawn_tree::{At, Expr, Item};
@@ -101,7 +100,7 @@ pub fn declare_item<'a>(
 // ---- what a constant warns of
 
 /// A constant that is given.
-#[tactic(auto, using(part_verdict::proofs::PartLaws::parts))]
+#[tactic(auto, using(check_nodes::proofs::PartLaws::parts))]
 fn given_rule(
     alloc: Global,
     cx: &Context,

@@ -1,15 +1,14 @@
 ghost use Rattle.std.specs.Prelude.{◌≡◌, [], ◌∷◌, map, IfOk, OnOk};
 ghost use Rattle.pawn_tree.specs.View.{dim_view, param_view};
-ghost use Rattle.pawn_typing.specs.Scope.{with_entries};
-ghost use Rattle.pawn_heads.specs.Params as spec;
-ghost use Rattle.check_types.specs.ContextView.{around_view};
-ghost use Rattle.check_types.specs.MeaningView.{meaning_view};
-ghost use Rattle.check_types.specs.Scopes.{scope_view, sight_view, without};
+ghost use Rattle.types_rules.specs.Scope.{with_entries};
+ghost use Rattle.types_rules.specs.Params as spec;
+ghost use Rattle.check_nodes.specs.ContextView.{around_view};
+ghost use Rattle.check_nodes.specs.MeaningView.{meaning_view};
+ghost use Rattle.check_nodes.specs.Scopes.{scope_view, sight_view, without};
 
 use super::reaches::array_reach;
 use super::tags::own_tag;
-use check_types::{ArrayAt, CellAt, Context, Meaning, Scopes, Sight};
-use part_verdict::PartFault;
+use check_nodes::{ArrayAt, CellAt, Context, Meaning, PartFault, Scopes, Sight};
 use pawn_base::Memory;
 use pawn_tree::{At, Dim, Param};
 use std::alloc::Global;

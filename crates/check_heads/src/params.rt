@@ -1,17 +1,17 @@
 ghost use Rattle.std.specs.Prelude.{◌≡◌, false, map, None, Some, option_map};
-ghost use Rattle.pawn_program.specs.View.{slot_view};
-ghost use Rattle.pawn_scopes.specs.Verdict.{Stands, after};
+ghost use Rattle.pawn_meaning.specs.View.{slot_view};
+ghost use Rattle.names_rules.specs.Verdict.{Stands, after};
 ghost use Rattle.pawn_tree.specs.View.{dim_view, expr_view, param_view as tree_view};
-ghost use Rattle.pawn_typing.specs.Rule.{also};
-ghost use Rattle.pawn_typing.specs.Around.{NoDefault};
-ghost use Rattle.pawn_bodies.specs.Locals as locals;
-ghost use Rattle.pawn_bodies.specs.Locals.{fresh_view};
-ghost use Rattle.pawn_heads.specs.Params as spec;
-ghost use Rattle.pawn_heads.specs.ParamDefaults as defaults;
+ghost use Rattle.types_rules.specs.Rule.{also};
+ghost use Rattle.types_rules.specs.Around.{NoDefault};
+ghost use Rattle.types_rules.specs.Locals as locals;
+ghost use Rattle.types_rules.specs.Locals.{fresh_view};
+ghost use Rattle.types_rules.specs.Params as spec;
+ghost use Rattle.types_rules.specs.ParamDefaults as defaults;
 ghost use Rattle.pawn_verdict.specs.Answers.{Answers};
-ghost use Rattle.part_verdict.specs.PartAnswers.{PartAnswers};
-ghost use Rattle.check_types.specs.ContextView.{around_view, default_view};
-ghost use Rattle.check_types.specs.Scopes.{scope_view};
+ghost use Rattle.check_nodes.specs.PartAnswers.{PartAnswers};
+ghost use Rattle.check_nodes.specs.ContextView.{around_view, default_view};
+ghost use Rattle.check_nodes.specs.Scopes.{scope_view};
 ghost use Rattle.check_heads.specs.HeadedView.{headed_view};
 ghost use Rattle.check_heads.specs.ParamParts as part;
 
@@ -19,14 +19,13 @@ use super::defaults::default_rule;
 use super::headed::Headed;
 use super::reaches::{array_reach, array_slot};
 use super::tags::tag_numbers;
-use check_types::{Context, Param as Typed, ParamDefault, Scopes};
-use part_verdict::PartFault;
+use check_nodes::{Context, Param as Typed, ParamDefault, PartFault, Scopes};
 use pawn_base::{Bytes, List};
-use pawn_program::Slot;
+use pawn_meaning::Slot;
 use pawn_tree::{At, Dim, Expr, Name, Param};
-use pawn_typing::{ARGUMENT_KIND, CONSTANT_NEEDED, REDEFINED};
 use pawn_verdict::{CheckFault, broken};
 use std::alloc::Global;
+use types_rules::{ARGUMENT_KIND, CONSTANT_NEEDED, REDEFINED};
 
 /// A name that the innermost block doesn't have yet.
 fn fresh_name(scopes: &Scopes, at: At, name: &[u8]) -> Result<(), CheckFault>

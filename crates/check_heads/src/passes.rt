@@ -1,15 +1,15 @@
 ghost use Rattle.std.specs.Prelude.{◌≡◌, IfOk};
-ghost use Rattle.pawn_scopes.specs.Verdict.{Stands, Verdict};
-ghost use Rattle.pawn_values.specs.Parts.{Judged};
-ghost use Rattle.pawn_heads.specs.Params as spec;
-ghost use Rattle.part_verdict.specs.PartAnswers.{PartAnswers};
-ghost use Rattle.check_values.specs.JudgedView.{judged_view};
+ghost use Rattle.names_rules.specs.Verdict.{Stands, Verdict};
+ghost use Rattle.types_rules.specs.VariableParts.{Judged};
+ghost use Rattle.types_rules.specs.Params as spec;
+ghost use Rattle.check_nodes.specs.PartAnswers.{PartAnswers};
+ghost use Rattle.check_expressions.specs.JudgedView.{judged_view};
 ghost use Rattle.check_heads.specs.HeadedView.{headed_view};
 ghost use Rattle.check_heads.specs.ParamParts.{headed_behind};
 ghost use Rattle.check_heads.specs.SoFar.{GoesOn, judged_behind, parts_view, progress_view};
 
 use super::headed::Headed;
-use part_verdict::PartFault;
+use check_nodes::PartFault;
 use pawn_base::Memory;
 use std::alloc::Global;
 

@@ -1,10 +1,10 @@
 ghost use Rattle.std.specs.Prelude.{◌≡◌, map, IfOk};
 ghost use Rattle.pawn_tree.specs.declared.name.Name.{Name as Held};
-ghost use Rattle.pawn_typing.specs.Around.{first_tag, tag_number as number_in};
-ghost use Rattle.pawn_heads.specs.Params as spec;
-ghost use Rattle.check_types.specs.ContextView.{around_view};
+ghost use Rattle.types_rules.specs.Around.{first_tag, tag_number as number_in};
+ghost use Rattle.types_rules.specs.Params as spec;
+ghost use Rattle.check_nodes.specs.ContextView.{around_view};
 
-use check_types::{Context, UNTAGGED, tag_number};
+use check_nodes::{Context, UNTAGGED, tag_number};
 use pawn_base::{List, Memory};
 use pawn_tree::Name;
 use std::alloc::Global;

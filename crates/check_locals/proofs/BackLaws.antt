@@ -5,11 +5,11 @@ use Rattle.pawn_tree.specs.declared.name.At.{At}
 use Rattle.pawn_tree.specs.declared.variable.Storage.{Storage}
 use Rattle.pawn_tree.specs.declared.variable.Var as tree
 use Rattle.pawn_tree.specs.View.{var_view}
-use Rattle.pawn_typing.specs.Scope.{Scope}
-use Rattle.pawn_typing.specs.Around.{Around}
-use Rattle.pawn_bodies.specs.Points as plain
-use Rattle.pawn_bodies.specs.Points.{behind_vars}
-use Rattle.check_types.specs.Scopes.{Blocks, scope_view, without}
+use Rattle.types_rules.specs.Scope.{Scope}
+use Rattle.types_rules.specs.Around.{Around}
+use Rattle.types_rules.specs.Points as plain
+use Rattle.types_rules.specs.Points.{behind_vars}
+use Rattle.check_nodes.specs.Scopes.{Blocks, scope_view, without}
 use Rattle.check_locals.specs.declared.point.Point.{Point}
 use Rattle.check_locals.specs.PointView.{point_view}
 use Rattle.check_locals.proofs.PathLaws.{Extends, forgotten}

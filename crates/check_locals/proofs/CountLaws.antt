@@ -13,8 +13,8 @@ use Rattle.pawn_tree.specs.declared.expression.Link as held_link
 use Rattle.pawn_tree.specs.View.{expr_view, arg_view, link_view}
 use Rattle.pawn_tree.specs.Expressions.{Arg, args, Link, links}
 use Rattle.pawn_tree.proofs.ViewLaws.{call_view, chain_view}
-use Rattle.pawn_calls.specs.Literals.{literals, arg_literals, link_literals, literals_of_arg}
-use Rattle.pawn_calls.specs.Literals.{literals_of_link}
+use Rattle.types_rules.specs.Literals.{literals, arg_literals, link_literals, literals_of_arg}
+use Rattle.types_rules.specs.Literals.{literals_of_link}
 
 args_counted : (xs : List Arg) → arg_literals (args xs) ≡ sum_by literals_of_arg xs
 args_counted [] = refl

@@ -1,8 +1,10 @@
-pub mod ToldLaws
-pub mod RowLaws
-pub mod MeansLaws
-pub mod CountLaws
-pub mod PathLaws
-pub mod VarLaws
 pub mod BackLaws
+pub mod CountLaws
+pub mod MeansLaws
+pub mod NodeLaws
+pub mod PathLaws
+pub mod RowLaws
+pub mod SingleLaws
 pub mod SumLaws
+pub mod ToldLaws
+pub mod VarLaws

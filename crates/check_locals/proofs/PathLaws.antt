@@ -2,9 +2,9 @@
 use Rattle.std.proofs.Common.{◌≡◌, ◌≤◌, ℕ, ◌+◌, ◌-◌, List, [], ◌∷◌, ◌++◌, map, take, length, refl}
 use Rattle.std.proofs.Common.{sym, ap, ap₂, ◌∙◌, arith, append_assoc, length-append}
 use Rattle.std.proofs.lemmas.List.{append-nil, take-map, take_at, length-map}
-use Rattle.pawn_typing.specs.Scope.{Scope, Entry, with_entries}
-use Rattle.check_types.specs.Scopes.{Block, Blocks, block_view, scope_view, without, outer_of}
-use Rattle.check_types.specs.Scopes.{outer_by}
+use Rattle.types_rules.specs.Scope.{Scope, Entry, with_entries}
+use Rattle.check_nodes.specs.Scopes.{Block, Blocks, block_view, scope_view, without, outer_of}
+use Rattle.check_nodes.specs.Scopes.{outer_by}
 
 -- so many declarations more in the innermost block
 pub record Extends (n : ℕ) (before after : Scope) : Type 0 where

@@ -14,10 +14,10 @@ use Rattle.pawn_tree.specs.Statements.{Stmt, Case, stmts, cases, maybe_stmt}
 use Rattle.pawn_tree.specs.View.{expr_view, stmt_view, case_view}
 use Rattle.pawn_tree.proofs.ViewLaws.{block_view, if_view, switch_view}
 use Rattle.std.specs.Option.{option_map}
-use Rattle.pawn_calls.specs.Literals.{literals}
-use Rattle.pawn_bodies.specs.Counts.{objects_in, objects_in_all, objects_in_case, objects_in_cases}
-use Rattle.pawn_bodies.specs.Counts.{objects_in_other}
-use Rattle.check_types.proofs.ThreadLaws.{next}
+use Rattle.types_rules.specs.Literals.{literals}
+use Rattle.types_rules.specs.Counts.{objects_in, objects_in_all, objects_in_case, objects_in_cases}
+use Rattle.types_rules.specs.Counts.{objects_in_other}
+use Rattle.check_nodes.proofs.ThreadLaws.{next}
 
 module _ {H T : Type 0} (view : H → T) (of : T → ℕ) (list : List H) where
   -- the sum so far, and that of the rest

@@ -8,15 +8,15 @@ use Rattle.pawn_tree.specs.declared.variable.Storage.{Storage}
 use Rattle.pawn_tree.specs.declared.variable.Var as held
 use Rattle.pawn_tree.specs.Variables.{Var}
 use Rattle.pawn_tree.specs.View.{var_view}
-use Rattle.pawn_scopes.specs.Verdict.{Verdict, Stands, Breaks, faults_of, after, both}
-use Rattle.pawn_typing.specs.Rule.{also}
-use Rattle.pawn_typing.specs.Around.{Around}
+use Rattle.names_rules.specs.Verdict.{Verdict, Stands, Breaks, faults_of, after, both}
+use Rattle.types_rules.specs.Rule.{also}
+use Rattle.types_rules.specs.Around.{Around}
 use Rattle.pawn_verdict.specs.declared.fault.CheckFault.{CheckFault}
 use Rattle.pawn_verdict.specs.Answers.{Fails}
-use Rattle.pawn_values.specs.Parts.{Judged, judged, var_part}
-use Rattle.pawn_bodies.specs.Points.{Point, behind_var, behind_vars}
-use Rattle.pawn_bodies.specs.Stood.{Stood, stood_behind, nothing_stood}
-use Rattle.pawn_bodies.specs.Locals.{local, locals, vars_parts}
+use Rattle.types_rules.specs.VariableParts.{Judged, judged, var_part}
+use Rattle.types_rules.specs.Points.{Point, behind_var, behind_vars}
+use Rattle.types_rules.specs.Stood.{Stood, stood_behind, nothing_stood}
+use Rattle.types_rules.specs.Locals.{local, locals, vars_parts}
 use Rattle.check_locals.specs.Rows.{joined, Walked}
 use Rattle.check_locals.proofs.RowLaws.{walked_begins, walked_more, walked_fails, walked_all}
 use Rattle.check_locals.proofs.PathLaws.{Extends, extends_none, extends_by, extends_then}

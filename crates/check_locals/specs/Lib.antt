@@ -1,3 +1,5 @@
-pub mod Tells
 pub mod PointView
 pub mod Rows
+pub mod Single
+pub mod StoodView
+pub mod Tells

@@ -1,6 +1,6 @@
 -- A place in a body, as code holds it.
-use Rattle.pawn_bodies.specs.Points as plain
-use Rattle.check_types.specs.Scopes.{scope_view}
+use Rattle.types_rules.specs.Points as plain
+use Rattle.check_nodes.specs.Scopes.{scope_view}
 use Rattle.check_locals.specs.declared.point.Point.{Point}
 
 -- the declarations in sight, and what stands before

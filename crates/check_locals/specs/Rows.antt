@@ -1,6 +1,6 @@
 -- A list whose elements each stand behind what those before them declare and make.
 use Rattle.std.specs.Prelude.{◌≡◌, List, [], ◌∷◌}
-use Rattle.pawn_scopes.specs.Verdict.{Verdict, Stands, both}
+use Rattle.names_rules.specs.Verdict.{Verdict, Stands, both}
 
 -- two parts joined
 abbrev pub joined : {A : Type 0} → (A → A → A) → Verdict A → Verdict A → Verdict A

@@ -1,12 +1,12 @@
 -- How code tells of a part inside: what stands, or that the part falls. A fault is one of the
 -- part's.
 use Rattle.std.specs.Prelude.{◌≡◌, [], Option, None, Some, Result, Ok, Err}
-use Rattle.pawn_scopes.specs.Verdict.{Verdict, Stands, Breaks, faults_of}
+use Rattle.names_rules.specs.Verdict.{Verdict, Stands, Breaks, faults_of}
 use Rattle.pawn_verdict.specs.Answers.{Fails}
 use Rattle.pawn_verdict.specs.declared.fault.CheckFault.{CheckFault}
 use Rattle.pawn_verdict.specs.declared.fault.CheckFault.TheVariants as check
-use Rattle.part_verdict.specs.declared.fault.PartFault.{PartFault}
-use Rattle.part_verdict.specs.declared.fault.PartFault.TheVariants as part
+use Rattle.check_nodes.specs.declared.fault.PartFault.{PartFault}
+use Rattle.check_nodes.specs.declared.fault.PartFault.TheVariants as part
 
 -- the verdict that is told
 abbrev pub told : {A B : Type 0} → (B → A) → Option B → Verdict A

@@ -1,7 +1,7 @@
 ghost use Rattle.std.specs.Prelude.{◌≡◌};
 ghost use Rattle.check_locals.specs.Tells.{answer_of, told_part};
 
-use part_verdict::PartFault;
+use check_nodes::PartFault;
 use pawn_verdict::CheckFault;
 
 /// What a part answers, with None where it falls.

@@ -1,8 +1,8 @@
 ghost use Rattle.std.specs.Prelude.{◌≡◌, ◌+◌, [], map, option_map, sum_by, IfOk};
 ghost use Rattle.pawn_tree.specs.View.{arg_view, dim_view, expr_view, init_view, link_view};
 ghost use Rattle.pawn_tree.specs.View.{var_view};
-ghost use Rattle.pawn_calls.specs.Literals as spec;
-ghost use Rattle.pawn_bodies.specs.Counts as counts;
+ghost use Rattle.types_rules.specs.Literals as spec;
+ghost use Rattle.types_rules.specs.Counts as counts;
 
 use pawn_base::{List, Memory};
 use pawn_tree::{Arg, Dim, Expr, Init, Link, Storage, Var};

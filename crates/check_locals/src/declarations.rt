@@ -1,31 +1,31 @@
 ghost use Rattle.std.specs.Prelude.{◌≡◌, [], map, IfOk};
 ghost use Rattle.pawn_tree.specs.View.{constant_view, expr_view, var_view};
-ghost use Rattle.pawn_values.specs.Constants as constants;
-ghost use Rattle.pawn_bodies.specs.Locals as spec;
-ghost use Rattle.pawn_bodies.specs.Points as points;
-ghost use Rattle.pawn_bodies.specs.Stood.{stood, stood_behind};
+ghost use Rattle.types_rules.specs.Constants as constants;
+ghost use Rattle.types_rules.specs.Locals as spec;
+ghost use Rattle.types_rules.specs.Points as points;
+ghost use Rattle.types_rules.specs.Stood.{stood, stood_behind};
 ghost use Rattle.pawn_verdict.specs.Answers.{Answers};
-ghost use Rattle.check_types.specs.ContextView.{around_view};
-ghost use Rattle.check_types.specs.Scopes.{scope_view};
-ghost use Rattle.check_values.specs.ValueViews.{constant_view as value_view};
-ghost use Rattle.check_statements.specs.StoodView.{stood_view};
+ghost use Rattle.check_nodes.specs.ContextView.{around_view};
+ghost use Rattle.check_nodes.specs.Scopes.{scope_view};
+ghost use Rattle.check_expressions.specs.ValueViews.{constant_view as value_view};
+ghost use Rattle.check_locals.specs.StoodView.{stood_view};
 ghost use Rattle.check_locals.specs.PointView.{point_view};
 ghost use Rattle.check_locals.specs.Rows.{joined};
 ghost use Rattle.check_locals.specs.Tells.{Tells, told as plain_told};
 
 use super::answers::told;
 use super::cells::local_by;
+use super::judged_variables::judge_vars;
 use super::means::{declare_var, tag_of};
-use super::parts::judge_vars;
 use super::point::Point;
-use check_statements::{Parts, Stood};
-use check_types::{Context, Made, Meaning, Scopes, Sight};
-use check_values::{Constant as Value, constant_value, constant_warned};
+use super::stood::{Parts, Stood};
+use check_expressions::{Constant as Value, constant_value, constant_warned};
+use check_nodes::{Context, Made, Meaning, Scopes, Sight};
 use pawn_base::{List, Memory};
 use pawn_tree::{At, Constant, Expr, Storage, Var, Variables};
-use pawn_typing::REDEFINED;
 use pawn_verdict::{CheckFault, broken};
 use std::alloc::Global;
+use types_rules::REDEFINED;
 
 /// A name that its block doesn't have yet.
 ///

@@ -1,23 +1,29 @@
-//! The declarations of a block, in code: what variables and constants make, what their names mean
-//! behind them, and how many objects a statement makes, by the tree alone.
+//! What a statement makes, and the declarations of a block.
 #![tactic(auto)]
 
 mod answers;
 mod cells;
 mod counts;
 mod declarations;
+mod judged_variables;
 mod means;
 mod objects;
-mod parts;
 mod point;
+mod rules;
+mod stood;
+mod used;
 
 pub use answers::{answer, told};
 pub use cells::local_by;
-pub use declarations::{fresh_name, local_constant, local_vars, locals, then_maybe};
+pub use declarations::{local_constant, local_vars, locals, then_maybe};
+pub use judged_variables::{judge_behind, judge_vars};
 pub use means::{declare_var, tag_of};
 pub use objects::objects_in;
-pub use part_verdict::PartFault;
-pub use parts::{judge_behind, judge_vars, judged_both};
-pub use pawn_base::Memory;
 pub use pawn_verdict::CheckFault;
 pub use point::Point;
+pub use rules::{
+    Jump, assert_rule, block_rule, do_rule, do_while_rule, exit_rule, for_rule, if_rule, in_a_loop,
+    otherwise_of, return_rule, sleep_rule, state_rule, while_rule,
+};
+pub use stood::{Parts, Returned, Stood, one_of};
+pub use used::{Maybe, Used, use_at, zero_used};

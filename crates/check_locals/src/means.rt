@@ -1,19 +1,20 @@
 ghost use Rattle.std.specs.Prelude.{◌≡◌, [], map, option_map, IfOk, OnOk};
 ghost use Rattle.pawn_arrays.specs.Sizes.{sizes};
 ghost use Rattle.pawn_tree.specs.View.{dim_view, init_view, var_view};
-ghost use Rattle.pawn_typing.specs.Scope as plain;
-ghost use Rattle.pawn_values.specs.Arrays.{shaped};
-ghost use Rattle.pawn_bodies.specs.Points as spec;
-ghost use Rattle.check_types.specs.ContextView.{around_view};
-ghost use Rattle.check_types.specs.MeaningView.{meaning_view, place_view};
-ghost use Rattle.check_types.specs.Scopes.{sight_view};
+ghost use Rattle.types_rules.specs.Scope as plain;
+ghost use Rattle.types_rules.specs.Arrays.{shaped};
+ghost use Rattle.types_rules.specs.Points as spec;
+ghost use Rattle.check_nodes.specs.ContextView.{around_view};
+ghost use Rattle.check_nodes.specs.MeaningView.{meaning_view, place_view};
+ghost use Rattle.check_nodes.specs.Scopes.{sight_view};
 ghost use Rattle.check_locals.specs.PointView.{point_view};
 
 use super::counts::{objects_of_var, slots_of};
 use super::point::Point;
-use check_types::{ArrayAt, CellAt, Context, Extent, Meaning, Sight, UNTAGGED, tag_number};
-use check_values::array_shape;
-use part_verdict::PartFault;
+use check_expressions::array_shape;
+use check_nodes::{
+    ArrayAt, CellAt, Context, Extent, Meaning, PartFault, Sight, UNTAGGED, tag_number,
+};
 use pawn_arrays::Shape;
 use pawn_base::Memory;
 use pawn_tree::{At, Dim, Init, Name, Storage, Var};

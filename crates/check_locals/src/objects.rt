@@ -1,7 +1,7 @@
 ghost use Rattle.std.specs.Prelude.{◌≡◌, ◌+◌, map, option_map, sum_by, IfOk};
 ghost use Rattle.pawn_tree.specs.Statements.{maybe_stmt};
 ghost use Rattle.pawn_tree.specs.View.{case_view, expr_view, first_view, stmt_view, var_view};
-ghost use Rattle.pawn_bodies.specs.Counts as spec;
+ghost use Rattle.types_rules.specs.Counts as spec;
 
 use super::counts::{literals, objects_of_var};
 use pawn_base::{List, Memory};

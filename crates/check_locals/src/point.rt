@@ -1,9 +1,9 @@
 ghost use Rattle.std.specs.Prelude.{◌≡◌, ◌+◌, [], ◌∷◌, IfOk, OnOk};
-ghost use Rattle.pawn_bodies.specs.Points.{beyond, declared, inside};
-ghost use Rattle.check_types.specs.Scopes.{outer_of, sight_view, without};
+ghost use Rattle.types_rules.specs.Points.{beyond, declared, inside};
+ghost use Rattle.check_nodes.specs.Scopes.{outer_of, sight_view, without};
 ghost use Rattle.check_locals.specs.PointView.{point_view};
 
-use check_types::{Scopes, Sight};
+use check_nodes::{Scopes, Sight};
 use pawn_base::Memory;
 
 /// A place in a body: the declarations in sight there, and how many objects of the source and slots
@@ -50,7 +50,7 @@ impl<'a> Point<'a> {
     /// # Errors
     ///
     /// `Memory` for want of memory.
-    #[tactic(auto, using(check_types::proofs::IndexLaws::name_viewed))]
+    #[tactic(auto, using(check_nodes::proofs::IndexLaws::name_viewed))]
     pub fn declare(&mut self, name: &'a [u8], means: Sight) -> Result<(), Memory>
         ensures { OnOk result (point_view self.new ≡ declared (point_view self.old)
             (record { name = name.now; means = sight_view means } ∷ [])) }

@@ -18,10 +18,10 @@ use Rattle.pawn_tree.specs.Expressions.{args, links}
 use Rattle.pawn_tree.specs.Statements.{stmts, cases, maybe_stmt}
 use Rattle.pawn_tree.specs.View.{expr_view, arg_view, link_view, var_view, stmt_view, case_view}
 use Rattle.pawn_tree.proofs.ViewLaws.{call_view, chain_view, block_view, switch_view}
-use Rattle.pawn_calls.specs.Called.{called, called_by_args, called_by_arg, called_by_links}
-use Rattle.pawn_calls.specs.Called.{called_by_link}
-use Rattle.pawn_bodies.specs.CalledIn.{called_by_init, called_by_vars, called_in, called_in_all}
-use Rattle.pawn_bodies.specs.CalledIn.{called_in_case, called_in_cases, called_in_other}
+use Rattle.types_rules.specs.Called.{called, called_by_args, called_by_arg, called_by_links}
+use Rattle.types_rules.specs.Called.{called_by_link}
+use Rattle.types_rules.specs.CalledIn.{called_by_init, called_by_vars, called_in, called_in_all}
+use Rattle.types_rules.specs.CalledIn.{called_in_case, called_in_cases, called_in_other}
 use Rattle.check_source.specs.Adds.{Names, bytes_of, Adds, AddsSoFar}
 
 pub adds_none : (old : Names) → Adds old old []

@@ -4,10 +4,10 @@ use Rattle.std.proofs.Common.{map, get_or, set, position, Option, Some, None, re
 use Rattle.std.specs.Cmp.Lexicographic.{nat_list_eq_equiv}
 use Rattle.std.specs.Str.{bytes_eq}
 use Rattle.std.proofs.lemmas.List.{map-append}
-use Rattle.name_table.specs.Among.{is_among, with_name}
-use Rattle.pawn_program.specs.Program.{Automaton}
-use Rattle.pawn_bodies.specs.States.{automaton_named}
-use Rattle.pawn_automata.specs.Automata.{with_item, with_state}
+use Rattle.pawn_base.specs.Among.{is_among, with_name}
+use Rattle.pawn_meaning.specs.Program.{Automaton}
+use Rattle.types_rules.specs.States.{automaton_named}
+use Rattle.types_rules.specs.Automata.{with_item, with_state}
 use Rattle.check_source.specs.declared.automata.KnownAutomaton.{KnownAutomaton}
 use Rattle.check_source.specs.AutomataView.{known_view, automata_view, known_with, known_entered}
 use Rattle.check_source.specs.Update.{updated, with_first}

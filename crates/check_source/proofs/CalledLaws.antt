@@ -6,8 +6,8 @@ use Rattle.std.specs.List.{list_any}
 use Rattle.std.specs.Str.{bytes_eq}
 use Rattle.std.specs.Cmp.Lexicographic.{bytes_decides}
 use Rattle.std.proofs.lemmas.List.Folds.{list_any-append}
-use Rattle.name_table.specs.Among.{is_among, with_name}
-use Rattle.pawn_automata.specs.Groups as plain
+use Rattle.pawn_base.specs.Among.{is_among, with_name}
+use Rattle.types_rules.specs.Groups as plain
 use Rattle.check_source.specs.declared.written.Written.{Written}
 use Rattle.check_source.specs.WrittenView.{written_view}
 use Rattle.check_source.proofs.GatherLaws.{gathered}

@@ -3,11 +3,11 @@ use Rattle.std.proofs.Common.{◌≡◌, ◌≤◌, ◌<◌, ◌+◌, ℕ, List,
 use Rattle.std.proofs.Common.{refl, sym, ap, ◌∙◌, arith}
 use Rattle.std.proofs.lemmas.List.{drop_more}
 use Rattle.pawn_tree.specs.declared.name.StateName.{StateName}
-use Rattle.pawn_program.specs.Program.{Automaton}
-use Rattle.pawn_automata.specs.Clauses.{items}
-use Rattle.pawn_automata.specs.Groups as plain
-use Rattle.pawn_automata.specs.Groups.{Group}
-use Rattle.pawn_automata.specs.Automata.{with_items, with_classifier, classified}
+use Rattle.pawn_meaning.specs.Program.{Automaton}
+use Rattle.types_rules.specs.Clauses.{items}
+use Rattle.types_rules.specs.Groups as plain
+use Rattle.types_rules.specs.Groups.{Group}
+use Rattle.types_rules.specs.Automata.{with_items, with_classifier, classified}
 use Rattle.check_source.specs.declared.written.Written.{Written}
 use Rattle.check_source.specs.WrittenView.{written_view}
 

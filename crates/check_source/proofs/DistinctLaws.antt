@@ -2,11 +2,11 @@
 use Rattle.std.proofs.Common.{◌≡◌, ◌≤◌, ℕ, Bool, true, false, ◌||◌, if◌then◌else◌, List, [], ◌∷◌}
 use Rattle.std.proofs.Common.{◌++◌, length, get_or, Option, None, Some, refl, sym, ap, ◌∙◌, arith}
 use Rattle.std.specs.Str.{bytes_eq}
-use Rattle.name_table.specs.Among.{is_among, with_name}
+use Rattle.pawn_base.specs.Among.{is_among, with_name}
 use Rattle.pawn_tree.specs.declared.name.StateName.{StateName}
-use Rattle.pawn_automata.specs.Clauses.{clause, named_or}
-use Rattle.pawn_automata.specs.Groups.{Written, is_entry, with_automaton, with_entry}
-use Rattle.pawn_automata.specs.Groups.{entry_automata, only_one}
+use Rattle.types_rules.specs.Clauses.{clause, named_or}
+use Rattle.types_rules.specs.Groups.{Written, is_entry, with_automaton, with_entry}
+use Rattle.types_rules.specs.Groups.{entry_automata, only_one}
 use Rattle.check_source.specs.Distinct.{Distinct, Nothing, One, Several, distinct_of, with_distinct}
 use Rattle.check_source.specs.Distinct.{states_distinct, bodies_distinct, only_of}
 

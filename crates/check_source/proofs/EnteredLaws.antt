@@ -3,10 +3,10 @@ use Rattle.std.proofs.Common.{◌≡◌, ◌<◌, ◌+◌, ℕ, zero, suc, List,
 use Rattle.std.proofs.Common.{Some, refl, sym, ap, ◌∙◌, arith}
 use Rattle.std.specs.Prelude.{slice_get}
 use Rattle.std.proofs.lemmas.List.{length-map}
-use Rattle.pawn_program.specs.Program.{Automaton}
-use Rattle.pawn_automata.specs.Keys.{Enters}
-use Rattle.pawn_automata.specs.Groups.{Group, number_of}
-use Rattle.pawn_automata.specs.Automata.{entered}
+use Rattle.pawn_meaning.specs.Program.{Automaton}
+use Rattle.types_rules.specs.Keys.{Enters}
+use Rattle.types_rules.specs.Groups.{Group, number_of}
+use Rattle.types_rules.specs.Automata.{entered}
 use Rattle.check_source.specs.declared.automata.KnownAutomaton.{KnownAutomaton}
 use Rattle.check_source.specs.AutomataView.{known_view, automata_view, known_entered}
 use Rattle.check_source.specs.Update.{updated}

@@ -4,9 +4,9 @@ use Rattle.std.proofs.Common.{◌++◌, map, length, get_or, set, drop, position
 use Rattle.std.proofs.Common.{refl, sym, ap, ◌∙◌}
 use Rattle.std.specs.Option.{option_or}
 use Rattle.std.proofs.lemmas.List.{map-append, drop_more, length-map}
-use Rattle.pawn_automata.specs.Keys.{Key, same_key}
-use Rattle.pawn_automata.specs.Groups as plain
-use Rattle.pawn_automata.specs.Groups.{number_of, with_body, body_key, grouped}
+use Rattle.types_rules.specs.Keys.{Key, same_key}
+use Rattle.types_rules.specs.Groups as plain
+use Rattle.types_rules.specs.Groups.{number_of, with_body, body_key, grouped}
 use Rattle.check_source.specs.Update.{updated, with_first}
 use Rattle.check_source.proofs.PlaceLaws.{place_is, place_map, first_at, first_new, map_updated}
 use Rattle.check_source.proofs.PlaceLaws.{map_set, set_updates, position_push}

@@ -2,7 +2,7 @@
 use Rattle.std.proofs.Common.{◌≡◌, [], ◌∷◌, ◌++◌, refl}
 use Rattle.pawn_tree.specs.Declarations.{Decl, Variables, Constant, Enum, Native, Forward, Function}
 use Rattle.pawn_tree.specs.Declarations.{Tree}
-use Rattle.pawn_typed.specs.Headings.{headings}
+use Rattle.types_rules.specs.Headings.{headings}
 
 pub headings_more : (x : Decl) (xs : Tree) → headings (x ∷ xs) ≡ headings (x ∷ []) ++ headings xs
 headings_more (Variables at it) xs = refl

@@ -10,13 +10,13 @@ use Rattle.pawn_tree.specs.declared.variable.Dim.{Dim}
 use Rattle.pawn_tree.specs.declared.declaration.Param.{Param}
 use Rattle.pawn_tree.specs.declared.declaration.Param.TheVariants as held
 use Rattle.pawn_tree.specs.View.{param_view}
-use Rattle.pawn_scopes.specs.Overloads.{op_of, plain_tag, plain_tags, with_tag}
+use Rattle.names_rules.specs.Overloads.{op_of, plain_tag, plain_tags, with_tag}
 use Rattle.pawn_tags.specs.declared.op.Op.{Op}
 use Rattle.pawn_tags.specs.declared.op.Op.TheVariants as op
 use Rattle.pawn_tags.specs.declared.op.Signature.{Signature}
-use Rattle.pawn_automata.specs.Clauses.{named_or}
-use Rattle.pawn_automata.specs.Keys.{entered, signature_of}
-use Rattle.pawn_sight.specs.Operators.{right_of}
+use Rattle.types_rules.specs.Clauses.{named_or}
+use Rattle.types_rules.specs.Keys.{entered, signature_of}
+use Rattle.names_sight.specs.Operators.{right_of}
 use Rattle.check_source.specs.Signatures.{signature_by}
 
 -- the automaton of a classifier is that of its first state

@@ -4,9 +4,9 @@ use Rattle.std.proofs.Common.{◌∷◌, map, length, Option, None, Some, option
 use Rattle.std.proofs.Common.{arith}
 use Rattle.std.specs.Prelude.{find}
 use Rattle.pawn_tree.specs.declared.name.StateName.{StateName}
-use Rattle.pawn_automata.specs.Keys.{Key, same_key}
-use Rattle.pawn_automata.specs.Groups.{Group, number_of}
-use Rattle.pawn_automata.specs.Automata.{names_states, names_some, has_other}
+use Rattle.types_rules.specs.Keys.{Key, same_key}
+use Rattle.types_rules.specs.Groups.{Group, number_of}
+use Rattle.types_rules.specs.Automata.{names_states, names_some, has_other}
 use Rattle.check_source.proofs.PlaceLaws.{place, place_is}
 use Rattle.check_source.specs.Naming.{group_names, named_at}
 

@@ -10,7 +10,7 @@ use Rattle.indexmap.specs.IndexMap.{insert_entry}
 use Rattle.pawn_tags.specs.declared.op.Signature.{Signature}
 use Rattle.pawn_tags.specs.Overloads.{is_for}
 use Rattle.pawn_tags.proofs.OverloadLaws.{only_for, itself_for}
-use Rattle.pawn_automata.specs.Keys.{Key, Named, Operates, Enters, Misshapen, same_key}
+use Rattle.types_rules.specs.Keys.{Key, Named, Operates, Enters, Misshapen, same_key}
 use Rattle.check_source.specs.declared.tables.Tables.{Tables}
 use Rattle.check_source.specs.Found.{stands_at, found_in}
 

@@ -2,7 +2,7 @@
 use Rattle.std.proofs.Common.{◌≡◌, [], ◌∷◌, ◌++◌, refl}
 use Rattle.pawn_tree.specs.Declarations.{Decl, Variables, Constant, Enum, Native, Forward, Function}
 use Rattle.pawn_tree.specs.Declarations.{Tree}
-use Rattle.pawn_automata.specs.Groups.{written}
+use Rattle.types_rules.specs.Groups.{written}
 
 pub written_more : (x : Decl) (xs : Tree) → written (x ∷ xs) ≡ written (x ∷ []) ++ written xs
 written_more (Variables at it) xs = refl

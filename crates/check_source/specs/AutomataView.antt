@@ -1,7 +1,7 @@
 -- What the definitions see of the automata that code holds, and how one of them changes.
 use Rattle.std.specs.Prelude.{ℕ, List, Option, map, option_map, slice_get}
-use Rattle.name_table.specs.Among.{with_name}
-use Rattle.pawn_program.specs.Program as plain
+use Rattle.pawn_base.specs.Among.{with_name}
+use Rattle.pawn_meaning.specs.Program as plain
 use Rattle.check_source.specs.declared.automata.KnownAutomaton.{KnownAutomaton}
 
 -- an automaton

@@ -1,8 +1,8 @@
 -- The names that are called, as code holds them.
 use Rattle.std.specs.Prelude.{ℕ, List, [], ◌∷◌, flat_map}
-use Rattle.name_table.specs.Among.{with_name}
-use Rattle.pawn_bodies.specs.CalledIn.{called_in}
-use Rattle.pawn_automata.specs.Groups.{Written}
+use Rattle.pawn_base.specs.Among.{with_name}
+use Rattle.types_rules.specs.CalledIn.{called_in}
+use Rattle.types_rules.specs.Groups.{Written}
 
 -- names with others, each once
 abbrev pub with_names : List (List ℕ) → List (List ℕ) → List (List ℕ)

@@ -2,8 +2,8 @@
 use Rattle.std.specs.Prelude.{ℕ, List, [], ◌∷◌, if◌then◌else◌, Option, None, Some}
 use Rattle.std.specs.Str.{bytes_eq}
 use Rattle.pawn_tree.specs.declared.name.StateName.{StateName}
-use Rattle.pawn_automata.specs.Clauses.{clause}
-use Rattle.pawn_automata.specs.Groups.{Written, is_entry}
+use Rattle.types_rules.specs.Clauses.{clause}
+use Rattle.types_rules.specs.Groups.{Written, is_entry}
 use Rattle.check_source.specs.declared.fallback.Distinct as held
 use Rattle.check_source.specs.declared.fallback.Distinct.TheVariants as distinct
 

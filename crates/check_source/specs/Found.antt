@@ -4,7 +4,7 @@ use Rattle.std.specs.Borrow.{Bor}
 use Rattle.std.specs.Map.{lookup}
 use Rattle.std.specs.Str.{bytes_eq}
 use Rattle.pawn_tags.specs.Overloads.{is_for}
-use Rattle.pawn_automata.specs.Keys.{Key, Named, Operates, Enters, Misshapen}
+use Rattle.types_rules.specs.Keys.{Key, Named, Operates, Enters, Misshapen}
 use Rattle.check_source.specs.declared.tables.Tables.{Tables}
 
 -- what a table has of a name

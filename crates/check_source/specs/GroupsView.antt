@@ -1,6 +1,6 @@
 -- What the definitions see of the functions that code holds, and a body more of one of them.
 use Rattle.std.specs.Prelude.{List, [], ◌∷◌, ◌++◌, map}
-use Rattle.pawn_automata.specs.Groups as plain
+use Rattle.types_rules.specs.Groups as plain
 use Rattle.check_source.specs.KeyView.{key_view}
 use Rattle.check_source.specs.declared.groups.Group.{Group}
 use Rattle.check_source.specs.declared.written.Written.{Written}

@@ -1,6 +1,6 @@
 -- What the definitions see of a heading that code holds.
 use Rattle.pawn_tree.specs.View.{head_view}
-use Rattle.pawn_typed.specs.Headings as plain
+use Rattle.types_rules.specs.Headings as plain
 use Rattle.check_source.specs.KeyView.{states_view}
 use Rattle.check_source.specs.declared.headings.Role.{Role}
 use Rattle.check_source.specs.declared.headings.Role.TheVariants as role

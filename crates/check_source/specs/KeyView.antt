@@ -2,7 +2,7 @@
 use Rattle.std.specs.Prelude.{List, Option, option_map}
 use Rattle.std.specs.Borrow.{Bor}
 use Rattle.pawn_tree.specs.declared.name.StateName.{StateName}
-use Rattle.pawn_automata.specs.Keys as plain
+use Rattle.types_rules.specs.Keys as plain
 use Rattle.check_source.specs.declared.key.Key.{Key}
 use Rattle.check_source.specs.declared.key.Key.TheVariants as key
 

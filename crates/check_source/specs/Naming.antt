@@ -2,8 +2,8 @@
 use Rattle.std.specs.Prelude.{◌≡◌, ℕ, List, Bool, false, map, Option, None, Some, slice_get}
 use Rattle.std.specs.Prelude.{unwrap_or}
 use Rattle.std.specs.List.{list_any}
-use Rattle.pawn_automata.specs.Groups.{Written, Group}
-use Rattle.pawn_automata.specs.Automata.{names_states}
+use Rattle.types_rules.specs.Groups.{Written, Group}
+use Rattle.types_rules.specs.Automata.{names_states}
 use Rattle.check_source.specs.GroupsView.{groups_view}
 use Rattle.check_source.specs.declared.classified.Known.{Known}
 

@@ -1,7 +1,7 @@
 -- The tables have the number of each function.
 use Rattle.std.specs.Prelude.{◌≡◌, List}
-use Rattle.pawn_automata.specs.Keys.{Key}
-use Rattle.pawn_automata.specs.Groups.{number_of}
+use Rattle.types_rules.specs.Keys.{Key}
+use Rattle.types_rules.specs.Groups.{number_of}
 use Rattle.check_source.specs.declared.groups.Group.{Group}
 use Rattle.check_source.specs.declared.tables.Tables.{Tables}
 use Rattle.check_source.specs.Found.{found_in}

@@ -2,7 +2,7 @@
 use Rattle.std.specs.Prelude.{ℕ, List, [], ◌∷◌, Option, Some, None}
 use Rattle.pawn_tags.specs.declared.op.Op.{Op}
 use Rattle.pawn_tags.specs.declared.op.Signature.{Signature}
-use Rattle.pawn_automata.specs.Keys.{signature_between}
+use Rattle.types_rules.specs.Keys.{signature_between}
 
 -- by the tags of its parameters, with the right one where it has one operand
 abbrev pub signature_by : Op → ℕ → Option (List ℕ) → Option Signature

@@ -1,6 +1,6 @@
 -- What the definitions see of a source that code holds.
 use Rattle.std.specs.Prelude.{map}
-use Rattle.pawn_typed.specs.Sources as plain
+use Rattle.types_rules.specs.Sources as plain
 use Rattle.check_source.specs.AutomataView.{automata_view}
 use Rattle.check_source.specs.GroupsView.{groups_view}
 use Rattle.check_source.specs.declared.source.Source.{Source}

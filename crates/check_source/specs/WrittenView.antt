@@ -1,6 +1,6 @@
 -- What the definitions see of a body that code holds.
 use Rattle.pawn_tree.specs.View.{function_view}
-use Rattle.pawn_automata.specs.Groups as plain
+use Rattle.types_rules.specs.Groups as plain
 use Rattle.check_source.specs.declared.written.Written.{Written}
 
 -- a body

@@ -2,16 +2,15 @@ ghost use Rattle.std.specs.Prelude.{◌≡◌, ◌<◌, [], ◌∷◌, ◌++◌,
 ghost use Rattle.std.specs.Prelude.{option_map, position, IfOk, OnOk};
 ghost use Rattle.std.specs.Option.{option_and_then};
 ghost use Rattle.std.specs.Str.{bytes_eq};
-ghost use Rattle.pawn_program.specs.View.{automaton_view};
-ghost use Rattle.pawn_bodies.specs.States.{automaton_named};
-ghost use Rattle.pawn_automata.specs.Automata.{with_item};
+ghost use Rattle.pawn_meaning.specs.View.{automaton_view};
+ghost use Rattle.types_rules.specs.States.{automaton_named};
+ghost use Rattle.types_rules.specs.Automata.{with_item};
 ghost use Rattle.check_source.specs.AutomataView.{known_view, automata_view, states_in};
 ghost use Rattle.check_source.specs.AutomataView.{known_with, known_entered};
 ghost use Rattle.check_source.specs.Update.{updated};
 
-use name_table::Names;
-use pawn_base::{Bytes, List, Memory};
-use pawn_program::Automaton;
+use pawn_base::{Bytes, List, Memory, Names};
+use pawn_meaning::Automaton;
 use std::alloc::Global;
 use std::marker::Model;
 

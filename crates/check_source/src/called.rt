@@ -1,13 +1,12 @@
 ghost use Rattle.std.specs.Prelude.{◌≡◌, [], map, IfOk};
-ghost use Rattle.name_table.specs.Among.{is_among};
+ghost use Rattle.pawn_base.specs.Among.{is_among};
 ghost use Rattle.check_source.specs.WrittenView.{written_view};
 ghost use Rattle.check_source.specs.Adds.{bytes_of};
 ghost use Rattle.check_source.specs.CalledView.{called_by, with_names};
 
 use super::statement::add_called;
 use super::written::Written;
-use name_table::Names;
-use pawn_base::{List, Memory};
+use pawn_base::{List, Memory, Names};
 use std::alloc::Global;
 use std::marker::Model;
 

@@ -1,8 +1,8 @@
-ghost use Rattle.std.specs.Prelude.{◌≡◌, [], ◌∷◌, None, Some, map, IfOk, OnOk};
-ghost use Rattle.pawn_automata.specs.Automata as spec;
-ghost use Rattle.pawn_automata.specs.Clauses.{items, items_behind};
-ghost use Rattle.pawn_automata.specs.Groups.{body_key, number_of};
-ghost use Rattle.pawn_automata.specs.Keys as keys;
+ghost use Rattle.std.specs.Prelude.{◌≡◌, [], None, Some, map, IfOk, OnOk};
+ghost use Rattle.types_rules.specs.Automata as spec;
+ghost use Rattle.types_rules.specs.Clauses.{items};
+ghost use Rattle.types_rules.specs.Groups.{body_key, number_of};
+ghost use Rattle.types_rules.specs.Keys as keys;
 ghost use Rattle.check_source.specs.AutomataView.{automata_view};
 ghost use Rattle.check_source.specs.WrittenView.{written_view};
 ghost use Rattle.check_source.specs.GroupsView.{groups_view};
@@ -22,6 +22,7 @@ use std::alloc::Global;
 /// What is known of a source before its automata.
 #[derive(Drop)]
 pub struct Known<'s, 'a> {
+    pub alloc: Global,
     pub tags: &'s TagTable,
     pub fallback: &'a [u8],
     pub groups: &'s Groups<'a>,
@@ -55,78 +56,69 @@ fn add_items(alloc: Global, automata: &mut Automata, states: &[StateName]) -> Re
     Ok(())
 }
 
-/// The anonymous automaton, where a fallback is the only clause of its function.
-fn add_fallback(
-    alloc: Global,
-    automata: &mut Automata,
-    known: &Known,
-    it: &Written,
-) -> Result<(), Memory>
-    requires { IsKnown known.now }
-    ensures { OnOk result (automata_view automata.new ≡
-        spec.with_fallback known.now.tags.now known.now.fallback.now
-        (groups_view known.now.groups.now)
-        (automata_view automata.old) (written_view it.now)) }
-{
-    if has_other(known, it) {
-        return Ok(());
+impl<'s, 'a> Known<'s, 'a> {
+    /// The anonymous automaton, where a fallback is the only clause of its function.
+    fn add_fallback(&self, automata: &mut Automata, it: &Written) -> Result<(), Memory>
+        requires { IsKnown self.now }
+        ensures { OnOk result (automata_view automata.new ≡
+            spec.with_fallback self.now.tags.now self.now.fallback.now
+            (groups_view self.now.groups.now)
+            (automata_view automata.old) (written_view it.now)) }
+    {
+        if has_other(self, it) {
+            return Ok(());
+        }
+        let anonymous: &[u8] = b"";
+        automata.mention(self.alloc, anonymous)
     }
-    let anonymous: &[u8] = b"";
-    automata.mention(alloc, anonymous)
-}
 
-/// What a classifier with these states names.
-#[tactic(auto, using(crate::proofs::ClassifiedLaws::some_states))]
-fn add_states(
-    alloc: Global,
-    automata: &mut Automata,
-    known: &Known,
-    it: &Written,
-    states: &[StateName],
-) -> Result<(), Memory>
-    requires { IsKnown known.now }
-    ensures { OnOk result (automata_view automata.new ≡
-        spec.with_classifier known.now.tags.now known.now.fallback.now
-        (groups_view known.now.groups.now)
-        (automata_view automata.old) (written_view it.now) (Some states.now)) }
-{
-    match states {
-        [] => add_fallback(alloc, automata, known, it),
-        [_, ..] => add_items(alloc, automata, states),
+    /// What a classifier with these states names.
+    #[tactic(auto, using(crate::proofs::ClassifiedLaws::some_states))]
+    fn add_states(
+        &self,
+        automata: &mut Automata,
+        it: &Written,
+        states: &[StateName],
+    ) -> Result<(), Memory>
+        requires { IsKnown self.now }
+        ensures { OnOk result (automata_view automata.new ≡
+            spec.with_classifier self.now.tags.now self.now.fallback.now
+            (groups_view self.now.groups.now)
+            (automata_view automata.old) (written_view it.now) (Some states.now)) }
+    {
+        match states {
+            [] => self.add_fallback(automata, it),
+            [_, ..] => add_items(self.alloc, automata, states),
+        }
     }
-}
 
-/// What the classifier of a body names.
-fn add_body(
-    alloc: Global,
-    automata: &mut Automata,
-    known: &Known,
-    it: &Written,
-) -> Result<(), Memory>
-    requires { IsKnown known.now }
-    ensures { OnOk result (automata_view automata.new ≡
-        spec.with_classifier known.now.tags.now known.now.fallback.now
-        (groups_view known.now.groups.now)
-        (automata_view automata.old) (written_view it.now)
-        (written_view it.now).function.states) }
-{
-    match states_of(it.function) {
-        None => Ok(()),
-        Some(states) => add_states(alloc, automata, known, it, states),
+    /// What the classifier of a body names.
+    fn add_body(&self, automata: &mut Automata, it: &Written) -> Result<(), Memory>
+        requires { IsKnown self.now }
+        ensures { OnOk result (automata_view automata.new ≡
+            spec.with_classifier self.now.tags.now self.now.fallback.now
+            (groups_view self.now.groups.now)
+            (automata_view automata.old) (written_view it.now)
+            (written_view it.now).function.states) }
+    {
+        match states_of(it.function) {
+            None => Ok(()),
+            Some(states) => self.add_states(automata, it, states),
+        }
     }
 }
 
 /// The automata and states that bodies name, in order.
-#[tactic(auto, unfolding(pawn_automata::specs::Automata::classified))]
-fn classified(alloc: Global, known: &Known, bodies: &[Written]) -> Result<Automata, Memory>
+#[tactic(auto, unfolding(types_rules::specs::Automata::classified))]
+fn classified(known: &Known, bodies: &[Written]) -> Result<Automata, Memory>
     requires { IsKnown known.now }
     ensures { IfOk result (λ automata. automata_view automata ≡
         spec.classified known.now.tags.now known.now.fallback.now
         (groups_view known.now.groups.now) [] (map written_view bodies.now)) }
 {
-    let mut automata = Automata::new(alloc);
+    let mut automata = Automata::new(known.alloc);
     for it in bodies {
-        add_body(alloc, &mut automata, known, it)?;
+        known.add_body(&mut automata, it)?;
     }
     Ok(automata)
 }
@@ -168,10 +160,11 @@ pub fn source_automata<'a>(
         (map written_view bodies.now)) }
 {
     let known = Known {
+        alloc,
         tags,
         fallback,
         groups,
         naming: naming(alloc, groups.as_slice())?,
     };
-    Ok(enter_all(groups, classified(alloc, &known, bodies)?))
+    Ok(enter_all(groups, classified(&known, bodies)?))
 }

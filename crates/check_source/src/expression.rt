@@ -1,8 +1,8 @@
 ghost use Rattle.std.specs.Prelude.{[], ◌∷◌, map, option_map, OnOk};
 ghost use Rattle.pawn_tree.specs.Expressions.{args, links};
 ghost use Rattle.pawn_tree.specs.View.{expr_view, arg_view, link_view};
-ghost use Rattle.pawn_calls.specs.Called as spec;
-ghost use Rattle.pawn_bodies.specs.CalledIn.{called_by};
+ghost use Rattle.types_rules.specs.Called as spec;
+ghost use Rattle.types_rules.specs.CalledIn.{called_by};
 ghost use Rattle.check_source.specs.Adds.{Adds};
 
 use pawn_base::{Bytes, List, Memory};

@@ -1,5 +1,5 @@
 ghost use Rattle.std.specs.Prelude.{◌≡◌, [], Some, map};
-ghost use Rattle.pawn_automata.specs.Groups as spec;
+ghost use Rattle.types_rules.specs.Groups as spec;
 ghost use Rattle.check_source.specs.KeyView.{states_view};
 ghost use Rattle.check_source.specs.Distinct.{distinct_view, with_distinct, states_distinct};
 ghost use Rattle.check_source.specs.Distinct.{body_distinct, only_of};

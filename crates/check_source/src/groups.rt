@@ -1,5 +1,5 @@
 ghost use Rattle.std.specs.Prelude.{◌≡◌, ◌<◌, [], ◌∷◌, ◌++◌, None, map, length, IfOk, OnOk};
-ghost use Rattle.pawn_automata.specs.Groups as spec;
+ghost use Rattle.types_rules.specs.Groups as spec;
 ghost use Rattle.check_source.specs.KeyView.{key_view};
 ghost use Rattle.check_source.specs.Update.{updated};
 ghost use Rattle.check_source.specs.WrittenView.{written_view};
@@ -128,7 +128,7 @@ pub fn body_key<'a>(tags: &TagTable, fallback: &'a [u8], it: &Written<'a>) -> Ke
 /// # Errors
 ///
 /// `Memory` for want of memory.
-#[tactic(auto, unfolding(pawn_automata::specs::Groups::grouped))]
+#[tactic(auto, unfolding(types_rules::specs::Groups::grouped))]
 pub fn group_bodies<'a>(
     alloc: Global,
     tags: &TagTable,

@@ -1,6 +1,6 @@
 ghost use Rattle.std.specs.Prelude.{◌≡◌, [], ◌∷◌, ◌++◌, map, codes, IfOk, OnOk};
 ghost use Rattle.pawn_tree.specs.View.{decl_view, tree_view};
-ghost use Rattle.pawn_typed.specs.Headings as spec;
+ghost use Rattle.types_rules.specs.Headings as spec;
 ghost use Rattle.check_source.specs.KeyView.{key_view};
 ghost use Rattle.check_source.specs.HeadingView.{heading_view};
 

@@ -1,9 +1,10 @@
 ghost use Rattle.std.specs.Prelude.{◌≡◌, length};
 ghost use Rattle.std.specs.Str.{bytes_eq};
 ghost use Rattle.pawn_tree.specs.View.{head_view};
-ghost use Rattle.pawn_scopes.specs.Overloads as overloads;
-ghost use Rattle.pawn_automata.specs.Groups as groups;
-ghost use Rattle.pawn_automata.specs.Keys as spec;
+ghost use Rattle.names_rules.specs.Overloads as overloads;
+ghost use Rattle.types_rules.specs.Groups as groups;
+ghost use Rattle.types_rules.specs.Headings.{is_enters};
+ghost use Rattle.types_rules.specs.Keys as spec;
 ghost use Rattle.check_source.specs.KeyView.{key_view, states_view};
 
 use super::operators::signature;
@@ -23,6 +24,20 @@ pub enum Key<'a> {
     Enters(&'a [u8]),
     /// A head that no operator may have.
     Misshapen,
+}
+
+impl<'a> Key<'a> {
+    /// Whether a function is an automaton's entry function.
+    pub fn enters(self) -> bool
+        ensures { result ≡ is_enters (key_view self.entry) }
+    {
+        match self {
+            Key::Enters(_) => true,
+            Key::Named(_) => false,
+            Key::Operates(_) => false,
+            Key::Misshapen => false,
+        }
+    }
 }
 
 /// Whether a name is that of entry functions.

@@ -25,7 +25,6 @@ pub use fallback::entry_fallback;
 pub use groups::{Group, Groups, group_bodies};
 pub use headings::{Heading, Role, heading_key, make_headings};
 pub use key::{Key, is_entry, key_of};
-pub use pawn_base::Memory;
 pub use source::Source;
 pub use states::{named_or, states_of};
 pub use written::{Written, written_bodies};

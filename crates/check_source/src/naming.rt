@@ -1,5 +1,5 @@
 ghost use Rattle.std.specs.Prelude.{◌≡◌, Some, map, slice_get, unwrap_or, false, IfOk};
-ghost use Rattle.pawn_automata.specs.Automata as spec;
+ghost use Rattle.types_rules.specs.Automata as spec;
 ghost use Rattle.check_source.specs.KeyView.{states_view};
 ghost use Rattle.check_source.specs.WrittenView.{written_view};
 ghost use Rattle.check_source.specs.GroupsView.{groups_view};

@@ -1,10 +1,10 @@
 ghost use Rattle.std.specs.Prelude.{◌≡◌, map, length};
 ghost use Rattle.pawn_tree.specs.View.{param_view, head_view};
-ghost use Rattle.pawn_scopes.specs.Overloads as overloads;
-ghost use Rattle.pawn_automata.specs.Keys as spec;
+ghost use Rattle.names_rules.specs.Overloads as overloads;
+ghost use Rattle.types_rules.specs.Keys as spec;
 ghost use Rattle.check_source.specs.Signatures.{signature_by};
 
-use pawn_sight::{UNTAGGED, op_of, plain_tag, right_tag, tag_number};
+use names_sight::{UNTAGGED, op_of, plain_tag, right_tag, tag_number};
 use pawn_tags::{Op, Signature, TagTable};
 use pawn_token::Sign;
 use pawn_tree::{Head, Param};

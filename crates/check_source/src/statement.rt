@@ -1,7 +1,7 @@
 ghost use Rattle.std.specs.Prelude.{map, option_map, OnOk};
 ghost use Rattle.pawn_tree.specs.Statements.{stmts, cases, maybe_stmt};
 ghost use Rattle.pawn_tree.specs.View.{stmt_view, case_view};
-ghost use Rattle.pawn_bodies.specs.CalledIn as spec;
+ghost use Rattle.types_rules.specs.CalledIn as spec;
 ghost use Rattle.check_source.specs.Adds.{Adds};
 
 use super::expression::{in_expr, in_maybe};

@@ -1,6 +1,6 @@
 ghost use Rattle.std.specs.Prelude.{◌≡◌, [], Some};
-ghost use Rattle.pawn_automata.specs.Clauses as clauses;
-ghost use Rattle.pawn_automata.specs.Keys as spec;
+ghost use Rattle.types_rules.specs.Clauses as clauses;
+ghost use Rattle.types_rules.specs.Keys as spec;
 ghost use Rattle.check_source.specs.KeyView.{states_view};
 
 use pawn_tree::{Function, Name, StateName};

@@ -1,6 +1,6 @@
 ghost use Rattle.std.specs.Prelude.{◌≡◌, None, Some, if◌then◌else◌, List as ListOf, ℕ, OnOk, OnErr};
 ghost use Rattle.std.specs.Str.{bytes_eq};
-ghost use Rattle.pawn_automata.specs.Keys.{Key as PlainKey, same_key};
+ghost use Rattle.types_rules.specs.Keys.{Key as PlainKey, same_key};
 ghost use Rattle.check_source.specs.KeyView.{key_view};
 ghost use Rattle.check_source.specs.Found.{found_in, stands_at};
 

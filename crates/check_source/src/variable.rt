@@ -1,6 +1,6 @@
 ghost use Rattle.std.specs.Prelude.{map, option_map, OnOk};
 ghost use Rattle.pawn_tree.specs.View.{first_view, init_view, var_view};
-ghost use Rattle.pawn_bodies.specs.CalledIn as spec;
+ghost use Rattle.types_rules.specs.CalledIn as spec;
 ghost use Rattle.check_source.specs.Adds.{Adds};
 
 use super::expression::in_expr;

@@ -1,6 +1,6 @@
 ghost use Rattle.std.specs.Prelude.{◌≡◌, [], ◌∷◌, ◌++◌, map, IfOk, OnOk};
 ghost use Rattle.pawn_tree.specs.View.{decl_view, tree_view};
-ghost use Rattle.pawn_automata.specs.Groups as spec;
+ghost use Rattle.types_rules.specs.Groups as spec;
 ghost use Rattle.check_source.specs.WrittenView.{written_view};
 
 use pawn_base::{List, Memory};

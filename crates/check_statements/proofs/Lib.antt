@@ -1,2 +1,6 @@
-pub mod SingleLaws
-pub mod NodeLaws
+pub mod BlockLaws
+mod MadeLaws
+pub mod PlaceLaws
+pub mod PointLaws
+pub mod QuietLaws
+pub mod StmtLaws

@@ -1,2 +1,3 @@
-pub mod Single
-pub mod StoodView
+pub mod BodyJudging
+pub mod SimpleJudging
+pub mod StateView

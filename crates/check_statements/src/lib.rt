@@ -1,15 +1,14 @@
-//! Typed statements, and what each kind of statement makes of its typed parts.
+//! Statements in code: simple ones, and whole bodies.
 #![tactic(auto)]
 
-mod rules;
-mod stood;
-mod used;
+mod bodies;
+mod firsts;
+mod loops;
+mod places;
+mod setting;
+mod simple;
+mod states;
+mod values;
 
-pub use check_types::Memory;
-pub use pawn_verdict::CheckFault;
-pub use rules::{
-    Jump, Otherwise, assert_rule, block_rule, do_rule, do_while_rule, exit_rule, for_rule, if_rule,
-    in_a_loop, otherwise_of, return_rule, sleep_rule, state_rule, while_rule,
-};
-pub use stood::{Parts, Returned, Stood, one_of};
-pub use used::{Maybe, Used, use_at, zero_used};
+pub use bodies::stmt;
+pub use setting::Setting;

@@ -11,10 +11,10 @@ use Rattle.std.proofs.lemmas.List.Sums.{sum_by-cons}
 use Rattle.std.proofs.lemmas.List.Sorted.{sum_by-IsPermutation, length_permutation}
 use Rattle.std.proofs.lemmas.List.Sorted.{list_any-IsPermutation}
 use Rattle.pawn_tree.specs.declared.name.At.{At}
-use Rattle.pawn_typing.specs.declared.fault.TheConstants.{CASE_TWICE}
-use Rattle.pawn_typing.specs.Rule.{broken}
-use Rattle.pawn_scopes.specs.Verdict.{Stands}
-use Rattle.pawn_bodies.specs.Switches.{meet, has_twice, is_empty, apart}
+use Rattle.types_rules.specs.declared.fault.TheConstants.{CASE_TWICE}
+use Rattle.types_rules.specs.Rule.{broken}
+use Rattle.names_rules.specs.Verdict.{Stands}
+use Rattle.types_rules.specs.Switches.{meet, has_twice, is_empty, apart}
 use Rattle.check_switches.specs.Neighbours.{comes_before, neighbours_meet}
 
 abbrev Range : Type 0

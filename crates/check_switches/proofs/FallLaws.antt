@@ -1,8 +1,8 @@
 -- A node of three parts falls where one of them does.
 use Rattle.std.proofs.Common.{◌≡◌, List, [], refl}
 use Rattle.std.specs.Prelude.{Option, None, Some}
-use Rattle.pawn_scopes.specs.Verdict.{Verdict, Breaks, both}
-use Rattle.pawn_typing.specs.Rule.{pair}
+use Rattle.names_rules.specs.Verdict.{Verdict, Breaks, both}
+use Rattle.types_rules.specs.Rule.{pair}
 use Rattle.check_locals.specs.Tells.{told}
 
 pub first_of_three : {A B C X Y Z R : Type 0} (a : X → A) (b : Y → B) (c : Z → C) (y : Option Y)

@@ -1,7 +1,7 @@
-pub mod ConsLaws
-pub mod TakenLaws
-pub mod RuleLaws
 pub mod ApartLaws
+pub mod ConsLaws
 pub mod FallLaws
 pub mod OneLaws
+pub mod RuleLaws
 pub mod SwitchLaws
+pub mod TakenLaws

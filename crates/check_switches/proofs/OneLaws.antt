@@ -1,10 +1,10 @@
 -- A case by itself, and cases behind others, part by part.
 use Rattle.std.proofs.Common.{◌≡◌, List, [], ◌∷◌, ◌++◌, refl, sym, ap, ◌∙◌}
 use Rattle.std.proofs.lemmas.List.{append-nil}
-use Rattle.pawn_program.specs.Program as code
-use Rattle.pawn_bodies.specs.Stood.{Stood, one_of}
-use Rattle.pawn_bodies.specs.Switches.{Labels}
-use Rattle.pawn_bodies.specs.Statements.{Cased}
+use Rattle.pawn_meaning.specs.Program as code
+use Rattle.types_rules.specs.Stood.{Stood, one_of}
+use Rattle.types_rules.specs.Switches.{Labels}
+use Rattle.types_rules.specs.Statements.{Cased}
 use Rattle.check_switches.specs.Cased.{bare, one_cased}
 
 -- what a case gives

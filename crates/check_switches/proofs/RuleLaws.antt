@@ -3,15 +3,15 @@ use Rattle.std.proofs.Common.{◌≡◌, ℕ, ℤ, List, [], ◌∷◌, ◌++◌
 use Rattle.std.proofs.lemmas.List.{append-nil}
 use Rattle.pawn_tree.specs.declared.name.At.{At}
 use Rattle.pawn_tree.specs.Statements.{Range}
-use Rattle.pawn_program.specs.Program as code
-use Rattle.pawn_program.specs.View.{cases_view, stmt_view}
-use Rattle.pawn_program.specs.declared.node.Case as held
-use Rattle.pawn_scopes.specs.Verdict.{Verdict, Stands, Breaks, Fault, faults_of, after, both}
-use Rattle.pawn_typing.specs.Rule.{each}
-use Rattle.pawn_typing.specs.Around.{Around}
-use Rattle.pawn_bodies.specs.Stood.{Stood, stood_behind, nothing_stood}
-use Rattle.pawn_bodies.specs.Switches.{Labels, Ends, label_by, labels}
-use Rattle.pawn_bodies.specs.Statements.{CasePart, Cased, case_before, no_cased, cased}
+use Rattle.pawn_meaning.specs.Program as code
+use Rattle.pawn_meaning.specs.View.{cases_view, stmt_view}
+use Rattle.pawn_meaning.specs.declared.node.Case as held
+use Rattle.names_rules.specs.Verdict.{Verdict, Stands, Breaks, Fault, faults_of, after, both}
+use Rattle.types_rules.specs.Rule.{each}
+use Rattle.types_rules.specs.Around.{Around}
+use Rattle.types_rules.specs.Stood.{Stood, stood_behind, nothing_stood}
+use Rattle.types_rules.specs.Switches.{Labels, Ends, label_by, labels}
+use Rattle.types_rules.specs.Statements.{CasePart, Cased, case_before, no_cased, cased}
 use Rattle.check_locals.specs.Rows.{joined}
 use Rattle.check_locals.proofs.VarLaws.{stood_assoc, nothing_first, nothing_last}
 use Rattle.check_switches.specs.Cased.{bare, bare_verdict, one_cased, cases_behind, cased_behind}

@@ -2,22 +2,22 @@
 use Rattle.std.proofs.Common.{◌≡◌, List, [], ◌∷◌, ◌++◌, map, Option, refl, sym, ap, ◌∙◌}
 use Rattle.std.specs.declared.boxed.Box.{Box}
 use Rattle.std.specs.declared.alloc.Global.{Global}
-use Rattle.pawn_program.specs.Program as code
-use Rattle.pawn_program.specs.View.{cases_view, else_view, slot_view}
-use Rattle.pawn_program.specs.View.{object_view}
-use Rattle.pawn_program.specs.declared.node.Stmt as held_stmt
-use Rattle.check_types.specs.CodeView.{code_view}
-use Rattle.check_statements.specs.declared.used.Used as held_used
-use Rattle.check_statements.specs.declared.stood.Parts.{Parts}
-use Rattle.check_statements.specs.StoodView.{stood_of, used_view, returned_view}
+use Rattle.pawn_meaning.specs.Program as code
+use Rattle.pawn_meaning.specs.View.{cases_view, else_view, slot_view}
+use Rattle.pawn_meaning.specs.View.{object_view}
+use Rattle.pawn_meaning.specs.declared.node.Stmt as held_stmt
+use Rattle.check_nodes.specs.CodeView.{code_view}
+use Rattle.check_locals.specs.declared.used.Used as held_used
+use Rattle.check_locals.specs.declared.stood.Parts.{Parts}
+use Rattle.check_locals.specs.StoodView.{stood_of, used_view, returned_view}
 use Rattle.check_switches.specs.declared.switches.Cases.{Cases}
 use Rattle.check_switches.specs.CaseView.{cased_view}
-use Rattle.pawn_scopes.specs.Verdict.{Verdict, Stands, Breaks, faults_of, after, both}
+use Rattle.names_rules.specs.Verdict.{Verdict, Stands, Breaks, faults_of, after, both}
 use Rattle.pawn_verdict.specs.declared.fault.CheckFault.{CheckFault}
 use Rattle.pawn_verdict.specs.Answers.{Fails}
-use Rattle.pawn_bodies.specs.Stood.{Stood}
-use Rattle.pawn_bodies.specs.Statements.{Used, Cased, Other, switch_rule}
-use Rattle.pawn_bodies.specs.Switches.{apart}
+use Rattle.types_rules.specs.Stood.{Stood}
+use Rattle.types_rules.specs.Statements.{Used, Cased, Other, switch_rule}
+use Rattle.types_rules.specs.Switches.{apart}
 use Rattle.pawn_tree.specs.declared.name.At.{At}
 use Rattle.check_switches.specs.Cased.{bare, bare_verdict}
 

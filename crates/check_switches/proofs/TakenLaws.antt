@@ -2,7 +2,7 @@
 use Rattle.std.proofs.Common.{◌≡◌, ◌<◌, ◌≤◌, ℕ, suc, ◌+◌, List, [], ◌∷◌, ◌++◌, map, drop, length}
 use Rattle.std.proofs.Common.{get_or, refl, sym, ap, ◌∙◌, subst, arith}
 use Rattle.std.proofs.lemmas.List.{drop_all, length_push}
-use Rattle.pawn_scopes.specs.Verdict.{Verdict, Stands, Breaks, faults_of, after, both}
+use Rattle.names_rules.specs.Verdict.{Verdict, Stands, Breaks, faults_of, after, both}
 use Rattle.pawn_verdict.specs.declared.fault.CheckFault.{CheckFault}
 use Rattle.pawn_verdict.specs.Answers.{Fails}
 use Rattle.check_locals.specs.Rows.{joined, Walked}

@@ -1,14 +1,14 @@
 -- Cases and their values, as the rules of statements see them.
 use Rattle.std.specs.Prelude.{List, [], map, option_map}
-use Rattle.pawn_bodies.specs.Switches as plain
-use Rattle.pawn_bodies.specs.Statements as rules
-use Rattle.check_types.specs.TypedView.{typed_view}
-use Rattle.pawn_program.specs.View.{cases_view}
-use Rattle.check_statements.specs.StoodView.{stood_of, stood_view}
+use Rattle.types_rules.specs.Switches as plain
+use Rattle.types_rules.specs.Statements as rules
+use Rattle.check_nodes.specs.TypedView.{typed_view}
+use Rattle.pawn_meaning.specs.View.{cases_view}
+use Rattle.check_locals.specs.StoodView.{stood_of, stood_view}
 use Rattle.check_switches.specs.declared.ends.Ends.{Ends}
 use Rattle.check_switches.specs.declared.ends.AllEnds.{AllEnds}
-use Rattle.check_switches.specs.declared.parts.CasePart.{CasePart}
-use Rattle.check_switches.specs.declared.parts.CaseParts.{CaseParts}
+use Rattle.check_switches.specs.declared.case_parts.CasePart.{CasePart}
+use Rattle.check_switches.specs.declared.case_parts.CaseParts.{CaseParts}
 use Rattle.check_switches.specs.declared.labels.Labels.{Labels}
 use Rattle.check_switches.specs.declared.switches.Cases.{Cases}
 

@@ -1,10 +1,10 @@
 -- The cases of a `switch` with their values, one behind another.
 use Rattle.std.specs.Prelude.{[], ◌++◌}
-use Rattle.pawn_program.specs.Program as code
-use Rattle.pawn_scopes.specs.Verdict.{Verdict, Stands, after}
-use Rattle.pawn_bodies.specs.Stood.{Stood, stood_behind}
-use Rattle.pawn_bodies.specs.Switches.{Labels}
-use Rattle.pawn_bodies.specs.Statements.{Cased, case_before, no_cased}
+use Rattle.pawn_meaning.specs.Program as code
+use Rattle.names_rules.specs.Verdict.{Verdict, Stands, after}
+use Rattle.types_rules.specs.Stood.{Stood, stood_behind}
+use Rattle.types_rules.specs.Switches.{Labels}
+use Rattle.types_rules.specs.Statements.{Cased, case_before, no_cased}
 
 -- ranges behind others
 abbrev pub label_join : Labels → Labels → Labels

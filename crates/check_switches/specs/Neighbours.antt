@@ -1,7 +1,7 @@
 -- Ranges in order: two of them have a value in common only where two neighbours do.
 use Rattle.std.specs.Prelude.{ℤ, List, [], ◌∷◌, Bool, false, ◌||◌}
 use Rattle.std.specs.Ordering.{int_cmp, is_lt, ordering_then}
-use Rattle.pawn_bodies.specs.Switches.{meet}
+use Rattle.types_rules.specs.Switches.{meet}
 
 -- some neighbours have a value in common
 abbrev pub neighbours_meet : List (ℤ × ℤ) → Bool

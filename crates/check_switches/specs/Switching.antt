@@ -1,13 +1,13 @@
 -- The rules of a `switch`, which hang on what is known of the source alone.
 use Rattle.std.specs.Prelude.{ℕ, List, []}
 use Rattle.pawn_tree.specs.declared.name.At.{At}
-use Rattle.pawn_scopes.specs.Verdict.{Verdict, Stands, after}
-use Rattle.pawn_typing.specs.Typed.{Typed}
-use Rattle.pawn_typing.specs.Around.{Around}
-use Rattle.pawn_bodies.specs.Stood.{Stood}
-use Rattle.pawn_bodies.specs.Switches.{labels}
-use Rattle.pawn_bodies.specs.Statements as rules
-use Rattle.pawn_bodies.specs.Statements.{Used, CasePart, Cased, Other}
+use Rattle.names_rules.specs.Verdict.{Verdict, Stands, after}
+use Rattle.types_rules.specs.Typed.{Typed}
+use Rattle.types_rules.specs.Around.{Around}
+use Rattle.types_rules.specs.Stood.{Stood}
+use Rattle.types_rules.specs.Switches.{labels}
+use Rattle.types_rules.specs.Statements as rules
+use Rattle.types_rules.specs.Statements.{Used, CasePart, Cased, Other}
 use Rattle.check_switches.specs.Cased.{bare, one_cased}
 
 module _ (cx : Around) where

@@ -1,14 +1,14 @@
 ghost use Rattle.std.specs.Prelude.{◌≡◌, false, IfOk, IsPermutation, IsSortedBy};
 ghost use Rattle.std.specs.List.{list_any};
-ghost use Rattle.pawn_bodies.specs.Switches as spec;
+ghost use Rattle.types_rules.specs.Switches as spec;
 ghost use Rattle.pawn_verdict.specs.Answers.{Answers};
 ghost use Rattle.check_switches.specs.Neighbours.{apart_view, comes_before, neighbours_meet};
 
 use pawn_base::Memory;
 use pawn_tree::At;
-use pawn_typing::CASE_TWICE;
 use pawn_verdict::{CheckFault, broken};
 use std::alloc::Global;
+use types_rules::CASE_TWICE;
 
 /// Whether a range ends below its start.
 fn any_empty(ranges: &[(i32, i32)]) -> bool

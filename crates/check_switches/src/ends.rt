@@ -1,18 +1,18 @@
 ghost use Rattle.std.specs.Prelude.{◌≡◌, ◌∷◌, [], ◌++◌, map, option_map, IfOk};
-ghost use Rattle.pawn_scopes.specs.Verdict.{Stands, both};
+ghost use Rattle.names_rules.specs.Verdict.{Stands, both};
 ghost use Rattle.pawn_tree.specs.View.{expr_view, range_view};
-ghost use Rattle.pawn_typing.specs.Rule.{each};
-ghost use Rattle.pawn_calls.specs.Expressions as expressions;
-ghost use Rattle.pawn_bodies.specs.Switches as spec;
-ghost use Rattle.check_types.specs.ContextView.{around_view};
-ghost use Rattle.check_types.specs.TypedView.{typed_view};
-ghost use Rattle.check_types.specs.Scopes.{scope_view};
+ghost use Rattle.types_rules.specs.Rule.{each};
+ghost use Rattle.types_rules.specs.Expressions as expressions;
+ghost use Rattle.types_rules.specs.Switches as spec;
+ghost use Rattle.check_nodes.specs.ContextView.{around_view};
+ghost use Rattle.check_nodes.specs.TypedView.{typed_view};
+ghost use Rattle.check_nodes.specs.Scopes.{scope_view};
 ghost use Rattle.check_locals.specs.Tells.{Tells, told as plain_told};
 ghost use Rattle.check_switches.specs.CaseView.{all_ends_view, ends_view};
 
 use check_expressions::expr;
 use check_locals::told;
-use check_types::{Context, Scopes, Typed};
+use check_nodes::{Context, Scopes, Typed};
 use pawn_base::Memory;
 use pawn_tree::{Expr, Range};
 use pawn_verdict::CheckFault;

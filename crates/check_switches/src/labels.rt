@@ -1,16 +1,16 @@
 ghost use Rattle.std.specs.Prelude.{◌≡◌, map, option_map, IfOk};
 ghost use Rattle.pawn_tree.specs.declared.name.At.{At as Token};
-ghost use Rattle.pawn_bodies.specs.Switches as spec;
+ghost use Rattle.types_rules.specs.Switches as spec;
 ghost use Rattle.pawn_verdict.specs.Answers.{Answers};
-ghost use Rattle.check_types.specs.ContextView.{around_view};
-ghost use Rattle.check_types.specs.TypedView.{typed_view};
-ghost use Rattle.check_values.specs.ValueViews.{constant_view};
+ghost use Rattle.check_nodes.specs.ContextView.{around_view};
+ghost use Rattle.check_nodes.specs.TypedView.{typed_view};
+ghost use Rattle.check_expressions.specs.ValueViews.{constant_view};
 ghost use Rattle.check_switches.specs.CaseView.{ends_view, labels_view};
 ghost use Rattle.check_switches.specs.Cased.{label_join};
 
 use super::ends::Ends;
-use check_types::{Context, Typed};
-use check_values::{Constant, constant_rule, constant_warned};
+use check_expressions::{Constant, constant_rule, constant_warned};
+use check_nodes::{Context, Typed};
 use pawn_base::{List, Memory};
 use pawn_tree::At;
 use pawn_verdict::CheckFault;

@@ -3,12 +3,11 @@
 #![tactic(auto)]
 
 mod apart;
+mod case_parts;
 mod ends;
 mod labels;
-mod parts;
 mod switches;
 
-pub use check_locals::CheckFault;
-pub use ends::{AllEnds, Ends, all_ends};
-pub use parts::{CasePart, CaseParts, case_told, no_case, with_case};
+pub use case_parts::{CasePart, CaseParts, case_told, no_case, with_case};
+pub use ends::all_ends;
 pub use switches::switch_told;

@@ -1,2 +1,6 @@
-pub mod CallLaws
+pub mod FaultCountLaws
+mod NumberLaws
+mod ReadCallLaws
 pub mod ReadLaws
+mod ValidLaws
+mod WordLaws

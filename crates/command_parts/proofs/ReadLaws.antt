@@ -9,11 +9,11 @@ use Rattle.amx_ops.specs.declared.amx.Amx.{Amx}
 use Rattle.script_reader.specs.declared.fault.ScriptFault.{ScriptFault}
 use Rattle.script_reader.specs.declared.fault.ScriptFault.TheVariants.{Json, Shape, Range, Memory}
 use Rattle.script_reader.specs.Reading.{ReadsScript}
-use Rattle.pawn_words.specs.declared.stop.Stop.{Stop}
-use Rattle.pawn_words.specs.declared.stop.Stop.TheVariants.{FileFault, NoMemory}
-use Rattle.pawn_files.specs.declared.read.TheConstants.{FILE_LIMIT}
-use Rattle.pawn_files.specs.Unread.{Unread, no_memory}
-use Rattle.pawn_files.specs.ValidFile.{Broken, no_file, invalid_at}
+use Rattle.command_parts.specs.declared.stop.Stop.{Stop}
+use Rattle.command_parts.specs.declared.stop.Stop.TheVariants.{FileFault, NoMemory}
+use Rattle.command_parts.specs.declared.read.TheConstants.{FILE_LIMIT}
+use Rattle.command_parts.specs.Unread.{Unread, no_memory}
+use Rattle.command_parts.specs.ValidFile.{Broken, no_file, invalid_at}
 use Rattle.command_parts.specs.declared.program.Digested.{Digested}
 use Rattle.command_parts.specs.declared.script.TheConstants.{SCRIPT_LIMIT}
 use Rattle.command_parts.specs.ScriptFile.{IsScriptRead, IsScriptNamed, IsScriptOf, IsNoScript}

@@ -1,8 +1,8 @@
 -- The count of faults of files over a call: one more where it answers a fault, else as it was.
 use Rattle.std.specs.Prelude.{◌≡◌, ◌≢◌, ◌⊎◌, ℕ}
 use Rattle.pawn_outside.specs.Rose.{risen}
-use Rattle.pawn_words.specs.declared.status.Status.{Status}
-use Rattle.pawn_words.specs.declared.status.Status.TheVariants.{FileFault, SinkFault}
+use Rattle.command_parts.specs.declared.status.Status.{Status}
+use Rattle.command_parts.specs.declared.status.Status.TheVariants.{FileFault, SinkFault}
 
 -- for files with this count of faults, which don't fail where so, and what the call answers where
 -- they failed

@@ -1,5 +1,12 @@
 pub mod Calls
+pub mod Command
+pub mod Options
 pub mod Program
 pub mod Put
+pub mod Reading
 pub mod ScriptFile
+pub mod Status
+pub mod Stop
 pub mod Told
+pub mod Unread
+pub mod ValidFile

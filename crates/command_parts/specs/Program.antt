@@ -6,11 +6,11 @@ use Rattle.pawn_outside.specs.Held.{Held}
 use Rattle.host_script.specs.declared.script.Script.{Script}
 use Rattle.amx_ops.specs.declared.amx.Amx.{Amx}
 use Rattle.amx_format.specs.Header.{header_of}
-use Rattle.pawn_words.specs.declared.stop.Stop.{Stop}
-use Rattle.pawn_words.specs.declared.stop.Stop.TheVariants.{NoMemory}
-use Rattle.pawn_files.specs.declared.read.TheConstants.{FILE_LIMIT}
-use Rattle.pawn_files.specs.Unread.{IsRead, Unread}
-use Rattle.pawn_files.specs.ValidFile.{IsValidFile, Broken}
+use Rattle.command_parts.specs.declared.stop.Stop.{Stop}
+use Rattle.command_parts.specs.declared.stop.Stop.TheVariants.{NoMemory}
+use Rattle.command_parts.specs.declared.read.TheConstants.{FILE_LIMIT}
+use Rattle.command_parts.specs.Unread.{IsRead, Unread}
+use Rattle.command_parts.specs.ValidFile.{IsValidFile, Broken}
 use Rattle.command_parts.specs.declared.program.Digested.{Digested}
 use Rattle.command_parts.specs.declared.program.Program.{Program}
 use Rattle.command_parts.specs.declared.script.TheConstants.{SCRIPT_LIMIT}

@@ -1,8 +1,8 @@
 -- What is held after a file was to be put.
 use Rattle.std.specs.Prelude.{◌≡◌, ℕ, List, Option, Result, Ok, Err}
 use Rattle.pawn_outside.specs.Held.{Held, with_put, without}
-use Rattle.pawn_words.specs.declared.stop.Stop.{Stop}
-use Rattle.pawn_words.specs.declared.stop.Stop.TheVariants.{FileFault, NoMemory}
+use Rattle.command_parts.specs.declared.stop.Stop.{Stop}
+use Rattle.command_parts.specs.declared.stop.Stop.TheVariants.{FileFault, NoMemory}
 
 -- after a fault nothing is told of that name, and all others are as they were
 pub data NotPut (held after : Option Held) (name : List ℕ) : Stop → Type 0 where

@@ -6,9 +6,9 @@ use Rattle.script_reader.specs.declared.fault.Field.{Field}
 use Rattle.script_reader.specs.declared.fault.ScriptFault.{ScriptFault}
 use Rattle.script_reader.specs.declared.fault.ScriptFault.TheVariants.{Json, Shape, Range, Memory}
 use Rattle.script_reader.specs.Reading.{ReadsScript, number_of}
-use Rattle.pawn_words.specs.declared.stop.Stop.{Stop}
-use Rattle.pawn_words.specs.declared.stop.Stop.TheVariants.{NoScript, BadScript, NoMemory}
-use Rattle.pawn_files.specs.Unread.{IsRead, Unread}
+use Rattle.command_parts.specs.declared.stop.Stop.{Stop}
+use Rattle.command_parts.specs.declared.stop.Stop.TheVariants.{NoScript, BadScript, NoMemory}
+use Rattle.command_parts.specs.Unread.{IsRead, Unread}
 use Rattle.command_parts.specs.declared.script.TheConstants.{SCRIPT_LIMIT}
 
 -- they are read, and mean this

@@ -1,10 +1,10 @@
 -- The status that is answered, by whether a text was written.
 use Rattle.std.specs.Prelude.{◌≡◌, ℕ, List, Result, Ok, Err}
 use Rattle.pawn_outside.specs.declared.fault.SinkFault.{SinkFault}
-use Rattle.pawn_words.specs.declared.status.Status.{Status}
-use Rattle.pawn_words.specs.declared.status.Status.TheVariants as status
-use Rattle.pawn_words.specs.declared.stop.Stop.{Stop}
-use Rattle.pawn_words.specs.Stop.{status_of, line_of}
+use Rattle.command_parts.specs.declared.status.Status.{Status}
+use Rattle.command_parts.specs.declared.status.Status.TheVariants as status
+use Rattle.command_parts.specs.declared.stop.Stop.{Stop}
+use Rattle.command_parts.specs.Stop.{status_of, line_of}
 
 -- whether a text was written
 abbrev pub Told : Type 0

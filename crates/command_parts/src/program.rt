@@ -5,13 +5,14 @@ ghost use Rattle.amx_format.specs.File.{IsFile};
 ghost use Rattle.pawn_outside.specs.OnlyRead.{OnlyRead};
 ghost use Rattle.command_parts.specs.Program.{digest_of, IsFileOf, IsFileRead, IsProgramRead};
 
+use super::read::{FILE_LIMIT, read_bytes};
 use super::script::read_script_file;
+use super::stop::Stop;
+use super::valid::valid_file;
 use amx_format::file_size;
 use amx_image::digest;
 use amx_verify::Verified;
-use pawn_files::{FILE_LIMIT, read_bytes, valid_file};
 use pawn_outside::Files;
-use pawn_words::Stop;
 use script_reader::Script;
 use std::alloc::Global;
 

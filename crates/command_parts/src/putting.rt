@@ -2,8 +2,8 @@ ghost use Rattle.std.specs.Prelude.{◌≡◌, Err};
 ghost use Rattle.command_parts.specs.Calls.{Calls};
 ghost use Rattle.command_parts.specs.Put.{IsPut};
 
+use super::stop::Stop;
 use pawn_outside::{Files, PutAnswer};
-use pawn_words::Stop;
 
 /// Puts a file.
 pub fn put<F: Files>(name: &str, bytes: &[u8], files: &mut F) -> Result<(), Stop>

@@ -3,9 +3,9 @@ ghost use Rattle.host_script.specs.Ranges.{IsScript};
 ghost use Rattle.pawn_outside.specs.OnlyRead.{OnlyRead};
 ghost use Rattle.command_parts.specs.ScriptFile.{IsScriptNamed, IsScriptRead, field_stop, stop_at};
 
-use pawn_files::{SOURCE_LIMIT, read_bytes};
+use super::read::{SOURCE_LIMIT, read_bytes};
+use super::stop::Stop;
 use pawn_outside::Files;
-use pawn_words::Stop;
 use script_reader::{Field, Script, ScriptFault, read_script};
 use std::alloc::Global;
 

@@ -2,8 +2,9 @@ ghost use Rattle.std.specs.Prelude.{◌≡◌};
 ghost use Rattle.pawn_outside.specs.Said.{Said};
 ghost use Rattle.command_parts.specs.Told.{status_told, TellsStop};
 
+use super::status::Status;
+use super::stop::Stop;
 use pawn_outside::{Sink, SinkFault};
-use pawn_words::{Status, Stop};
 
 /// The status to answer, by whether the text was written.
 pub fn told(status: Status, said: Result<(), SinkFault>) -> Status

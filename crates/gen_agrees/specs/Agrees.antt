@@ -5,7 +5,7 @@ use Rattle.std.specs.Prelude.{length, slice_get, option_map}
 use Rattle.host_script.specs.declared.script.Script.{Script}
 use Rattle.host_script.specs.declared.script.Native.{Native}
 use Rattle.host_script.specs.Ranges.{IsScript}
-use Rattle.pawn_program.specs.Program.{Program, Public}
+use Rattle.pawn_meaning.specs.Program.{Program, Public}
 use Rattle.pawn_meaning.specs.Told.{meaning}
 use Rattle.amx_ops.specs.declared.amx.Amx.{Amx}
 use Rattle.amx_ops.specs.Writable.{cells_of, memory_limit}

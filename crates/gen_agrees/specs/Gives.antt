@@ -5,7 +5,7 @@ use Rattle.host_script.specs.declared.script.Script.{Script}
 use Rattle.host_script.specs.declared.event.End.{End}
 use Rattle.host_script.specs.declared.event.End.TheVariants.{Stray}
 use Rattle.host_script.specs.Ranges.{IsScript}
-use Rattle.pawn_program.specs.Program.{Program}
+use Rattle.pawn_meaning.specs.Program.{Program}
 use Rattle.pawn_meaning.specs.Told.{Ended, Told, meaning, events_of}
 use Rattle.amx_ops.specs.declared.amx.Amx.{Amx}
 use Rattle.amx_ops.specs.Runs.{Over_by, Traced}

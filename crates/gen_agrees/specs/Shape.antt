@@ -2,8 +2,8 @@
 use Rattle.std.specs.Prelude.{◌≡◌, ◌≢◌, ◌+◌, ◌≤◌, ℕ, ℤ, pos, negsuc, List, [], ◌∷◌, Option, None}
 use Rattle.std.specs.Prelude.{Some, IfSome, length, map}
 use Rattle.pawn_cells.specs.Cells.{cell_of}
-use Rattle.pawn_program.specs.Program.{Program, Public, Tag}
-use Rattle.pawn_meaning.specs.declared.limits.TheConstants.{DATA_LIMIT}
+use Rattle.pawn_meaning.specs.Program.{Program, Public, Tag}
+use Rattle.pawn_meaning.specs.declared.program_limits.TheConstants.{DATA_LIMIT}
 use Rattle.pawn_meaning.specs.Weight.{weight}
 use Rattle.amx_ops.specs.declared.op.Op.TheVariants.{Halt}
 use Rattle.amx_ops.specs.declared.amx.Amx.{Amx}

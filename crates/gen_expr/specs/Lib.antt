@@ -1,3 +1,6 @@
-pub mod CodeMeans
-pub mod ExprCode
-pub mod Fine
+pub mod Built
+pub mod ChainItems
+pub mod Filled
+pub mod Holes
+pub mod Opened
+pub mod Standing

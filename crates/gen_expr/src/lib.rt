@@ -1,6 +1,21 @@
-//! The code of each expression of a typed program, and that it does what the expression means.
+//! Code of expressions: instructions put one behind another, and each node's.
 #![tactic(auto)]
 
-mod laws;
+mod access;
+mod arguments;
+mod builder;
+mod calls;
+mod chain;
+mod counts;
+mod emit;
+mod emitter;
+mod ends;
+pub mod frame;
+pub mod jumps;
+pub mod operators;
+pub mod put;
+mod reach;
+mod steps;
 
-pub use laws::code_means;
+pub use builder::Builder;
+pub use emitter::expression;

@@ -1,11 +1,11 @@
 -- A body, by its parts.
 use Rattle.std.proofs.Common.{◌≡◌, ◌*◌, ℕ, List, [], length, ap, ◌∙◌}
-use Rattle.pawn_program.specs.Program.{Slot, Body, Program}
+use Rattle.pawn_meaning.specs.Program.{Slot, Body, Program}
 use Rattle.gen_sim.specs.Here.{Here}
-use Rattle.gen_stmt.specs.StmtCode.{stmt_items}
-use Rattle.gen_program.specs.BodyCode.{no_exits, body_here, end_code, body_items}
-use Rattle.gen_builder.specs.Built.{Built, with_items}
-use Rattle.gen_emit.proofs.GrowLaws.{then_grow}
+use Rattle.gen_laws.specs.StmtCode.{stmt_items}
+use Rattle.gen_laws.specs.BodyCode.{no_exits, body_here, end_code, body_items}
+use Rattle.gen_expr.specs.Built.{Built, with_items}
+use Rattle.gen_expr.proofs.GrowLaws.{then_grow}
 
 -- where a statement stands, by the slots and how many of them are parameters
 abbrev pub here_of : Program → List Slot → ℕ → Here

@@ -1,6 +1,12 @@
+pub mod AddressLaws
 pub mod BodyLaws
+pub mod DataLaws
+pub mod FewLaws
+pub mod FileLaws
+pub mod LinkLaws
 pub mod PairLaws
 pub mod PartLaws
 pub mod RouteLaws
 pub mod RowLaws
 pub mod WholeLaws
+pub mod WritableLaws

@@ -1,14 +1,14 @@
 -- Bodies and functions are such rows.
 use Rattle.std.proofs.Common.{◌≡◌, ℕ, zero, suc, List, [], ◌∷◌, ◌++◌, map, refl, ap}
-use Rattle.pawn_program.specs.Program.{Slot, Program}
-use Rattle.pawn_program.specs.View.{body_view, function_view}
-use Rattle.pawn_program.specs.declared.program.Body.{Body}
-use Rattle.pawn_program.specs.declared.program.Function.{Function}
+use Rattle.pawn_meaning.specs.Program.{Slot, Program}
+use Rattle.pawn_meaning.specs.View.{body_view, function_view}
+use Rattle.pawn_meaning.specs.declared.program.Body.{Body}
+use Rattle.pawn_meaning.specs.declared.program.Function.{Function}
 use Rattle.gen_sim.specs.Items.{Item, past}
-use Rattle.gen_program.specs.BodyCode.{body_items}
-use Rattle.gen_program.specs.FunctionCode.{function_items}
-use Rattle.gen_program.specs.RouteCode.{bodies_items, body_begin}
-use Rattle.gen_program.specs.FileCode.{functions_items, function_begin}
+use Rattle.gen_laws.specs.BodyCode.{body_items}
+use Rattle.gen_laws.specs.FunctionCode.{function_items}
+use Rattle.gen_laws.specs.RouteCode.{bodies_items, body_begin}
+use Rattle.gen_laws.specs.FileCode.{functions_items, function_begin}
 use Rattle.gen_module.specs.Rows.{row_items, row_begin}
 
 module _ (program : Program) where

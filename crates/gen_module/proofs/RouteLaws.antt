@@ -2,20 +2,20 @@
 use Rattle.std.proofs.Common.{◌≡◌, ◌+◌, ◌*◌, ℕ, ℤ, pos, List, [], ◌∷◌, ◌++◌, length, map, replicate}
 use Rattle.std.proofs.Common.{refl, sym, ap, ◌∙◌, arith, Result, Ok, Err, IfOk}
 use Rattle.std.proofs.lemmas.List.{length-replicate}
-use Rattle.pawn_program.specs.Program.{Function, Route, Program}
+use Rattle.pawn_meaning.specs.Program.{Function, Route, Program}
 use Rattle.amx_ops.specs.declared.op.Op.TheVariants as op
 use Rattle.gen_sim.specs.Items.{Item}
 use Rattle.gen_sim.specs.SimpleCode.{alone, taking}
 use Rattle.gen_sim.specs.StateCode.{automaton_cell}
-use Rattle.gen_stmt.specs.SwitchCode.{table_item}
-use Rattle.gen_program.specs.RouteCode.{bodies_items, body_begin, route_table, leads_to, fail_at}
-use Rattle.gen_program.specs.RouteCode.{bodies_at, address_of, route_items}
-use Rattle.gen_builder.specs.Built.{Built, with_items}
-use Rattle.gen_emit.specs.Filled.{filled}
-use Rattle.gen_emit.proofs.GrowLaws.{both_grow, then_grow, next_at}
-use Rattle.gen_case_tables.specs.Over.{over}
-use Rattle.gen_switches.proofs.SwitchLaws.{table_over}
-use Rattle.gen_files.specs.Starts.{Finds}
+use Rattle.gen_laws.specs.SwitchCode.{table_item}
+use Rattle.gen_laws.specs.RouteCode.{bodies_items, body_begin, route_table, leads_to, fail_at}
+use Rattle.gen_laws.specs.RouteCode.{bodies_at, address_of, route_items}
+use Rattle.gen_expr.specs.Built.{Built, with_items}
+use Rattle.gen_expr.specs.Filled.{filled}
+use Rattle.gen_expr.proofs.GrowLaws.{both_grow, then_grow, next_at}
+use Rattle.gen_stmt.specs.Over.{over}
+use Rattle.gen_stmt.proofs.SwitchLaws.{table_over}
+use Rattle.gen_module.specs.Starts.{Finds}
 use Rattle.gen_module.proofs.PairLaws.{table_count}
 
 -- what is known of an answer, by what was known of it

@@ -4,8 +4,8 @@ use Rattle.std.proofs.Common.{◌∷◌, ◌++◌, Some, length, drop, get_or, s
 use Rattle.std.proofs.Common.{ap, ◌∙◌, arith, length-append}
 use Rattle.std.proofs.Math.Seq.{drop-cons}
 use Rattle.gen_sim.specs.Items.{Item, past}
-use Rattle.gen_builder.specs.Built.{Built, with_items}
-use Rattle.gen_emit.proofs.GrowLaws.{both_grow, none_grow, next_at}
+use Rattle.gen_expr.specs.Built.{Built, with_items}
+use Rattle.gen_expr.proofs.GrowLaws.{both_grow, none_grow, next_at}
 use Rattle.gen_module.specs.Rows.{row_items, row_begin}
 
 -- what is read from a list with an entry more

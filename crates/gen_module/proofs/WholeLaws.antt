@@ -1,14 +1,14 @@
 -- A statement around which no loop is.
 use Rattle.std.proofs.Common.{◌≡◌, ◌*◌, ℕ, pos, List, [], length, ap, subst, ◌∙◌}
-use Rattle.pawn_program.specs.Program.{Stmt}
-use Rattle.gen_stmt.specs.StmtCode.{stmt_items}
-use Rattle.gen_program.specs.BodyCode.{no_exits}
-use Rattle.gen_builder.specs.Built.{Built, with_items}
-use Rattle.gen_draft.specs.declared.draft.Draft.{Draft}
-use Rattle.gen_draft.specs.Grown.{Grown}
-use Rattle.gen_draft.specs.Led.{all_led}
-use Rattle.gen_slots.specs.declared.place.Place.{Place}
-use Rattle.gen_statements.specs.Standing.{here_in}
+use Rattle.pawn_meaning.specs.Program.{Stmt}
+use Rattle.gen_laws.specs.StmtCode.{stmt_items}
+use Rattle.gen_laws.specs.BodyCode.{no_exits}
+use Rattle.gen_expr.specs.Built.{Built, with_items}
+use Rattle.gen_stmt.specs.declared.draft.Draft.{Draft}
+use Rattle.gen_stmt.specs.Grown.{Grown}
+use Rattle.gen_stmt.specs.Led.{all_led}
+use Rattle.gen_stmt.specs.declared.place.Place.{Place}
+use Rattle.gen_stmt.specs.Standing.{here_in}
 use Rattle.gen_module.specs.First.{first_here}
 
 at_first : (place : Place) (code : Built) (r : Draft) (s : Stmt) (done : Built)

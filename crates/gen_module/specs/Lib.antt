@@ -1,3 +1,9 @@
+pub mod Data
+pub mod Few
 pub mod First
+pub mod HasAddresses
+pub mod Linked
+pub mod Records
 pub mod Rows
 pub mod Source
+pub mod Starts

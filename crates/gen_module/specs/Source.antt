@@ -1,7 +1,7 @@
 -- A program whose data stand where they are said to.
-use Rattle.pawn_program.specs.Program.{Program}
-use Rattle.pawn_program.specs.View.{program_view}
-use Rattle.gen_data.specs.HasAddresses.{HasAddresses}
+use Rattle.pawn_meaning.specs.Program.{Program}
+use Rattle.pawn_meaning.specs.View.{program_view}
+use Rattle.gen_module.specs.HasAddresses.{HasAddresses}
 use Rattle.gen_module.specs.declared.source.Source.{Source}
 
 -- the program as its specification has it

@@ -1,27 +1,27 @@
 ghost use Rattle.std.specs.Prelude.{◌≡◌, ◌*◌, [], length, map, IfOk};
-ghost use Rattle.pawn_program.specs.View.{body_view, program_view, slot_view, stmt_view};
+ghost use Rattle.pawn_meaning.specs.View.{body_view, program_view, slot_view, stmt_view};
 ghost use Rattle.gen_sim.specs.Pieces.{total, objects_from};
-ghost use Rattle.gen_stmt.specs.StmtCode.{stmt_items};
-ghost use Rattle.gen_program.specs.BodyCode.{body_items, single_items};
-ghost use Rattle.gen_program.specs.RouteCode.{bodies_items, body_begin};
-ghost use Rattle.gen_builder.specs.Built.{with_items};
-ghost use Rattle.gen_files.specs.Starts.{Finds};
-ghost use Rattle.gen_slots.specs.Keeps.{AreObjects};
+ghost use Rattle.gen_laws.specs.StmtCode.{stmt_items};
+ghost use Rattle.gen_laws.specs.BodyCode.{body_items, single_items};
+ghost use Rattle.gen_laws.specs.RouteCode.{bodies_items, body_begin};
+ghost use Rattle.gen_expr.specs.Built.{with_items};
+ghost use Rattle.gen_module.specs.Starts.{Finds};
+ghost use Rattle.gen_stmt.specs.Keeps.{AreObjects};
 ghost use Rattle.gen_module.specs.First.{first_here};
 ghost use Rattle.gen_module.specs.Source.{IsSource, program_of};
 
 use super::source::{Source, count_of};
 use amx_ops::Op;
-use gen_builder::Builder;
-use gen_draft::draft::Draft;
-use gen_draft::exits::lead_out;
-use gen_emit::operators::two;
-use gen_emit::put::address;
-use gen_slots::locals::Locals;
-use gen_slots::place::Place;
-use gen_statements::statement::statement;
+use gen_expr::Builder;
+use gen_expr::operators::two;
+use gen_expr::put::address;
+use gen_stmt::draft::Draft;
+use gen_stmt::exits::lead_out;
+use gen_stmt::locals::Locals;
+use gen_stmt::place::Place;
+use gen_stmt::statement::statement;
 use pawn_base::Memory;
-use pawn_program::{Body, Slot, Stmt};
+use pawn_meaning::{Body, Slot, Stmt};
 
 /// The statement of a body. No loop is around it, so it has no jump to an exit.
 fn whole(s: &Stmt, place: &Place<'_>, code: Builder) -> Result<Builder, Memory>

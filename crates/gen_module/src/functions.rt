@@ -1,18 +1,18 @@
 ghost use Rattle.std.specs.Prelude.{◌≡◌, ◌*◌, length, map, IfOk};
-ghost use Rattle.pawn_program.specs.View.{function_view};
-ghost use Rattle.gen_program.specs.FunctionCode.{function_items};
-ghost use Rattle.gen_builder.specs.Built.{with_items};
-ghost use Rattle.gen_program.specs.FileCode.{functions_items, function_begin};
-ghost use Rattle.gen_files.specs.Starts.{Finds};
+ghost use Rattle.pawn_meaning.specs.View.{function_view};
+ghost use Rattle.gen_laws.specs.FunctionCode.{function_items};
+ghost use Rattle.gen_expr.specs.Built.{with_items};
+ghost use Rattle.gen_laws.specs.FileCode.{functions_items, function_begin};
+ghost use Rattle.gen_module.specs.Starts.{Finds};
 ghost use Rattle.gen_module.specs.Source.{IsSource, program_of};
 
 use super::bodies::single;
 use super::routes::routed;
 use super::source::Source;
-use gen_builder::Builder;
-use gen_emit::put::address;
+use gen_expr::Builder;
+use gen_expr::put::address;
 use pawn_base::Memory;
-use pawn_program::Function;
+use pawn_meaning::Function;
 
 /// A function. One without a route has one body.
 fn function(function: &Function, source: &Source<'_>, b: Builder) -> Result<Builder, Memory>

@@ -1,19 +1,19 @@
 ghost use Rattle.std.specs.Prelude.{◌≡◌, IfOk};
-ghost use Rattle.pawn_program.specs.Names.{HasNames};
-ghost use Rattle.pawn_program.specs.Valid.{IsValid};
-ghost use Rattle.pawn_program.specs.View.{program_view};
+ghost use Rattle.pawn_meaning.specs.ProgramNames.{HasNames};
+ghost use Rattle.pawn_meaning.specs.Valid.{IsValid};
+ghost use Rattle.pawn_meaning.specs.View.{program_view};
 ghost use Rattle.pawn_meaning.specs.Limits.{IsWithinLimits};
 ghost use Rattle.gen_agrees.specs.Agrees.{Agrees};
-ghost use Rattle.gen_program.specs.FileOf.{file_of};
+ghost use Rattle.gen_laws.specs.FileOf.{file_of};
 
+use super::addresses::object_addresses;
+use super::files::file;
 use super::functions::functions;
 use super::source::Source;
 use amx_ops::{Amx, Op};
-use gen_builder::Builder;
-use gen_data::object_addresses;
-use gen_files::file;
+use gen_expr::Builder;
 use pawn_base::Memory;
-use pawn_program::Program;
+use pawn_meaning::Program;
 use std::alloc::Global;
 
 /// The file of a program. Of a valid program within the limits, with names as those of a source,

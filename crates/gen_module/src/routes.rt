@@ -1,28 +1,28 @@
 ghost use Rattle.std.specs.Prelude.{◌≡◌, ◌+◌, ◌*◌, ◌^◌, ◌<◌, ◌≤◌, [], ◌∷◌, ℕ, pos, length};
 ghost use Rattle.std.specs.Prelude.{replicate, IfOk};
-ghost use Rattle.pawn_program.specs.View.{function_view, route_view};
+ghost use Rattle.pawn_meaning.specs.View.{function_view, route_view};
 ghost use Rattle.gen_sim.specs.SimpleCode.{alone, taking};
 ghost use Rattle.gen_sim.specs.StateCode.{automaton_cell};
-ghost use Rattle.gen_stmt.specs.SwitchCode.{table_item};
-ghost use Rattle.gen_program.specs.RouteCode.{route_items, route_table, leads_to};
-ghost use Rattle.gen_builder.specs.Built.{with_items};
-ghost use Rattle.gen_case_tables.specs.Over.{over};
-ghost use Rattle.gen_files.specs.Starts.{Finds};
+ghost use Rattle.gen_laws.specs.SwitchCode.{table_item};
+ghost use Rattle.gen_laws.specs.RouteCode.{route_items, route_table, leads_to};
+ghost use Rattle.gen_expr.specs.Built.{with_items};
+ghost use Rattle.gen_stmt.specs.Over.{over};
+ghost use Rattle.gen_module.specs.Starts.{Finds};
 ghost use Rattle.gen_module.specs.Source.{IsSource, program_of};
 
 use super::bodies::bodies;
 use super::source::{Source, count_of, state_address};
+use super::starts::start_at;
 use amx_ops::Op;
-use gen_builder::Builder;
-use gen_case_tables::table::table;
-use gen_emit::jumps::lead;
-use gen_emit::put::{address, cell_of};
-use gen_files::start_at;
+use gen_expr::Builder;
+use gen_expr::jumps::lead;
+use gen_expr::put::{address, cell_of};
+use gen_stmt::table::table;
 use pawn_base::Memory;
-use pawn_program::{Function, Route};
+use pawn_meaning::{Function, Route};
 
 /// The beginning of a function with a route: PROC, and the automaton's cell to PRI.
-#[tactic(auto, using(gen_emit::proofs::GrowLaws::then_grow))]
+#[tactic(auto, using(gen_expr::proofs::GrowLaws::then_grow))]
 fn begun(route: &Route, source: &Source<'_>, b: Builder) -> Result<Builder, Memory>
     requires { IsSource source.now }
     ensures { IfOk result (λ r. r ≡ with_items (alone Op.Proc
@@ -36,7 +36,7 @@ fn begun(route: &Route, source: &Source<'_>, b: Builder) -> Result<Builder, Memo
 }
 
 /// SWITCH, and its table for so many pairs, which is 0 until it is written.
-#[tactic(auto, using(gen_emit::proofs::GrowLaws::then_grow))]
+#[tactic(auto, using(gen_expr::proofs::GrowLaws::then_grow))]
 fn switched(count: u32, b: Builder) -> Result<Builder, Memory>
     requires { count < 2 ^ 28 }
     ensures { IfOk result (λ r. r ≡ with_items (taking Op.Switch (pos (4 * length b.code + 8))

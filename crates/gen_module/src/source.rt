@@ -2,10 +2,10 @@ ghost use Rattle.std.specs.Prelude.{◌≡◌, ◌+◌, ◌*◌, pos, length, If
 ghost use Rattle.gen_sim.specs.StateCode.{automaton_cell};
 ghost use Rattle.gen_module.specs.Source.{IsSource, program_of};
 
-use gen_data::Addresses;
-use gen_emit::put::cell_of;
+use super::addresses::Addresses;
+use gen_expr::put::cell_of;
 use pawn_base::Memory;
-use pawn_program::Program;
+use pawn_meaning::Program;
 use std::alloc::Global;
 
 /// A program, where its data stand, and where memory comes from.

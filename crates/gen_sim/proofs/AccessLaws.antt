@@ -2,8 +2,8 @@
 use Rattle.std.proofs.Common.{◌≡◌, ◌+◌, ◌*◌, ◌-◌, ◌<◌, ℕ, ℤ, pos, List, [], ◌∷◌, length, sym, subst}
 use Rattle.std.proofs.Common.{◌∙◌, arith}
 use Rattle.pawn_cells.specs.Cells.{IsCell}
-use Rattle.pawn_program.specs.Program.{Scalar, Global, Own, Element, Char}
-use Rattle.pawn_program.specs.Program as node
+use Rattle.pawn_meaning.specs.Program.{Scalar, Global, Own, Element, Char}
+use Rattle.pawn_meaning.specs.Program as node
 use Rattle.pawn_meaning.specs.Memory.{Place, Cell, Character, read, write}
 use Rattle.pawn_meaning.specs.World.{World}
 use Rattle.pawn_meaning.specs.Run.{Done, give, look, change}
@@ -77,6 +77,18 @@ module _ (x : Site) {v : View} {pending : List ℤ} where
   place_loads (node.Through s) at k p u t a l = load_cell at k p u t a l
   place_loads (Element b e) at k p u t a l = load_cell at k p u t a l
   place_loads (Char b e) at k p u t a l = load_character at k p u t a l
+
+  -- so with the address in PRI
+  pub loads_at : (s : Scalar) (at : Place) → OfKind s at → (address : ℤ)
+      → IsAddress x.program x.room v at address → (p : ℕ) (u : World) (t : Config)
+      → Stands x.program x.room v pending p u t → t.state.pri ≡ address → Lies x p (load_code s)
+      → DoesAt x (length (item_cells (load_code s))) u t (look (read at) u)
+      (Loaded x v pending (past p (load_code s)) t.state.alt)
+  loads_at s at kind address is p u t a pri l =
+      place_loads s at kind p u t (record {
+        stands = a;
+        address = subst (λ z. IsAddress x.program x.room v at z) (sym pri) is;
+      }) l
 
   -- ---- stores
 

@@ -6,13 +6,14 @@ use Rattle.pawn_cells.specs.declared.operator.Operator.{Operator}
 use Rattle.pawn_cells.specs.Cells.{IsCell}
 use Rattle.pawn_cells.specs.Operators.{binary}
 use Rattle.host_script.specs.declared.event.End.TheVariants as end
-use Rattle.pawn_program.specs.Program.{Scalar, Expr, Read, Assign, Update}
-use Rattle.pawn_program.specs.Scope.{Scope}
+use Rattle.pawn_meaning.specs.Program.{Scalar, Expr, Read, Assign, Update}
+use Rattle.pawn_meaning.specs.Scope.{Scope}
 use Rattle.pawn_meaning.specs.Memory.{Place, read, write}
 use Rattle.pawn_meaning.specs.World.{World}
 use Rattle.pawn_meaning.specs.Run.{Run, ◌>>=◌, give, or_stop, look, change}
 use Rattle.pawn_meaning.specs.Later.{Grows}
 use Rattle.pawn_meaning.specs.Meaning.{place, value}
+use Rattle.pawn_meaning.specs.Need.{load, place_load}
 use Rattle.pawn_meaning.proofs.Grows.{after_grows, give_grows, or_stop_grows, look_grows}
 use Rattle.pawn_meaning.proofs.Grows.{change_grows}
 use Rattle.amx_ops.specs.declared.op.Op.TheVariants as op
@@ -21,19 +22,19 @@ use Rattle.amx_ops.specs.Effects.{at_next}
 use Rattle.amx_ops.specs.Moves.{Config}
 use Rattle.gen_sim.specs.View.{View, kept, used}
 use Rattle.gen_sim.specs.Stands.{Stands, With}
-use Rattle.gen_sim.specs.Site.{Site, DoesAt, scene_at}
+use Rattle.gen_sim.specs.Site.{Site, IsSite, DoesAt, scene_at}
 use Rattle.gen_sim.specs.Items.{Item, item_cells, past, with}
 use Rattle.gen_sim.specs.Results.{IsAddress, PlaceAt}
-use Rattle.gen_sim.specs.Code.{with_turns}
+use Rattle.gen_sim.specs.Code.{CallsWithin, with_turns}
+use Rattle.gen_sim.specs.Fits.{Fits}
 use Rattle.gen_sim.specs.Contract.{ValueCode, PlaceCode}
 use Rattle.gen_sim.specs.Lies.{Lies}
-use Rattle.gen_sim.specs.SimpleCode.{alone, operator_code}
+use Rattle.gen_sim.specs.SimpleCode.{alone, both_code, operator_code}
 use Rattle.gen_sim.specs.AccessCode.{load_code, store_code, read_code, assign_code, changed_code}
 use Rattle.gen_sim.specs.AccessCode.{update_code}
 use Rattle.gen_sim.proofs.ItemSteps.{next_lies, item_sets, item_pushes, item_pops_alt}
-use Rattle.gen_sim.proofs.NodesPartLaws.{nodes_of, gives_of, does_as, then_items, both_does}
+use Rattle.gen_sim.proofs.NodesPartLaws.{gives_of, does_as, then_items, second_at, last_at, with_value}
 use Rattle.gen_sim.proofs.OperatorLaws.{operator_does}
-use Rattle.gen_sim.proofs.SimpleNodes.{value_leaves}
 use Rattle.gen_sim.proofs.KindLaws.{OfKind, place_kind, known_does}
 use Rattle.gen_sim.proofs.AccessLaws.{AddressOf, Loaded, Stored, place_loads, place_stores}
 use Rattle.gen_sim.proofs.AccessLaws.{place_leaves}
@@ -136,6 +137,37 @@ module _ (x : Site) {v : View} {pending : List ℤ} (s : Scalar) (at : Place) (k
 -- ---- nodes
 
 module _ (scope : Scope) (begin : ℕ) where
+  -- a place's address waits while a value is made, and what is done with both
+  module _ (p : Scalar) (e : Expr) (address items last : List Item)
+      (one : PlaceCode scope p begin address) (two : ValueCode scope e (second_at begin address) items)
+      (x : Site) (site : IsSite x) (same : x.program ≡ scope.program) (turns : ℕ)
+      (calls : CallsWithin x turns) {v : View} (fits : Fits x.program x.room scope v)
+      (pending : List ℤ) where
+    pub place_with_value : used x.program x.room v pending + place_load p
+        ≤ kept x.program x.room + sum v.needs
+        → used x.program x.room v pending + (1 + load e) ≤ kept x.program x.room + sum v.needs
+        → (w : World) (c : Config) → Lies x begin (both_code address items last)
+        → Stands x.program x.room v pending begin w c → (go : Place → ℤ → Run ℤ)
+        → ((at : Place) (y : ℤ) → Grows (go at y))
+        → (Lies x (last_at begin address items) last → (at : Place) (y from : ℤ)
+        → AddressOf x v p at from → IsCell from → IsCell y → (u : World) (t : Config)
+        → Stands x.program x.room v pending (last_at begin address items) u t → t.state.alt ≡ from
+        → t.state.pri ≡ y
+        → DoesAt x (length (item_cells last)) u t (go at y u)
+        (With x.program x.room v pending (past (last_at begin address items) last)))
+        → DoesAt x (length (item_cells (both_code address items last))) w c
+        ((place (scene_at x) (with_turns x turns) p
+        >>= (λ at. value (scene_at x) (with_turns x turns) e >>= go at)) w)
+        (With x.program x.room v pending (past begin (both_code address items last)))
+    place_with_value placed valued w c lies s go grows three =
+        with_value scope begin e address items last two x site same turns calls fits pending valued w
+        lies (place (scene_at x) (with_turns x turns) p w) go
+        (λ at u t. PlaceAt x.program x.room v pending (past begin address) at u t × OfKind p at)
+        (AddressOf x v p) grows
+        (λ l. placed_does x scope p (length (item_cells address)) (past begin address) turns w
+        (one.does x site same turns calls v fits l.lie l.starts pending placed w c s))
+        (λ at u t a. place_leaves x p at (past begin address) u t a.0 a.1) three
+
   pub read_does : (p : Scalar) (items : List Item) → PlaceCode scope p begin items
       → ValueCode scope (Read p) begin (read_code p items)
   read_does p items part = record {
@@ -160,27 +192,11 @@ module _ (scope : Scope) (begin : ℕ) where
       → ValueCode scope (Assign p e) begin (assign_code p address items)
   assign_does p e address items one two = record {
     does = λ x site same turns calls v fits lie starts pending deep w c s.
-        let fewer = with_turns x turns in
-        both_does x begin address items (store_code p) (value (scene_at x) fewer e)
-        (λ at y. change (write at y) >>= (λ _. give y))
-        (λ at u t. PlaceAt x.program x.room v pending (past begin address) at u t × OfKind p at)
-        (AddressOf x v p)
-        (λ first y u t. With x.program x.room v (first ∷ pending)
-        (past (past begin address + 4) items) y u t) (λ y z. z ≡ y)
-        (λ q. With x.program x.room v pending q) w (record { lie = lie; starts = starts })
-        (place (scene_at x) fewer p w) (omega (arith, deep))
-        ((nodes_of x turns).values e) (λ at y. after_grows (change_grows (write at y))
-        (λ _. give_grows y))
-        (λ l. placed_does x scope p (length (item_cells address)) (past begin address) turns w
-        (one.does x site same turns calls v fits l.lie l.starts pending
-        (omega (arith, deep)) w c s))
-        (λ at u t a. place_leaves x p at (past begin address) u t a.0 a.1)
-        (λ l first u t a. two.does x site same turns calls v fits l.lie l.starts (first ∷ pending)
-        (omega (arith, deep)) u t a)
-        (λ first y u t a. value_leaves x a)
-        (λ l at y from z a fa z_is fz u t b alt pri.
-        storing_does x p at a.1 from a.0 fa y (subst (λ n. IsCell n) z_is fz) _ u t b alt
-        (pri ∙ z_is) l);
+        place_with_value p e address items (store_code p) one two x site same turns calls fits pending
+        (omega (arith, deep)) (omega (arith, deep)) w c (record { lie = lie; starts = starts }) s
+        storing storing_grows
+        (λ l at y from a fa fy u t b alt pri.
+        storing_does x p at a.1 from a.0 fa y fy _ u t b alt pri l);
   }
 
   pub update_does : (p : Scalar) (o : Operator) (e : Expr) (address items : List Item)
@@ -189,33 +205,16 @@ module _ (scope : Scope) (begin : ℕ) where
       → ValueCode scope (Update p o e) begin (update_code p address items (operator_code o))
   update_does p o e address items one two = record {
     does = λ x site same turns calls v fits lie starts pending deep w c s.
-        let fewer = with_turns x turns in
         let make : ℤ → ℤ → Run ℤ = λ a y. or_stop (binary o a y) (end.Error (pos 11)) in
-        both_does x begin address items (changed_code p (operator_code o))
-        (value (scene_at x) fewer e)
-        (λ at y. look (read at) >>= (λ a. make a y
-        >>= (λ z. change (write at z) >>= (λ _. give z))))
-        (λ at u t. PlaceAt x.program x.room v pending (past begin address) at u t × OfKind p at)
-        (AddressOf x v p)
-        (λ first y u t. With x.program x.room v (first ∷ pending)
-        (past (past begin address + 4) items) y u t) (λ y z. z ≡ y)
-        (λ q. With x.program x.room v pending q) w (record { lie = lie; starts = starts })
-        (place (scene_at x) fewer p w) (omega (arith, deep))
-        ((nodes_of x turns).values e)
+        place_with_value p e address items (changed_code p (operator_code o)) one two x site same turns
+        calls fits pending (omega (arith, deep)) (omega (arith, deep)) w c
+        (record { lie = lie; starts = starts }) s
+        (λ at y. look (read at) >>= (λ a. make a y >>= storing at))
         (λ at y. after_grows (look_grows (read at))
-        (λ a. after_grows (or_stop_grows (binary o a y) (end.Error (pos 11)))
-        (λ z. after_grows (change_grows (write at z)) (λ _. give_grows z))))
-        (λ l. placed_does x scope p (length (item_cells address)) (past begin address) turns w
-        (one.does x site same turns calls v fits l.lie l.starts pending
-        (omega (arith, deep)) w c s))
-        (λ at u t a. place_leaves x p at (past begin address) u t a.0 a.1)
-        (λ l first u t a. two.does x site same turns calls v fits l.lie l.starts (first ∷ pending)
-        (omega (arith, deep)) u t a)
-        (λ first y u t a. value_leaves x a)
-        (λ l at y from z a fa z_is fz u t b alt pri.
-        let fy = subst (λ n. IsCell n) z_is fz in
+        (λ a. after_grows (or_stop_grows (binary o a y) (end.Error (pos 11))) (storing_grows at)))
+        (λ l at y from a fa fy u t b alt pri.
         changed_does x p at a.1 from a.0 fa (operator_code o) make
         (λ i j. or_stop_grows (binary o i j) (end.Error (pos 11))) y fy
         (λ i fi q j n h k alt2 pri2. operator_does x i y o fi fy q h k pri2 alt2 j)
-        (omega (arith, deep)) _ u t b alt (pri ∙ z_is) l);
+        (omega (arith, deep)) _ u t b alt pri l);
   }

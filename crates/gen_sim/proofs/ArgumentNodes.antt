@@ -1,12 +1,12 @@
 -- Arguments: each one's code puts what it means on the stack, and the others stay.
 use Rattle.std.proofs.Common.{◌≡◌, ◌+◌, ◌*◌, ◌≤◌, ℕ, ℤ, pos, List, [], ◌∷◌, ◌++◌, Some, length, sum}
 use Rattle.std.proofs.Common.{refl, sym, ap, subst, ◌∙◌, arith, length-append}
-use Rattle.pawn_program.specs.Program.{Slot, ScalarSlot, ReferenceSlot, ArraySlot, OpenSlot, Scalar}
-use Rattle.pawn_program.specs.Program.{Global, Own, Element, Char, Array, Expr, Arg, Ref, Whole}
-use Rattle.pawn_program.specs.Program.{Temp, Args, no_args, then_arg}
-use Rattle.pawn_program.specs.Program as node
-use Rattle.pawn_program.specs.Scope.{Scope, Extent, extent, known_extent, HasInner}
-use Rattle.pawn_program.specs.ValidExprs.{IsNoChar, ArgAgrees}
+use Rattle.pawn_meaning.specs.Program.{Slot, ScalarSlot, ReferenceSlot, ArraySlot, OpenSlot, Scalar}
+use Rattle.pawn_meaning.specs.Program.{Global, Own, Element, Char, Array, Expr, Arg, Ref, Whole}
+use Rattle.pawn_meaning.specs.Program.{Temp, Args, no_args, then_arg}
+use Rattle.pawn_meaning.specs.Program as node
+use Rattle.pawn_meaning.specs.Scope.{Scope, Extent, extent, known_extent, HasInner}
+use Rattle.pawn_meaning.specs.ValidExprs.{IsNoChar, ArgAgrees}
 use Rattle.pawn_meaning.specs.Memory.{Place, Cell, Character, Reference}
 use Rattle.pawn_meaning.specs.Memory as memory
 use Rattle.pawn_meaning.specs.World.{World}

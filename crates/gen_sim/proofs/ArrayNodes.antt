@@ -3,11 +3,11 @@
 use Rattle.std.proofs.Common.{◌≡◌, ◌+◌, ◌*◌, ◌<◌, ℕ, ℤ, pos, List, [], ◌∷◌, Option, None, Some}
 use Rattle.std.proofs.Common.{Bool, true, false, slice_get, refl, sym, ap, subst, ◌∙◌, arith}
 use Rattle.pawn_cells.specs.Cells.{cell_of}
-use Rattle.pawn_program.specs.Program.{Slot, ScalarSlot, ReferenceSlot, ArraySlot, OpenSlot}
-use Rattle.pawn_program.specs.Program.{StaticObject, SlotArray, ParamArray}
-use Rattle.pawn_program.specs.Program as node
-use Rattle.pawn_program.specs.Scope.{Scope, Extent, IsMade, known_extent, object_extent}
-use Rattle.pawn_program.specs.Scope.{slot_extent, param_extent}
+use Rattle.pawn_meaning.specs.Program.{Slot, ScalarSlot, ReferenceSlot, ArraySlot, OpenSlot}
+use Rattle.pawn_meaning.specs.Program.{StaticObject, SlotArray, ParamArray}
+use Rattle.pawn_meaning.specs.Program as node
+use Rattle.pawn_meaning.specs.Scope.{Scope, Extent, IsMade, known_extent, object_extent}
+use Rattle.pawn_meaning.specs.Scope.{slot_extent, param_extent}
 use Rattle.pawn_meaning.specs.Memory.{Name, Static, Local, Reference, through, whole_of}
 use Rattle.pawn_meaning.specs.World.{World}
 use Rattle.pawn_meaning.specs.Run.{give, look}

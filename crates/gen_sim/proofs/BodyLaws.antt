@@ -4,7 +4,7 @@ use Rattle.std.proofs.Common.{◌≡◌, ◌+◌, ◌*◌, ◌-◌, ◌^◌, ◌
 use Rattle.std.proofs.Common.{[], ◌∷◌, ◌++◌, Option, Some, Bool, true, false, length, replicate}
 use Rattle.std.proofs.Common.{sum, nat_lt, refl, ap, subst, ◌∙◌, arith, length-append}
 use Rattle.host_script.specs.declared.event.End.TheVariants as end
-use Rattle.pawn_program.specs.Program.{Stmt, Body, Function}
+use Rattle.pawn_meaning.specs.Program.{Stmt, Body, Function}
 use Rattle.pawn_meaning.specs.Memory.{Frame, Holds, Unmade}
 use Rattle.pawn_meaning.specs.World.{World, entered}
 use Rattle.pawn_meaning.specs.Run.{Run, ◌>>=◌, then_do, give, leave, turn, with_frame}
@@ -29,6 +29,7 @@ use Rattle.gen_sim.specs.Next.{HoldArguments, in_call}
 use Rattle.gen_sim.specs.Stands.{Stands, With}
 use Rattle.gen_sim.proofs.MemLaws.{same_mem}
 use Rattle.gen_sim.proofs.ChangeLaws.{pushed_on, push_goes, push_errs, pushed_mem}
+use Rattle.gen_sim.proofs.WorldLaws.{stands_still}
 use Rattle.gen_sim.specs.Site.{Site, Starts, DoesAt}
 use Rattle.gen_sim.specs.Items.{with, CallOf, placed_in}
 use Rattle.gen_sim.specs.Back.{Back}
@@ -164,20 +165,9 @@ module _ (x : Site) (fewer : Fewer) (grow : (s : Stmt) → Grows (fewer s)) (v :
           ∙ ap (λ z. moved x.amx x.script c z)
           (push_goes s.mem y (at_next (x.entry f)) (omega (arith, e))) in
           let s1 : Stands x.program x.room v (y ∷ pos (4 * length cells) ∷ (cells ++ waits)) entry
-          w1 t = record {
-            mem =
-                same_mem (pushed_mem s.mem y (rw y_is (small_fits back small)) (omega (arith, e))) u
-                refl refl refl;
-            frame = s.frame;
-            at = entry_is;
-            said = s.said;
-            position = s.position;
-            needs = s.needs;
-            most = s.most;
-            laid = s.laid;
-            params = s.params;
-            temps = s.temps;
-          } in
+          w1 t =
+          stands_still x.program x.room s (same_mem (pushed_mem s.mem y
+          (rw y_is (small_fits back small)) (omega (arith, e))) u refl refl refl) refl entry_is in
           turned (move x.amx x.script) (length x.amx.code) x.room goes_is paid
           (hb w1 t refl (subst (λ z. Stands x.program x.room v
           (z ∷ pos (4 * length cells) ∷ (cells ++ waits)) entry w1 t) y_is s1))

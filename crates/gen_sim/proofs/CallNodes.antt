@@ -1,9 +1,9 @@
 -- Calls of functions and of natives do what they mean, where the codes of their arguments do.
 use Rattle.std.proofs.Common.{◌≡◌, ◌+◌, ◌*◌, ◌<◌, ◌≤◌, ℕ, ℤ, pos, List, [], ◌∷◌, ◌++◌, Some, length}
 use Rattle.std.proofs.Common.{sum, refl, sym, ap, subst, ◌∙◌, arith, length-append}
-use Rattle.pawn_program.specs.Program.{Slot, Call, Native, Args}
-use Rattle.pawn_program.specs.Scope.{Scope}
-use Rattle.pawn_program.specs.ValidExprs.{Takes}
+use Rattle.pawn_meaning.specs.Program.{Slot, Call, Native, Args}
+use Rattle.pawn_meaning.specs.Scope.{Scope}
+use Rattle.pawn_meaning.specs.ValidExprs.{Takes}
 use Rattle.pawn_meaning.specs.Memory.{cut_heap}
 use Rattle.pawn_meaning.specs.World.{World}
 use Rattle.pawn_meaning.specs.Run.{Run, ◌>>=◌, then_do, give, change, with_heap}
@@ -34,7 +34,7 @@ use Rattle.gen_sim.specs.CallCode.{give_back_code, call_code, native_code}
 use Rattle.gen_sim.proofs.OperatorCalls.{call_grows, call_does}
 use Rattle.gen_sim.proofs.CalledScopes.{hold_count, suit_count}
 use Rattle.gen_sim.proofs.TemporaryViews.{used_more, needs_stay, temporaries_few}
-use Rattle.gen_sim.proofs.ScriptLaws.{turn_is}
+use Rattle.amx_ops.proofs.AnswerLaws.{turn_is}
 use Rattle.gen_sim.proofs.GiveBack.{drops, gives_back}
 
 -- ---- arguments, a call with them, and what is given back
@@ -119,6 +119,21 @@ module _ (scope : Scope) (kinds : List Slot) (args : Args) (counted : length kin
       (λ j y u t a. gives_back x site v pending s.laid (omega (arith, deep)) temps y
       (past begin all) u t a j))
 
+-- the temporary arguments are within the need
+temporaries_fit : (x : Site) (args : Args) (v : View) (pending : List ℤ)
+    → used x.program x.room v pending + (2 * count_of args + args_load args)
+    ≤ kept x.program x.room + sum v.needs
+    → used x.program x.room (with_temporaries (temporaries_in args) v) pending
+    ≤ kept x.program x.room + sum (with_temporaries (temporaries_in args) v).needs
+temporaries_fit x args v pending deep =
+    omega (
+      arith,
+      deep,
+      used_more x.program x.room (temporaries_in args) v pending,
+      needs_stay (temporaries_in args) v,
+      temporaries_few args,
+    )
+
 -- ---- nodes
 
 module _ (scope : Scope) (begin : ℕ) where
@@ -153,13 +168,7 @@ module _ (scope : Scope) (begin : ℕ) where
           cells,
           few,
         ))
-        (omega (
-          arith,
-          deep,
-          used_more x.program x.room (temporaries_in args) v pending,
-          needs_stay (temporaries_in args) v,
-          few,
-        )) b)
+        (temporaries_fit x args v pending (omega (arith, deep))) b)
         w c s (record { lie = lie; starts = starts });
   }
 
@@ -170,7 +179,6 @@ module _ (scope : Scope) (begin : ℕ) where
       (native_code n (count_of args) (temporaries_in args) items)
   native_node_does n kinds args items numbered counted part = record {
     does = λ x site same turns calls v fits lie starts pending deep w c s.
-        let few = temporaries_few args in
         let last =
         taking op.SysreqC (pos n) ∷ taking op.Stack (pos (4 * (count_of args + 1))) ∷ [] in
         let small : n < 2147483648 =
@@ -201,13 +209,7 @@ module _ (scope : Scope) (begin : ℕ) where
         (q + 8) u i b n small h.hold j.lie.0 answers))
         (λ j y m k a. drops x [] (pos (4 * length h.cells) ∷ h.cells) a.stands
         (4 * (count_of args + 1)) (omega (arith, cells)) j
-        (omega (
-          arith,
-          deep,
-          used_more x.program x.room (temporaries_in args) v pending,
-          needs_stay (temporaries_in args) v,
-          few,
-        )) ((give_grows y).at m)
+        (temporaries_fit x args v pending (omega (arith, deep))) ((give_grows y).at m)
         (λ g r e. given x r (record { stands = r; value = e ∙ a.value; fits = a.fits })))))
         w c s (record { lie = lie; starts = starts });
   }

@@ -2,9 +2,9 @@
 use Rattle.std.proofs.Common.{◌≡◌, ◌+◌, ◌-◌, ◌==◌, ◌<◌, ◌≤◌, inr, ℕ, zero, suc, ℤ, List, [], ◌∷◌}
 use Rattle.std.proofs.Common.{◌++◌, None, Some, Bool, true, length, take, slice_get, refl, sym, ap}
 use Rattle.std.proofs.Common.{subst, ◌∙◌, arith, eq-eqb, if◌then◌else◌}
-use Rattle.pawn_program.specs.Program.{Slot, ScalarSlot, ReferenceSlot, ArraySlot, OpenSlot, Body}
-use Rattle.pawn_program.specs.Program.{Program}
-use Rattle.pawn_program.specs.Valid.{body_scope}
+use Rattle.pawn_meaning.specs.Program.{Slot, ScalarSlot, ReferenceSlot, ArraySlot, OpenSlot, Body}
+use Rattle.pawn_meaning.specs.Program.{Program}
+use Rattle.pawn_meaning.specs.Valid.{body_scope}
 use Rattle.pawn_meaning.specs.Memory.{Local, Reference}
 use Rattle.pawn_meaning.specs.Natives.{Held, Value}
 use Rattle.pawn_meaning.specs.Natives as natives
@@ -98,6 +98,30 @@ module _ (program : Program) (room : ℕ) (v : View) where
   params_later frame from s sizes (natives.Refers r ∷ held) (c ∷ cells) h =
       (tt, params_later frame (from + 1) s sizes held cells (omega (arith, h)))
 
+  -- a parameter's cell behind one cell more
+  behind_one : (frame from i : ℕ) (piece : Piece) (pieces : List Piece) → total (piece ∷ []) ≡ 1
+      → Apart (Thing (Local frame (from + suc i)) (1 ∷ [])) piece
+      → StandsIn (Thing (Local frame (from + 1 + i)) (1 ∷ [])) pieces i
+      → StandsIn (Thing (Local frame (from + suc i)) (1 ∷ [])) (piece ∷ pieces) (suc i)
+  behind_one frame from i piece pieces one apart stands =
+      let same : from + 1 + i ≡ from + suc i = omega arith in
+      let q = subst (λ n. StandsIn (Thing (Local frame n) (1 ∷ [])) pieces i) same stands in
+      record {
+        before = piece ∷ q.before;
+        after = q.after;
+        split = ap (λ l. piece ∷ l) q.split;
+        first_is = omega (arith, q.first_is, one);
+        not_before = (apart, q.not_before);
+        not_after = q.not_after;
+      }
+
+  apart_next : (frame from i : ℕ) (pieces : List Piece)
+      → Each (Apart (Thing (Local frame (from + suc i)) (1 ∷ []))) pieces
+      → Each (Apart (Thing (Local frame (from + 1 + i)) (1 ∷ []))) pieces
+  apart_next frame from i pieces apart =
+      let same : from + suc i ≡ from + 1 + i = omega arith in
+      subst (λ n. Each (Apart (Thing (Local frame n) (1 ∷ []))) pieces) same apart
+
   -- a value's cell, among them and what lies behind them
   param_stands : (frame from i : ℕ) (x : ℤ) (held : List Held) (cells : List ℤ) (more : List Piece)
       → HoldArguments program room v held cells
@@ -126,39 +150,14 @@ module _ (program : Program) (room : ℕ) (v : View) where
       (param_pieces frame from (Value y ∷ held) (c ∷ cells) ++ more) 0) (sym same) here
   param_stands frame from zero x (natives.Refers r ∷ held) (c ∷ cells) more h e apart = cc
   param_stands frame from (suc i) x (Value y ∷ held) (c ∷ cells) more h e apart =
-      let same : from + 1 + i ≡ from + suc i = omega arith in
-      let r =
-      param_stands frame (from + 1) i x held cells more h.1 e
-      (subst (λ n. Each (Apart (Thing (Local frame n) (1 ∷ []))) more) (sym same) apart)
-      in
-      let q =
-      subst (λ n. StandsIn (Thing (Local frame n) (1 ∷ []))
-      (param_pieces frame (from + 1) held cells ++ more) i) same r in
-      record {
-        before = Thing (Local frame from) (1 ∷ []) ∷ q.before;
-        after = q.after;
-        split = ap (λ l. Thing (Local frame from) (1 ∷ []) ∷ l) q.split;
-        first_is = omega (arith, q.first_is);
-        not_before = (inr (λ z. absurd (omega (arith, z))), q.not_before);
-        not_after = q.not_after;
-      }
+      behind_one frame from i (Thing (Local frame from) (1 ∷ []))
+      (param_pieces frame (from + 1) held cells ++ more) refl
+      (inr (λ z. absurd (omega (arith, z))))
+      (param_stands frame (from + 1) i x held cells more h.1 e (apart_next frame from i more apart))
   param_stands frame from (suc i) x (natives.Refers r0 ∷ held) (c ∷ cells) more h e apart =
-      let same : from + 1 + i ≡ from + suc i = omega arith in
-      let r =
-      param_stands frame (from + 1) i x held cells more h.1 e
-      (subst (λ n. Each (Apart (Thing (Local frame n) (1 ∷ []))) more) (sym same) apart)
-      in
-      let q =
-      subst (λ n. StandsIn (Thing (Local frame n) (1 ∷ []))
-      (param_pieces frame (from + 1) held cells ++ more) i) same r in
-      record {
-        before = Fixed (c ∷ []) ∷ q.before;
-        after = q.after;
-        split = ap (λ l. Fixed (c ∷ []) ∷ l) q.split;
-        first_is = omega (arith, q.first_is);
-        not_before = (tt, q.not_before);
-        not_after = q.not_after;
-      }
+      behind_one frame from i (Fixed (c ∷ [])) (param_pieces frame (from + 1) held cells ++ more) refl
+      tt
+      (param_stands frame (from + 1) i x held cells more h.1 e (apart_next frame from i more apart))
 
   -- ---- within the call
 

@@ -6,16 +6,16 @@ use Rattle.pawn_cells.specs.declared.operator.Comparison.{Comparison}
 use Rattle.pawn_cells.specs.Cells.{IsCell, truth}
 use Rattle.pawn_cells.specs.Cells as cells
 use Rattle.pawn_cells.specs.Operators.{is_true}
-use Rattle.pawn_program.specs.Program.{Expr, Chain, Links, no_links, then_link}
-use Rattle.pawn_program.specs.Scope.{Scope}
-use Rattle.pawn_program.specs.ValidExprs.{IsOperator}
+use Rattle.pawn_meaning.specs.Program.{Expr, Chain, Links, no_links, then_link}
+use Rattle.pawn_meaning.specs.Scope.{Scope}
+use Rattle.pawn_meaning.specs.ValidExprs.{IsOperator}
 use Rattle.pawn_meaning.specs.World.{World}
 use Rattle.pawn_meaning.specs.Run.{Run, ◌>>=◌, give}
 use Rattle.pawn_meaning.specs.Meaning.{value, linked, chain, chained}
 use Rattle.pawn_meaning.proofs.Grows.{after_grows, give_grows}
 use Rattle.amx_ops.specs.declared.op.Op.TheVariants as op
 use Rattle.amx_ops.specs.Moves.{Config, move}
-use Rattle.amx_ops.proofs.CellLaws.{truth_cell}
+use Rattle.pawn_cells.proofs.CellLaws.{truth_cell}
 use Rattle.gen_sim.proofs.Sim.{wider}
 use Rattle.gen_sim.specs.View.{View}
 use Rattle.gen_sim.specs.Stands.{With}
@@ -28,8 +28,7 @@ use Rattle.gen_sim.specs.Lies.{Lies}
 use Rattle.gen_sim.specs.SimpleCode.{alone, both_code}
 use Rattle.gen_sim.specs.JumpCode.{jump_to}
 use Rattle.gen_sim.proofs.ItemSteps.{next_lies, rest_lies, item_sets, item_pops_alt}
-use Rattle.gen_sim.proofs.NodesPartLaws.{nodes_of, then_nothing, then_items, both_does}
-use Rattle.gen_sim.proofs.SimpleNodes.{value_leaves}
+use Rattle.gen_sim.proofs.NodesPartLaws.{value_leaves, nodes_of, then_nothing, then_items, both_does}
 use Rattle.gen_sim.proofs.JumpSteps.{jump_does}
 use Rattle.gen_sim.proofs.JumpNodes.{twice}
 use Rattle.gen_sim.proofs.OperatorNodes.{regrouped, same_behind}

@@ -17,7 +17,7 @@ use Rattle.amx_ops.specs.Written.{read_as}
 use Rattle.amx_ops.specs.State.{State}
 use Rattle.amx_ops.specs.Access.{part}
 use Rattle.amx_ops.specs.Moves.{Config}
-use Rattle.amx_ops.proofs.CellLaws.{cell_of_cell}
+use Rattle.pawn_cells.proofs.CellLaws.{cell_of_cell}
 use Rattle.gen_sim.specs.Pieces.{Thing, extent}
 use Rattle.gen_sim.specs.View.{View, CellAt}
 use Rattle.gen_sim.specs.Stands.{Stands, With}

@@ -10,7 +10,7 @@ use Rattle.std.proofs.Math.Seq.{take-append_seam, drop-append-add}
 use Rattle.std.specs.Prelude.{All}
 use Rattle.pawn_arrays.specs.Sizes.{elements_in}
 use Rattle.pawn_cells.specs.Cells.{IsCell}
-use Rattle.pawn_program.specs.Program.{Program}
+use Rattle.pawn_meaning.specs.Program.{Program}
 use Rattle.pawn_meaning.specs.Memory.{Memory, Object, Reference, object_at, put, read_cells}
 use Rattle.pawn_meaning.specs.Memory.{cells_from, write_cells, copy_of, copied}
 use Rattle.pawn_meaning.specs.References.{other_sizes}
@@ -42,13 +42,13 @@ second_of true b c d e = refl
 second_of false true c d e = refl
 second_of false false c d e = cc
 
-third_of : (a b c d : Bool) → c ≡ true → (a || b || c || d) ≡ true
+pub third_of : (a b c d : Bool) → c ≡ true → (a || b || c || d) ≡ true
 third_of true b c d e = refl
 third_of false true c d e = refl
 third_of false false true d e = refl
 third_of false false false d e = cc
 
-both : (a b : Bool) → a ≡ true → b ≡ true → (a && b) ≡ true
+pub both : (a b : Bool) → a ≡ true → b ≡ true → (a && b) ≡ true
 both a b e f = rw (e, f) refl
 
 -- the cells of a piece from one on are live

@@ -5,8 +5,8 @@ use Rattle.std.proofs.Common.{arith, le-leb}
 use Rattle.std.specs.Prelude.{All}
 use Rattle.pawn_arrays.specs.Sizes.{elements_in}
 use Rattle.pawn_cells.specs.Cells.{IsCell}
-use Rattle.pawn_program.specs.Program.{Array, Copy}
-use Rattle.pawn_program.specs.Scope.{Scope, Extent, extent, known_extent, HasCells}
+use Rattle.pawn_meaning.specs.Program.{Array, Copy}
+use Rattle.pawn_meaning.specs.Scope.{Scope, Extent, extent, known_extent, HasCells}
 use Rattle.pawn_meaning.specs.Memory.{Memory, Object, Reference, put, read_cells, write_cells}
 use Rattle.pawn_meaning.specs.Memory.{copy_of, copied, needs_of}
 use Rattle.pawn_meaning.specs.World.{World}
@@ -19,7 +19,7 @@ use Rattle.amx_ops.specs.Instructions.{fetched}
 use Rattle.amx_ops.specs.Written.{read_as}
 use Rattle.amx_ops.specs.State.{State}
 use Rattle.amx_ops.specs.Moves.{Config}
-use Rattle.amx_ops.proofs.CellLaws.{small_cell}
+use Rattle.pawn_cells.proofs.CellLaws.{small_cell}
 use Rattle.gen_sim.specs.Pieces.{vectors}
 use Rattle.gen_sim.specs.View.{View}
 use Rattle.gen_sim.specs.Stands.{Stands, With, refers_at}

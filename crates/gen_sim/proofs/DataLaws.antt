@@ -1,7 +1,7 @@
 -- A file's data: each object and each automaton of a program has one place in it.
 use Rattle.std.proofs.Common.{◌≡◌, ◌+◌, ◌<◌, ◌≤◌, ℕ, zero, suc, List, [], ◌∷◌, ◌++◌, Some, length}
 use Rattle.std.proofs.Common.{slice_get, refl, sym, ap, ◌∙◌, arith, append_assoc}
-use Rattle.pawn_program.specs.Program.{StaticObject, Program}
+use Rattle.pawn_meaning.specs.Program.{StaticObject, Program}
 use Rattle.pawn_meaning.specs.Memory.{Static, Temporary}
 use Rattle.gen_sim.specs.Pieces.{Piece, Thing, Automaton, Each, total, extent, objects_from}
 use Rattle.gen_sim.specs.Pieces.{automata_from, data_pieces, temporaries}

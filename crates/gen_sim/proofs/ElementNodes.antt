@@ -2,9 +2,9 @@
 use Rattle.std.proofs.Common.{◌≡◌, ◌+◌, ◌-◌, ◌*◌, ◌/◌, ◌%◌, ◌^◌, ◌<◌, ◌≤◌, ℕ, ℤ, pos, List, [], ◌∷◌}
 use Rattle.std.proofs.Common.{Some, length, refl, sym, ap, subst, ◌∙◌, arith}
 use Rattle.pawn_cells.specs.Cells.{add, mul, sub, xor}
-use Rattle.pawn_program.specs.Program.{Array, Expr, Element, Char, Row, From}
-use Rattle.pawn_program.specs.Scope.{Scope, Extent, extent, known_extent, open_extent, row_extent}
-use Rattle.pawn_program.specs.Scope.{rest_extent}
+use Rattle.pawn_meaning.specs.Program.{Array, Expr, Element, Char, Row, From}
+use Rattle.pawn_meaning.specs.Scope.{Scope, Extent, extent, known_extent, open_extent, row_extent}
+use Rattle.pawn_meaning.specs.Scope.{rest_extent}
 use Rattle.pawn_meaning.specs.Memory.{Reference}
 use Rattle.pawn_meaning.specs.World.{World}
 use Rattle.pawn_meaning.specs.Run.{Outcome, give}

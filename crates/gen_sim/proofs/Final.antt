@@ -7,7 +7,7 @@ use Rattle.std.proofs.lemmas.List.{map-append, length-map}
 use Rattle.host_script.specs.declared.event.Event.{Event}
 use Rattle.host_script.specs.declared.event.End.{End}
 use Rattle.host_script.specs.declared.event.End.TheVariants.{Done, Exit, Error, Stray}
-use Rattle.pawn_program.specs.Program.{Program}
+use Rattle.pawn_meaning.specs.Program.{Program}
 use Rattle.pawn_meaning.specs.World.{Entry, World, first_world}
 use Rattle.pawn_meaning.specs.Run.{Outcome, Gives, Stops, More}
 use Rattle.pawn_meaning.specs.Told.{Ended, Told, told_of, events_of}
@@ -164,6 +164,25 @@ module _ (mv : Config → Moved Config End) (cells room : ℕ) (start : Config)
             (rw is (runs_grow_lem.same w))
       ]
 
+  -- where the trace hasn't ended
+  stray_open : (m T : ℕ) (stop : Stop End) (x : Config) (w : World) → outs m ≡ Stops Stray w
+      → ((e : End) → stop ≡ Over_by e → ⊥) → Leads mv T start Steps x
+      → Reach mv cells room cells 0 start w Running (λ t. Unit {0}) → Verdict m stop x
+  stray_open m T stop x w is unended leads r =
+      elim (either r.steps T) [
+        | inl before ↦
+            inr (inr (inr (record {
+              world = w;
+              is = is;
+              first = subst (λ l. IsPrefix l x.events) r.said
+                  (on_front mv start front r.steps T r.config x r.by leads before);
+            })))
+        | inr after ↦
+            ahead_of m stop x r.config w unended
+            (on_front mv start front T r.steps x r.config leads r.by
+            (omega (arith, after))) r.said (rw is (runs_grow_lem.same w))
+      ]
+
   stray_verdict : (m T : ℕ) (stop : Stop End) (x : Config) (w : World) → outs m ≡ Stops Stray w
       → Leads mv T start stop x
       → Reach mv cells room cells 0 start w Running (λ t. Unit {0}) → Verdict m stop x
@@ -174,34 +193,8 @@ module _ (mv : Config → Moved Config End) (cells room : ℕ) (start : Config)
         first = subst (λ l. IsPrefix l x.events) r.said
             (running_over mv start front r.steps T f r.config x r.by leads).1;
       })))
-  stray_verdict m T Steps x w is leads r =
-      elim (either r.steps T) [
-        | inl before ↦
-            inr (inr (inr (record {
-              world = w;
-              is = is;
-              first = subst (λ l. IsPrefix l x.events) r.said
-                  (on_front mv start front r.steps T r.config x r.by leads before);
-            })))
-        | inr after ↦
-            ahead_of m Steps x r.config w not_over
-            (on_front mv start front T r.steps x r.config leads r.by
-            (omega (arith, after))) r.said (rw is (runs_grow_lem.same w))
-      ]
-  stray_verdict m T Asleep x w is leads r =
-      elim (either r.steps T) [
-        | inl before ↦
-            inr (inr (inr (record {
-              world = w;
-              is = is;
-              first = subst (λ l. IsPrefix l x.events) r.said
-                  (on_front mv start front r.steps T r.config x r.by leads before);
-            })))
-        | inr after ↦
-            ahead_of m Asleep x r.config w not_over'
-            (on_front mv start front T r.steps x r.config leads r.by
-            (omega (arith, after))) r.said (rw is (runs_grow_lem.same w))
-      ]
+  stray_verdict m T Steps x w is leads r = stray_open m T Steps x w is not_over leads r
+  stray_verdict m T Asleep x w is leads r = stray_open m T Asleep x w is not_over' leads r
 
   -- the bound on turns, which took more steps than the trace did
   more_verdict : (m T : ℕ) (stop : Stop End) (x : Config) (w : World) → outs m ≡ More w
@@ -349,6 +342,20 @@ module _ (mv : Config → Moved Config End) (cells room : ℕ) (start : Config)
       → bound < cells * (t + 1)
   few_steps d u t bound T most h b c = omega (arith, most, mul-le-mul_left cells h, b, c)
 
+  -- where the stack was short on the way
+  short_steps : (t bound T : ℕ) (x : Config) (w : World) → Short mv cells room cells 0 start w
+      → w.turns ≤ t → bound ≤ T → Leads mv T start Steps x
+      → IsLost means (length x.events) ⊎ (bound < cells * (t + 1))
+  short_steps t bound T x w short h b leads =
+      let r = short.reach in
+      elim (either r.steps T) [
+        | inl before ↦
+            absurd (over_past mv start r.steps T (Error (pos 3)) r.config x r.by leads before)
+        | inr after ↦
+            inr (few_steps r.steps short.at.turns t bound T r.most
+            (omega (arith, runs_grow_lem.turns short.at w short.later, h)) b after)
+      ]
+
   -- with the meaning for a bound that is at most the mark's turns
   steps_with : (q t bound T : ℕ) (x : Config) (o : Outcome ⊥) → outs q ≡ o → q ≤ t → bound ≤ T
       → Leads mv T start Steps x → Then mv cells room cells 0 start o nothing
@@ -357,14 +364,7 @@ module _ (mv : Config → Moved Config End) (cells room : ℕ) (start : Config)
       → IsLost means (length x.events) ⊎ (bound < cells * (t + 1))
   steps_with q t bound T x (Gives a w) is h b leads sim bel never = elim a [ ]
   steps_with q t bound T x (Stops e w) is h b leads (inl short) bel never =
-      let r = short.reach in
-      elim (either r.steps T) [
-        | inl before ↦
-            absurd (over_past mv start r.steps T (Error (pos 3)) r.config x r.by leads before)
-        | inr after ↦
-            inr (few_steps r.steps short.at.turns t bound T r.most
-            (omega (arith, runs_grow_lem.turns short.at w short.later, bel.0, h)) b after)
-      ]
+      short_steps t bound T x w short (omega (arith, bel.0, h)) b leads
   steps_with q t bound T x (Stops (Done v) w) is h b leads (inr r) bel never =
       elim (either r.steps T) [
         | inl before ↦ absurd (over_past mv start r.steps T (Done v) r.config x r.by leads before)
@@ -398,14 +398,7 @@ module _ (mv : Config → Moved Config End) (cells room : ℕ) (start : Config)
             inr (few_steps r.steps w.turns t bound T r.most (omega (arith, bel.0, h)) b after)
       ]
   steps_with q t bound T x (More w) is h b leads (inl short) bel never =
-      let r = short.reach in
-      elim (either r.steps T) [
-        | inl before ↦
-            absurd (over_past mv start r.steps T (Error (pos 3)) r.config x r.by leads before)
-        | inr after ↦
-            inr (few_steps r.steps short.at.turns t bound T r.most
-            (omega (arith, runs_grow_lem.turns short.at w short.later, bel.0, h)) b after)
-      ]
+      short_steps t bound T x w short (omega (arith, bel.0, h)) b leads
   steps_with q t bound T x (More w) is h b leads (inr r) bel never =
       elim (either r.steps T) [
         | inl before ↦

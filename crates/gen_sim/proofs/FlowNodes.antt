@@ -4,10 +4,10 @@ use Rattle.std.proofs.Common.{◌≡◌, ◌+◌, ◌≤◌, ℕ, pos, List, [],
 use Rattle.std.proofs.Common.{slice_get, refl, sym, ap, subst, ◌∙◌, arith}
 use Rattle.pawn_cells.specs.Cells.{cell_of, is_zero}
 use Rattle.host_script.specs.declared.event.End.TheVariants as end
-use Rattle.pawn_program.specs.Program.{Expr, Stmt, Do, Empty, Local, If, Exit, Assert, Stmts}
-use Rattle.pawn_program.specs.Program.{no_stmts, then_stmt, Else, no_else, otherwise, ScalarSlot}
-use Rattle.pawn_program.specs.Scope.{IsMade}
-use Rattle.pawn_program.specs.ValidStmts.{slots_made, slots_made_by}
+use Rattle.pawn_meaning.specs.Program.{Expr, Stmt, Do, Empty, Local, If, Exit, Assert, Stmts}
+use Rattle.pawn_meaning.specs.Program.{no_stmts, then_stmt, Else, no_else, otherwise, ScalarSlot}
+use Rattle.pawn_meaning.specs.Scope.{IsMade}
+use Rattle.pawn_meaning.specs.ValidStmts.{slots_made, slots_made_by}
 use Rattle.pawn_meaning.specs.Memory.{made, one_cell}
 use Rattle.pawn_meaning.specs.World.{World}
 use Rattle.pawn_meaning.specs.Run.{◌>>=◌, Stops, give, stop, change, at_zero}

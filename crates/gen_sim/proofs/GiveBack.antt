@@ -17,8 +17,9 @@ use Rattle.amx_ops.specs.Moves.{Config, moved, move}
 use Rattle.gen_sim.proofs.Sim.{short_here}
 use Rattle.gen_sim.specs.View.{View, kept, used, Laid}
 use Rattle.gen_sim.specs.Stands.{Stands, With}
-use Rattle.gen_sim.proofs.MemLaws.{count_cells}
+use Rattle.gen_sim.proofs.MemLaws.{count_cells, gap, in_use}
 use Rattle.gen_sim.proofs.ChangeLaws.{dropped_mem}
+use Rattle.gen_sim.proofs.WorldLaws.{stands_still}
 use Rattle.gen_sim.specs.Site.{Site, IsSite, DoesAt}
 use Rattle.gen_sim.specs.Items.{Item, Plain, item_cells, past, with}
 use Rattle.gen_sim.specs.Results.{with_temporaries}
@@ -75,34 +76,14 @@ drops x {A} {o} {Q} js {v} xs {pending} {p} {w} {c} s n count l deep later next 
         short_here (move x.amx x.script) (length x.amx.code) x.room (length (item_cells js)) c c w o
         (move_is x c p (with op.Stack (pos n)) s.at l.lie.0
         ∙ ap (λ y. moved x.amx x.script c y) (drop_errs x c.state n (p + 8) top few)) s.said
-        (omega (
-          arith,
-          few,
-          count,
-          s.mem.hea,
-          s.mem.stk,
-          s.mem.size,
-          length-append s.mem.free (xs ++ pending),
-          length-append xs pending,
-          deep,
-          s.most,
-        )) later
+        (omega (arith, few, count, gap s.mem, in_use s.mem, length-append xs pending, deep, s.most))
+        later
     by_room (inr much) =
         let t : State =
         record c.state { alt = cell_of c.state.stk; stk = c.state.stk + n; cip = p + 8 } in
         goes x s (with op.Stack (pos n)) l.lie.0 t (drop_goes x c.state n (p + 8) top much)
-        (next (record c { state = t }) (record {
-          mem = dropped_mem xs s.mem t refl refl (omega (arith, count));
-          frame = s.frame;
-          at = refl;
-          said = s.said;
-          position = s.position;
-          needs = s.needs;
-          most = s.most;
-          laid = s.laid;
-          params = s.params;
-          temps = s.temps;
-        }) refl)
+        (next (record c { state = t }) (stands_still x.program x.room s
+        (dropped_mem xs s.mem t refl refl (omega (arith, count))) refl refl) refl)
 
 -- ---- HEAP
 

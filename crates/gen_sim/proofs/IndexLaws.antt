@@ -3,12 +3,12 @@
 use Rattle.std.proofs.Common.{◌≡◌, ◌+◌, ◌-◌, ◌*◌, ◌^◌, ◌<◌, ◌≤◌, ℕ, zero, suc, ℤ, pos, negsuc, List}
 use Rattle.std.proofs.Common.{[], ◌∷◌, ◌++◌, Option, None, Some, Bool, true, false, length, nat_lt}
 use Rattle.std.proofs.Common.{slice_get, refl, sym, ap, subst, ◌∙◌, arith, le-ltb}
-use Rattle.pawn_program.specs.Program.{Array, SlotArray, ParamArray, Row, From, Slot, ScalarSlot}
-use Rattle.pawn_program.specs.Program.{ReferenceSlot, ArraySlot, OpenSlot, StaticObject}
-use Rattle.pawn_program.specs.Program as node
-use Rattle.pawn_program.specs.Scope.{Scope, Extent, extent, known_extent, open_extent}
-use Rattle.pawn_program.specs.Scope.{object_extent, slot_extent, param_extent, row_extent}
-use Rattle.pawn_program.specs.Scope.{rest_extent}
+use Rattle.pawn_meaning.specs.Program.{Array, SlotArray, ParamArray, Row, From, Slot, ScalarSlot}
+use Rattle.pawn_meaning.specs.Program.{ReferenceSlot, ArraySlot, OpenSlot, StaticObject}
+use Rattle.pawn_meaning.specs.Program as node
+use Rattle.pawn_meaning.specs.Scope.{Scope, Extent, extent, known_extent, open_extent}
+use Rattle.pawn_meaning.specs.Scope.{object_extent, slot_extent, param_extent, row_extent}
+use Rattle.pawn_meaning.specs.Scope.{rest_extent}
 use Rattle.pawn_meaning.specs.Memory.{Reference}
 use Rattle.pawn_meaning.specs.World.{World}
 use Rattle.pawn_meaning.specs.Run.{Run, then_do}

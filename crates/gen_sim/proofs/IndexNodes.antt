@@ -3,8 +3,8 @@ use Rattle.std.proofs.Common.{◌≡◌, ◌+◌, ◌*◌, ◌^◌, ◌<◌, ◌
 use Rattle.std.proofs.Common.{Option, Some, length, sum, sym, ap, subst, ◌∙◌, arith}
 use Rattle.std.specs.Prelude.{max}
 use Rattle.pawn_cells.specs.Cells.{IsCell}
-use Rattle.pawn_program.specs.Program.{Array, Expr}
-use Rattle.pawn_program.specs.Scope.{Scope, Extent, extent}
+use Rattle.pawn_meaning.specs.Program.{Array, Expr}
+use Rattle.pawn_meaning.specs.Scope.{Scope, Extent, extent}
 use Rattle.pawn_meaning.specs.Memory.{Reference}
 use Rattle.pawn_meaning.specs.World.{World}
 use Rattle.pawn_meaning.specs.Run.{◌>>=◌, give}
@@ -28,8 +28,7 @@ use Rattle.gen_sim.proofs.CallLaws.{small_fits}
 use Rattle.gen_sim.specs.Lies.{Lies}
 use Rattle.gen_sim.specs.SimpleCode.{waiting_code}
 use Rattle.gen_sim.proofs.ItemSteps.{rest_lies}
-use Rattle.gen_sim.proofs.NodesPartLaws.{nodes_of, Leaves, waiting_does}
-use Rattle.gen_sim.proofs.SimpleNodes.{value_leaves}
+use Rattle.gen_sim.proofs.NodesPartLaws.{value_leaves, nodes_of, Leaves, waiting_does}
 use Rattle.gen_sim.specs.IndexCode.{bounds_code}
 use Rattle.gen_sim.proofs.IndexLaws.{Knows, IsSize, sized, bounds_do}
 use Rattle.gen_sim.proofs.AddressLaws.{refers_inside}

@@ -23,7 +23,7 @@ use Rattle.gen_sim.proofs.WorldLaws.{stands_on}
 use Rattle.gen_sim.specs.Site.{Site, Starts, DoesAt}
 use Rattle.gen_sim.specs.Items.{Item, Plain, size, item_cells, past, LieIn, with}
 use Rattle.gen_sim.proofs.ItemLaws.{lie_first, lie_rest, past-append}
-use Rattle.gen_sim.proofs.StepLaws.{goes, pushes, pop_alt_does, pop_pri_does}
+use Rattle.gen_sim.proofs.StepLaws.{Follows, goes, pushes, pop_alt_does, pop_pri_does}
 use Rattle.gen_sim.specs.Lies.{Lies}
 
 -- ---- parts
@@ -109,9 +109,7 @@ module _ (x : Site) {A : Type 0} {o : Outcome A} {Q : A → World → Config →
         ≡ push c.state y (at_next (p + 4 * length (cells_of it)))
         → IsCell y → used x.program x.room v pending ≤ kept x.program x.room + sum v.needs + 15
         → Later w (world_of o)
-        → ((t : Config) → Stands x.program x.room v (y ∷ pending) (p + 4 * length (cells_of it)) w t
-        → t.state.pri ≡ c.state.pri
-        → t.state.alt ≡ c.state.alt → DoesAt x (length (item_cells js)) w t o Q)
+        → Follows x v (y ∷ pending) (p + 4 * length (cells_of it)) (length (item_cells js)) w c o Q
         → DoesAt x (length (item_cells (Plain it ∷ js))) w c o Q
     item_pushes y e fit deep later next =
         one_item js w (pushes x a it l.lie.0 y e fit deep later next)

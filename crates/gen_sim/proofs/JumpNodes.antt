@@ -5,8 +5,8 @@ use Rattle.pawn_cells.specs.Cells.{IsCell, is_zero, truth}
 use Rattle.pawn_cells.specs.Cells as cells
 use Rattle.pawn_cells.specs.Operators.{is_true, logical}
 use Rattle.pawn_cells.specs.declared.operator.Logical.TheVariants as logic
-use Rattle.pawn_program.specs.Program.{Expr, Cond, And, Or}
-use Rattle.pawn_program.specs.Scope.{Scope}
+use Rattle.pawn_meaning.specs.Program.{Expr, Cond, And, Or}
+use Rattle.pawn_meaning.specs.Scope.{Scope}
 use Rattle.pawn_meaning.specs.World.{World}
 use Rattle.pawn_meaning.specs.Run.{Run, ◌>>=◌, give, choose, at_zero}
 use Rattle.pawn_meaning.specs.Later.{Grows}
@@ -14,7 +14,7 @@ use Rattle.pawn_meaning.specs.Meaning.{value}
 use Rattle.pawn_meaning.proofs.Grows.{after_grows, give_grows, same_later}
 use Rattle.amx_ops.specs.declared.op.Op.TheVariants as op
 use Rattle.amx_ops.specs.Moves.{Config, move}
-use Rattle.amx_ops.proofs.CellLaws.{truth_cell, small_cell}
+use Rattle.pawn_cells.proofs.CellLaws.{truth_cell, small_cell}
 use Rattle.gen_sim.proofs.Sim.{after_it, size_is}
 use Rattle.gen_sim.specs.View.{View}
 use Rattle.gen_sim.specs.Stands.{Stands, With}
@@ -39,39 +39,42 @@ choose_grows false first second h g = g
 
 -- ---- one of two, by the value in PRI
 
+-- a part does its run and comes to its end, where something is known of the value in PRI
+abbrev pub PartDoes : Site → View → List ℤ → ℕ → List Item → Run ℤ → ℕ → Type 0 → Type 0
+PartDoes x v pending p part run end Is =
+    Is → Lies x p part → (n : World) (k : Config) → Stands x.program x.room v pending p n k
+    → DoesAt x (length (item_cells part)) n k (run n) (With x.program x.room v pending end)
+
+behind_jzer : (x : Site) (p : ℕ) (first second : List Item) → Lies x p (choice_code p first second)
+    → Lies x (p + 8) (first ++ (jump_to op.Jump (end_at p first second) ∷ second))
+behind_jzer x p first second l =
+    next_lies x p (jump_to op.Jzer (other_at p first))
+    (first ++ (jump_to op.Jump (end_at p first second) ∷ second)) l
+
 module _ (x : Site) {v : View} {pending : List ℤ} (p : ℕ) (first second : List Item)
     (one two : Run ℤ) where
   branches : (y : ℤ) (u : World) (t : Config) → With x.program x.room v pending p y u t
       → p + 8 < 2 ^ 31 → Lies x p (choice_code p first second)
-      → (is_zero y ≡ false → Lies x (p + 8) first → (n : World) (k : Config)
-      → Stands x.program x.room v pending (p + 8) n k
-      → DoesAt x (length (item_cells first)) n k (one n)
-      (With x.program x.room v pending (past (p + 8) first)))
-      → (is_zero y ≡ true → Lies x (other_at p first) second → (n : World) (k : Config)
-      → Stands x.program x.room v pending (other_at p first) n k
-      → DoesAt x (length (item_cells second)) n k (two n)
-      (With x.program x.room v pending (end_at p first second)))
+      → PartDoes x v pending (p + 8) first one (past (p + 8) first) (is_zero y ≡ false)
+      → PartDoes x v pending (other_at p first) second two (end_at p first second)
+      (is_zero y ≡ true)
       → (b : Bool) → is_zero y ≡ b
       → DoesAt x (length (item_cells (choice_code p first second))) u t (choose b two one u)
       (With x.program x.room v pending (end_at p first second))
   branches y u t a low l hone htwo true z =
-      let rest = first ++ (jump_to op.Jump (end_at p first second) ∷ second) in
-      let l1 = next_lies x p (jump_to op.Jzer (other_at p first)) rest l in
-      let l2 = rest_lies x (p + 8) first (jump_to op.Jump (end_at p first second) ∷ second) l1 in
-      let l3 =
-      next_lies x (past (p + 8) first)
-      (jump_to op.Jump (end_at p first second)) second l2 in
-      let few : length (item_cells second) ≤ length (item_cells rest) =
-      omega (arith, count-append first (jump_to op.Jump (end_at p first second) ∷ second)) in
+      let jump = jump_to op.Jump (end_at p first second) in
+      let l1 = behind_jzer x p first second l in
+      let l2 = rest_lies x (p + 8) first (jump ∷ second) l1 in
+      let few : length (item_cells second) ≤ length (item_cells (first ++ (jump ∷ second))) =
+      omega (arith, count-append first (jump ∷ second)) in
       zero_jumps x a.stands (other_at p first) (length (item_cells second)) l2.lie.2
-      (ap is_zero a.value ∙ z) few l (λ k s e. htwo z l3 u k s)
+      (ap is_zero a.value ∙ z) few l
+      (λ k s e. htwo z (next_lies x (past (p + 8) first) jump second l2) u k s)
   branches y u t a low l hone htwo false z =
-      let rest = first ++ (jump_to op.Jump (end_at p first second) ∷ second) in
-      let l1 = next_lies x p (jump_to op.Jzer (other_at p first)) rest l in
-      let l2 = rest_lies x (p + 8) first (jump_to op.Jump (end_at p first second) ∷ second) l1 in
-      let l3 =
-      next_lies x (past (p + 8) first)
-      (jump_to op.Jump (end_at p first second)) second l2 in
+      let jump = jump_to op.Jump (end_at p first second) in
+      let l1 = behind_jzer x p first second l in
+      let l2 = rest_lies x (p + 8) first (jump ∷ second) l1 in
+      let l3 = next_lies x (past (p + 8) first) jump second l2 in
       zero_passes x a.stands (other_at p first) (ap is_zero a.value ∙ z) l
       (λ k s e. size_is (move x.amx x.script) (length x.amx.code) x.room
       (sym (count-append first (jump_to op.Jump (end_at p first second) ∷ second)))
@@ -85,14 +88,9 @@ module _ (x : Site) {v : View} {pending : List ℤ} (p : ℕ) (first second : Li
 
   pub choice_does : (y : ℤ) (u : World) (t : Config) → With x.program x.room v pending p y u t
       → Lies x p (choice_code p first second)
-      → (is_zero y ≡ false → Lies x (p + 8) first → (n : World) (k : Config)
-      → Stands x.program x.room v pending (p + 8) n k
-      → DoesAt x (length (item_cells first)) n k (one n)
-      (With x.program x.room v pending (past (p + 8) first)))
-      → (is_zero y ≡ true → Lies x (other_at p first) second → (n : World) (k : Config)
-      → Stands x.program x.room v pending (other_at p first) n k
-      → DoesAt x (length (item_cells second)) n k (two n)
-      (With x.program x.room v pending (end_at p first second)))
+      → PartDoes x v pending (p + 8) first one (past (p + 8) first) (is_zero y ≡ false)
+      → PartDoes x v pending (other_at p first) second two (end_at p first second)
+      (is_zero y ≡ true)
       → DoesAt x (length (item_cells (choice_code p first second))) u t (at_zero y two one u)
       (With x.program x.room v pending (past p (choice_code p first second)))
   choice_does y u t a l hone htwo =
@@ -189,6 +187,12 @@ module _ (scope : Scope) (begin : ℕ) where
         (omega (arith, deep)) n h r));
   }
 
+  -- what is made of the second value only grows
+  second_grows : (x : Site) (turns : ℕ) (r : Expr) (both : ℤ → ℤ)
+      → Grows (value (scene_at x) (with_turns x turns) r >>= (λ z. give (both z)))
+  second_grows x turns r both =
+      after_grows ((nodes_of x turns).values r) (λ z. give_grows (both z))
+
   pub and_does : (l r : Expr) (left right : List Item) → ValueCode scope l begin left
       → ValueCode scope r (past begin left + 8) right
       → ValueCode scope (And l r) begin (and_code begin left right)
@@ -197,9 +201,7 @@ module _ (scope : Scope) (begin : ℕ) where
         let fewer = with_turns x turns in
         let p = past begin left in
         let rr = value (scene_at x) fewer r in
-        let grows =
-        λ (y : ℤ). after_grows ((nodes_of x turns).values r)
-        (λ z. give_grows (logical logic.And y z)) in
+        let grows = λ (y : ℤ). second_grows x turns r (logical logic.And y) in
         then_items x begin left (choice_code p (right ++ truth_code) (const_code (pos 0)))
         (λ y u t. With x.program x.room v pending p y u t)
         (λ q. With x.program x.room v pending q) w
@@ -226,9 +228,7 @@ module _ (scope : Scope) (begin : ℕ) where
         let fewer = with_turns x turns in
         let p = past begin left in
         let rr = value (scene_at x) fewer r in
-        let grows =
-        λ (y : ℤ). after_grows ((nodes_of x turns).values r)
-        (λ z. give_grows (logical logic.Or y z)) in
+        let grows = λ (y : ℤ). second_grows x turns r (logical logic.Or y) in
         then_items x begin left (choice_code p (const_code (pos 1)) (right ++ truth_code))
         (λ y u t. With x.program x.room v pending p y u t)
         (λ q. With x.program x.room v pending q) w

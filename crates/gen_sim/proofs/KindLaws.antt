@@ -1,7 +1,7 @@
 -- Which places are cells, and which are characters.
 use Rattle.std.proofs.Common.{◌*◌, inl, inr, ℕ, length}
-use Rattle.pawn_program.specs.Program.{Scalar, Global, Own, Element, Char}
-use Rattle.pawn_program.specs.Program as node
+use Rattle.pawn_meaning.specs.Program.{Scalar, Global, Own, Element, Char}
+use Rattle.pawn_meaning.specs.Program as node
 use Rattle.pawn_meaning.specs.Memory.{Place, Cell, Character, through}
 use Rattle.pawn_meaning.specs.World.{World}
 use Rattle.pawn_meaning.specs.Run.{Outcome, Gives, Stops, More, Run, ◌>>=◌, then_do, give, look}
@@ -9,6 +9,7 @@ use Rattle.pawn_meaning.specs.References.{is_known, index, first_size, cell_at, 
 use Rattle.pawn_meaning.specs.Meaning.{Scene, Fewer, place, array, value}
 use Rattle.amx_ops.specs.Moves.{Config, move}
 use Rattle.gen_sim.specs.Does.{Then}
+use Rattle.gen_sim.proofs.Sim.{reach_holds}
 use Rattle.gen_sim.specs.Site.{Site, DoesAt}
 
 abbrev pub IsCellPlace : Place → Type 0
@@ -73,15 +74,7 @@ known_by : {A : Type 0} (x : Site) (n : ℕ) (w : World) (c : Config) (o : Outco
     → Then (move x.amx x.script) (length x.amx.code) x.room n w.turns c o (λ a u t. P a u t × F a)
 known_by x n w c (Gives a u) P F f (inl short) = inl short
 known_by x n w c (Gives a u) P F f (inr r) =
-    inr (record {
-      steps = r.steps;
-      config = r.config;
-      by = r.by;
-      said = r.said;
-      least = r.least;
-      most = r.most;
-      holds = (r.holds, f);
-    })
+    inr (reach_holds (move x.amx x.script) (length x.amx.code) x.room r (r.holds, f))
 known_by x n w c (Stops end u) P F f d = d
 known_by x n w c (More u) P F f d = d
 

@@ -3,7 +3,7 @@ use Rattle.std.proofs.Common.{◌≡◌, ◌+◌, ◌<◌, ◌≤◌, ◌⊎◌,
 use Rattle.std.proofs.Common.{subst, arith}
 use Rattle.std.proofs.lemmas.Bool.{cases_lt}
 use Rattle.host_script.specs.declared.event.End.TheVariants as end
-use Rattle.pawn_program.specs.Program.{Function, Stmt}
+use Rattle.pawn_meaning.specs.Program.{Function, Stmt}
 use Rattle.pawn_meaning.specs.Run.{Run, ◌>>=◌, then_do, or_stop, turn}
 use Rattle.pawn_meaning.specs.Calls.{enter_function}
 use Rattle.pawn_meaning.specs.Later.{Grows}

@@ -100,17 +100,21 @@ row_of (f ∷ ks) first n k e es at a i (inl h) l =
 row_of (f ∷ ks) first n k e es at a i (inr d) l =
     row_deeper f ks first n (k ∷ e ∷ es) at a i (row_of ks (first + n) (n * f) k e es at a i d l)
 
+-- a part of a row, from one of its cells on
+in_row : (first n k at a i : ℕ) (sizes : List ℕ) → other_sizes sizes ≡ []
+    → Here first n [] (k ∷ []) at a → i + span sizes ≤ k → Here first n [] sizes (at + i) (a + i)
+in_row first n k at a i sizes behind h l = record {
+  steps = h.steps + i;
+  at_is = omega (arith, h.at_is);
+  cell_is = omega (arith, h.cell_is);
+  behind_is = behind;
+  inside = omega (arith, h.inside, l);
+}
+
 -- a cell of a row, and the rest of the row from it on
 pub cell_of_row : (ks : List ℕ) (first n k at a i : ℕ) → LeadsFrom ks first n (k ∷ []) at a → i < k
     → LeadsFrom ks first n [] (at + i) (a + i)
-cell_of_row [] first n k at a i h l =
-    record {
-      steps = h.steps + i;
-      at_is = omega (arith, h.at_is);
-      cell_is = omega (arith, h.cell_is);
-      behind_is = refl;
-      inside = omega (arith, h.inside, l);
-    }
+cell_of_row [] first n k at a i h l = in_row first n k at a i [] refl h (omega (arith, l))
 cell_of_row (f ∷ ks) first n k at a i (inl h) l = absurd (let c : ⊥ = clash h.behind_is in c)
   where
     clash : [] ≡ f ∷ ks → ⊥
@@ -121,13 +125,7 @@ cell_of_row (f ∷ ks) first n k at a i (inr d) l =
 pub rest_of_row : (ks : List ℕ) (first n k at a i : ℕ) → LeadsFrom ks first n (k ∷ []) at a → i < k
     → LeadsFrom ks first n ((k - i) ∷ []) (at + i) (a + i)
 rest_of_row [] first n k at a i h l =
-    record {
-      steps = h.steps + i;
-      at_is = omega (arith, h.at_is);
-      cell_is = omega (arith, h.cell_is);
-      behind_is = refl;
-      inside = omega (arith, h.inside, l);
-    }
+    in_row first n k at a i ((k - i) ∷ []) refl h (omega (arith, l))
 rest_of_row (f ∷ ks) first n k at a i (inl h) l = absurd (let c : ⊥ = clash h.behind_is in c)
   where
     clash : [] ≡ f ∷ ks → ⊥

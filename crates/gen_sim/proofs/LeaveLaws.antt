@@ -18,8 +18,9 @@ use Rattle.gen_sim.specs.Pieces.{Piece, total}
 use Rattle.gen_sim.specs.View.{View, kept, used, Laid}
 use Rattle.gen_sim.specs.Stands.{Stands}
 use Rattle.gen_sim.proofs.PieceLaws.{total-append}
-use Rattle.gen_sim.proofs.MemLaws.{count_cells}
+use Rattle.gen_sim.proofs.MemLaws.{count_cells, gap, in_use}
 use Rattle.gen_sim.proofs.ChangeLaws.{left_mem}
+use Rattle.gen_sim.proofs.WorldLaws.{stands_anew}
 use Rattle.gen_sim.specs.Site.{Site, DoesAt}
 use Rattle.gen_sim.specs.Items.{with}
 use Rattle.gen_sim.proofs.StepLaws.{move_is, goes}
@@ -69,17 +70,7 @@ leaves x {A} {d} {o} {Q} v gone {p} {w} {c} laid s f deep later next =
         (move_is x c p (with op.Stack (pos (4 * total gone))) s.at f
         ∙ ap (λ y. moved x.amx x.script c y)
         (leave_errs x c.state (4 * total gone) (p + 8) top few)) s.said
-        (omega (
-          arith,
-          few,
-          s.mem.hea,
-          s.mem.stk,
-          s.mem.size,
-          length-append s.mem.free [],
-          total-append gone v.high,
-          deep,
-          s.most,
-        )) later
+        (omega (arith, few, gap s.mem, in_use s.mem, total-append gone v.high, deep, s.most)) later
     by_room (inr much) =
         let t : State =
         record c.state {
@@ -89,15 +80,6 @@ leaves x {A} {d} {o} {Q} v gone {p} {w} {c} laid s f deep later next =
         } in
         goes x s (with op.Stack (pos (4 * total gone))) f t
         (leave_goes x c.state (4 * total gone) (p + 8) top much)
-        (next (record c { state = t }) (record {
-          mem = left_mem gone v.high s.mem t refl refl refl;
-          frame = s.frame;
-          at = refl;
-          said = s.said;
-          position = s.position;
-          needs = s.needs;
-          most = s.most;
-          laid = laid;
-          params = s.params;
-          temps = s.temps;
-        }) refl)
+        (next (record c { state = t }) (stands_anew x.program x.room s v.high v.temps
+        (left_mem gone v.high s.mem t refl refl refl) refl refl laid refl (λ k slot. refl) s.temps)
+        refl)

@@ -1,8 +1,8 @@
 -- Locals are dropped: at the end of a block, and by `break`, `continue` and `return`.
-use Rattle.std.proofs.Common.{◌≡◌, ◌+◌, ◌*◌, ◌≤◌, ℕ, pos, List, [], ◌∷◌, ◌++◌, Some, true, length}
+use Rattle.std.proofs.Common.{◌≡◌, ◌+◌, ◌*◌, ◌^◌, ◌<◌, ◌≤◌, ℕ, pos, List, [], ◌∷◌, ◌++◌, Some, true, length}
 use Rattle.std.proofs.Common.{sum, refl, subst, ◌∙◌, arith}
-use Rattle.pawn_program.specs.Program.{Slot, Expr, Stmts, Block, Return, Break, Continue}
-use Rattle.pawn_program.specs.ValidStmts.{slots_made_by}
+use Rattle.pawn_meaning.specs.Program.{Slot, Expr, Stmts, Block, Return, Break, Continue}
+use Rattle.pawn_meaning.specs.ValidStmts.{slots_made_by}
 use Rattle.pawn_meaning.specs.World.{World}
 use Rattle.pawn_meaning.specs.Run.{Outcome, Gives, give}
 use Rattle.pawn_meaning.specs.Calls.{Way, Returned}
@@ -29,6 +29,7 @@ use Rattle.gen_sim.specs.Lies.{Lies}
 use Rattle.gen_sim.specs.SimpleCode.{alone, taking}
 use Rattle.gen_sim.proofs.ItemSteps.{one_item, next_lies}
 use Rattle.gen_sim.proofs.NodesPartLaws.{gives_of, then_items}
+use Rattle.gen_sim.specs.JumpCode.{jump_to}
 use Rattle.gen_sim.proofs.JumpSteps.{jump_does}
 use Rattle.gen_sim.specs.Here.{Exits, Here}
 use Rattle.gen_sim.specs.FlowCode.{made_cells, leave_code, block_code, break_code, continue_code}
@@ -77,6 +78,21 @@ leaves_way x e o slots (m ∷ made) {v} {base} q way w t u k l deep =
     (λ s. leave_does x slots {js = []} (m ∷ made) u s l deep (same_later w)
     (λ j n b e. given x b b))
 
+-- the locals made since a loop's body began are dropped, and a jump leads out of it
+out_does : (x : Site) (here : Here) (o : Outer) (to : ℕ) {v : View} {p q : ℕ} {way : Way} {w : World}
+    {c : Config} → to < 2 ^ 31 → Upon x here.scope.slots here.since v o.loop
+    → Stands x.program x.room v [] p w c
+    → Lies x p (leave_code here.scope.slots here.since ++ jump_to op.Jump to ∷ [])
+    → used x.program x.room v [] + 0 ≤ kept x.program x.room + sum v.needs
+    → ((t : Config) → Stands x.program x.room o.loop [] to w t → Left x here.exits o v q way w t)
+    → DoesAt x (length (item_cells
+    (leave_code here.scope.slots here.since ++ jump_to op.Jump to ∷ []))) w c (Gives way w)
+    (Left x here.exits o v q)
+out_does x here o to {v} {p} {q} {way} {w} {c} low upon s l deep left =
+    leave_does x here.scope.slots here.since upon s l
+    (upon_less x here.scope.slots here.since v o.loop upon 0 deep) (same_later w)
+    (λ j t k e. jump_does x k to 0 low (omega arith) j (λ i m f. given x m (left i m)))
+
 module _ (here : Here) (begin : ℕ) where
   pub block_does : (stmts : Stmts) (items : List Item) → StmtsCode here stmts begin items
       → StmtCode here (Block stmts) begin (block_code here.scope.slots (slots_made_by stmts) items)
@@ -108,11 +124,8 @@ module _ (here : Here) (begin : ℕ) where
       count = refl;
       does = λ x turns v o b l paid deep w c s.
           let n = b.inside.loop looped in
-          let less =
-          upon_less x here.scope.slots here.since v o.loop n.upon 0 (omega (arith, deep)) in
-          leave_does x here.scope.slots here.since n.upon s l less (same_later w)
-          (λ j t k e. jump_does x k here.exits.broke 0 n.broke (omega arith) j
-          (λ i m f. given x m (looped, m)));
+          out_does x here o here.exits.broke n.broke n.upon s l (omega (arith, deep))
+          (λ t m. (looped, m));
     }
 
     pub continue_does : StmtCode here Continue begin (continue_code here)
@@ -121,11 +134,8 @@ module _ (here : Here) (begin : ℕ) where
       count = refl;
       does = λ x turns v o b l paid deep w c s.
           let n = b.inside.loop looped in
-          let less =
-          upon_less x here.scope.slots here.since v o.loop n.upon 0 (omega (arith, deep)) in
-          leave_does x here.scope.slots here.since n.upon s l less (same_later w)
-          (λ j t k e. jump_does x k here.exits.continued 0 n.continued (omega arith) j
-          (λ i m f. given x m (looped, m)));
+          out_does x here o here.exits.continued n.continued n.upon s l (omega (arith, deep))
+          (λ t m. (looped, m));
     }
 
   pub return_does : (e : Expr) (items : List Item) → ValueCode here.scope e begin items

@@ -8,11 +8,10 @@ pub mod BodyLaws
 pub mod CallLaws
 pub mod CallNodes
 pub mod CalledScopes
-pub mod Calls
 pub mod ChainNodes
 pub mod ChangeLaws
 pub mod CharacterLaws
-pub mod ContractExamples
+pub mod ConstantNodes
 pub mod CopyLaws
 pub mod CopyNodes
 pub mod CutLaws
@@ -25,7 +24,6 @@ pub mod FrameAddresses
 pub mod FrameLaws
 pub mod Fronts
 pub mod GiveBack
-pub mod GoodCode
 pub mod IndexLaws
 pub mod IndexNodes
 pub mod ItemLaws
@@ -39,7 +37,6 @@ pub mod LayoutLaws
 pub mod LeadLaws
 pub mod LeaveLaws
 pub mod LeaveNodes
-pub mod Lie
 pub mod LinkLaws
 pub mod Lists
 pub mod LocalLaws
@@ -53,7 +50,6 @@ pub mod Marks
 pub mod MemLaws
 pub mod MoveLaws
 pub mod NativeLaws
-pub mod Natives
 pub mod NearNative
 pub mod NodesPartLaws
 pub mod ObjectLaws
@@ -66,19 +62,14 @@ pub mod ParameterLaws
 pub mod PartLaws
 pub mod PieceLaws
 pub mod PlaceNodes
-pub mod ScriptLaws
 pub mod SeenLaws
 pub mod Sim
 pub mod SimpleNodes
-pub mod SingleLaws
 pub mod SleepNodes
 pub mod SlotLaws
-pub mod Stands
-pub mod Start
 pub mod StateNodes
 pub mod StepLaws
 pub mod StepNodes
-pub mod Steps
 pub mod TemporaryLaws
 pub mod TemporaryViews
 pub mod TurnLaws

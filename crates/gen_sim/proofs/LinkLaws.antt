@@ -7,9 +7,9 @@ use Rattle.pawn_cells.specs.declared.operator.Comparison.{Comparison}
 use Rattle.pawn_cells.specs.declared.operator.Comparison.TheVariants as comparison
 use Rattle.pawn_cells.specs.Cells.{IsCell, is_zero, truth}
 use Rattle.pawn_cells.specs.Operators.{compare}
-use Rattle.pawn_program.specs.Program.{Expr, Links, no_links, then_link}
-use Rattle.pawn_program.specs.Scope.{Scope}
-use Rattle.pawn_program.specs.ValidExprs.{IsOperator}
+use Rattle.pawn_meaning.specs.Program.{Expr, Links, no_links, then_link}
+use Rattle.pawn_meaning.specs.Scope.{Scope}
+use Rattle.pawn_meaning.specs.ValidExprs.{IsOperator}
 use Rattle.pawn_meaning.specs.World.{World}
 use Rattle.pawn_meaning.specs.Run.{Run, ◌>>=◌, give, choose}
 use Rattle.pawn_meaning.specs.Later.{Grows}
@@ -22,7 +22,7 @@ use Rattle.amx_ops.specs.State.{State, Goes, push}
 use Rattle.amx_ops.specs.Effects.{at_next}
 use Rattle.amx_ops.specs.Step.{act}
 use Rattle.amx_ops.specs.Moves.{Config}
-use Rattle.amx_ops.proofs.CellLaws.{truth_cell}
+use Rattle.pawn_cells.proofs.CellLaws.{truth_cell}
 use Rattle.gen_sim.specs.View.{View, kept, used}
 use Rattle.gen_sim.specs.Stands.{Stands, With}
 use Rattle.gen_sim.specs.Site.{Site, DoesAt, scene_at}

@@ -4,7 +4,7 @@ use Rattle.std.proofs.Common.{false, slice_get, refl, sym, ap, subst, ◌∙◌,
 use Rattle.std.proofs.Common.{if◌then◌else◌}
 use Rattle.std.proofs.lemmas.Bool.{eqb-true, eqb-false}
 use Rattle.std.specs.Prelude.{Any}
-use Rattle.pawn_program.specs.Program.{Slot}
+use Rattle.pawn_meaning.specs.Program.{Slot}
 use Rattle.pawn_meaning.specs.Memory.{Name, Local}
 use Rattle.gen_sim.specs.Pieces.{Piece, Fixed, Thing, Automaton, Each, total}
 use Rattle.gen_sim.specs.Places.{Apart, StandsIn}

@@ -2,9 +2,9 @@
 use Rattle.std.proofs.Common.{◌≡◌, ◌≢◌, ◌<◌, ◌≤◌, ◌⊎◌, inl, inr, ℕ, zero, suc, List, [], ◌∷◌, ◌++◌}
 use Rattle.std.proofs.Common.{length, slice_get, refl, sym, ap, subst, ◌∙◌, arith}
 use Rattle.std.specs.Prelude.{Any, get_or}
-use Rattle.pawn_program.specs.Program.{Slot, ScalarSlot, ReferenceSlot, ArraySlot, OpenSlot}
-use Rattle.pawn_program.specs.Program.{Program}
-use Rattle.pawn_program.specs.Scope.{Scope, IsMade, with_made}
+use Rattle.pawn_meaning.specs.Program.{Slot, ScalarSlot, ReferenceSlot, ArraySlot, OpenSlot}
+use Rattle.pawn_meaning.specs.Program.{Program}
+use Rattle.pawn_meaning.specs.Scope.{Scope, IsMade, with_made}
 use Rattle.pawn_meaning.specs.Memory.{Local}
 use Rattle.gen_sim.specs.Pieces.{Thing}
 use Rattle.gen_sim.specs.View.{View, innermost}

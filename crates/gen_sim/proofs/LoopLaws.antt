@@ -3,7 +3,7 @@ use Rattle.std.proofs.Common.{◌≡◌, ◌+◌, ◌*◌, ◌^◌, ◌<◌, ◌
 use Rattle.std.proofs.Common.{◌∷◌, ◌++◌, Bool, true, false, length, refl, sym, ap, subst, ◌∙◌}
 use Rattle.std.proofs.Common.{arith}
 use Rattle.pawn_cells.specs.Cells.{is_zero}
-use Rattle.pawn_program.specs.Program.{Stmt}
+use Rattle.pawn_meaning.specs.Program.{Stmt}
 use Rattle.pawn_meaning.specs.World.{World}
 use Rattle.pawn_meaning.specs.Run.{Run, Done, done, ◌>>=◌, give, turn, choose, at_zero}
 use Rattle.pawn_meaning.specs.Calls.{Way, Through, Broke, Continued, Returned, again}

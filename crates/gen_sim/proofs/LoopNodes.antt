@@ -2,9 +2,9 @@
 use Rattle.std.proofs.Common.{◌≡◌, ◌+◌, ◌^◌, ◌<◌, ◌≤◌, ℕ, ℤ, pos, List, [], ◌∷◌, ◌++◌, length, max}
 use Rattle.std.proofs.Common.{sum, refl, sym, ap, subst, ◌∙◌, arith}
 use Rattle.pawn_cells.specs.Cells.{is_zero}
-use Rattle.pawn_program.specs.Program.{Expr, Perhaps, Absent, Present, Stmt, While, For, Stmts}
-use Rattle.pawn_program.specs.Program.{no_stmts}
-use Rattle.pawn_program.specs.ValidStmts.{slots_made, slots_made_by}
+use Rattle.pawn_meaning.specs.Program.{Expr, Perhaps, Absent, Present, Stmt, While, For, Stmts}
+use Rattle.pawn_meaning.specs.Program.{no_stmts}
+use Rattle.pawn_meaning.specs.ValidStmts.{slots_made, slots_made_by}
 use Rattle.pawn_meaning.specs.World.{World}
 use Rattle.pawn_meaning.specs.Run.{Run, Done, ◌>>=◌, give, done, at_zero}
 use Rattle.pawn_meaning.specs.Calls.{Way, Through, pass}

@@ -17,7 +17,7 @@ use Rattle.amx_ops.specs.Moves.{Config, moved, move}
 use Rattle.gen_sim.proofs.Sim.{stays, grown}
 use Rattle.gen_sim.specs.View.{View}
 use Rattle.gen_sim.specs.Stands.{Stands}
-use Rattle.gen_sim.proofs.WorldLaws.{stands_on}
+use Rattle.gen_sim.proofs.WorldLaws.{stands_on, stands_still}
 use Rattle.gen_sim.specs.Site.{Site, DoesAt}
 use Rattle.gen_sim.specs.Items.{with}
 use Rattle.gen_sim.proofs.StepLaws.{move_is, goes}
@@ -33,18 +33,7 @@ in_next_turn w = record w { turns = w.turns + 1 }
 pub next_stands : (x : Site) {v : View} {pending : List ℤ} {p : ℕ} {w : World} {c : Config}
     → Stands x.program x.room v pending p w c
     → Stands x.program x.room v pending p (in_next_turn w) c
-next_stands x s = record {
-  mem = s.mem;
-  frame = s.frame;
-  at = s.at;
-  said = s.said;
-  position = s.position;
-  needs = s.needs;
-  most = s.most;
-  laid = s.laid;
-  params = s.params;
-  temps = s.temps;
-}
+next_stands x s = stands_still x.program x.room s s.mem refl s.at
 
 -- the instruction that begins a turn pays for what the file's cells bound
 pub turns_then : (x : Site) {A : Type 0} {Q : A → World → Config → Type 0} {n : ℕ} (c t : Config)

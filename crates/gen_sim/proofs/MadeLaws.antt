@@ -4,8 +4,8 @@ use Rattle.std.proofs.Common.{Some, Bool, true, false, length, sum, slice_get, n
 use Rattle.std.proofs.Common.{if◌then◌else◌, refl, sym, ap, subst, ◌∙◌, arith}
 use Rattle.std.proofs.lemmas.Bool.{ltb-true}
 use Rattle.std.specs.Prelude.{Any}
-use Rattle.pawn_program.specs.Program.{Slot}
-use Rattle.pawn_program.specs.Scope.{Scope, IsMade}
+use Rattle.pawn_meaning.specs.Program.{Slot}
+use Rattle.pawn_meaning.specs.Scope.{Scope, IsMade}
 use Rattle.pawn_meaning.specs.Memory.{Memory, Object, Frame, Owns, Local, one_cell, frame_at}
 use Rattle.pawn_meaning.specs.Memory.{slot_in, pointed, running, with_slot, with_object, made_in}
 use Rattle.pawn_meaning.specs.Memory.{made, needs_of}

@@ -1,8 +1,8 @@
 -- Views, scopes and exits with slots that were made one after another.
 use Rattle.std.proofs.Common.{◌≡◌, ◌+◌, ◌≤◌, ℕ, List, [], ◌∷◌, ◌++◌, sum, slice_get, refl, sym, ap}
 use Rattle.std.proofs.Common.{subst, ◌∙◌, arith, append_assoc, append-nil}
-use Rattle.pawn_program.specs.Program.{Slot}
-use Rattle.pawn_program.specs.Scope.{Scope, with_made}
+use Rattle.pawn_meaning.specs.Program.{Slot}
+use Rattle.pawn_meaning.specs.Scope.{Scope, with_made}
 use Rattle.pawn_meaning.specs.Memory.{Local}
 use Rattle.gen_sim.specs.Pieces.{Piece, Thing, total}
 use Rattle.gen_sim.specs.View.{View, innermost, kept, used, Laid}

@@ -156,6 +156,13 @@ module _ {N : ℕ} {low : List Piece} {pending : List ℤ} {high : List Piece} {
       ap length mem.cells ∙ length_image m (row low (mem.free ++ pending) high) mem.there
       ∙ total_row low (mem.free ++ pending) high ∙ mem.size
 
+  -- the free cells lie between HEA and STK, and all others are in use
+  pub gap : s.stk ≡ s.hea + 4 * length mem.free
+  gap = omega (arith, mem.hea, mem.stk)
+
+  pub in_use : total low + (length mem.free + length pending + total high) ≡ N
+  in_use = omega (arith, mem.size, length-append mem.free pending)
+
   pub live_low : (a : ℕ) → a < total low → is_live s (4 * a) ≡ true
   live_low a h =
       let x : (4 * a % 4 == 0) ≡ true = eq-eqb _ _ (omega arith) in

@@ -14,7 +14,7 @@ use Rattle.pawn_cells.specs.Cells.{IsCell, bits_of, cell_of, char_at}
 use Rattle.pawn_meaning.specs.Memory.{put}
 use Rattle.amx_ops.specs.Access.{byte_at, is_among, is_touched, byte_moved, four_bytes, cell_moved}
 use Rattle.amx_ops.specs.Access.{moved}
-use Rattle.amx_ops.proofs.CellLaws.{bits_fit}
+use Rattle.pawn_cells.proofs.CellLaws.{bits_fit}
 use Rattle.gen_sim.proofs.Lists.{put_length}
 
 same_cells : (xs ys : List ℤ) → length xs ≡ length ys

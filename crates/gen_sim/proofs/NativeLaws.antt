@@ -9,7 +9,7 @@ use Rattle.pawn_cells.specs.Cells.{IsCell}
 use Rattle.host_script.specs.declared.event.Event.{Event}
 use Rattle.host_script.specs.declared.event.End.TheVariants as end
 use Rattle.host_script.specs.NativeCall.{Lost, Fault, Put, Called, Ends_there, Answers, native_call}
-use Rattle.pawn_program.specs.Program.{Program}
+use Rattle.pawn_meaning.specs.Program.{Program}
 use Rattle.pawn_meaning.specs.Memory.{Memory, Object, put, write_cells, needs_of}
 use Rattle.pawn_meaning.specs.World.{Entry, World, said}
 use Rattle.pawn_meaning.specs.Run.{Stops}

@@ -4,9 +4,9 @@ use Rattle.std.proofs.Common.{Option, None, Some, length, replicate, sum, slice_
 use Rattle.std.proofs.Common.{subst, ◌∙◌, arith}
 use Rattle.std.specs.Prelude.{IfSome}
 use Rattle.pawn_cells.specs.Cells.{IsCell}
-use Rattle.pawn_program.specs.Program.{Slot, ScalarSlot}
-use Rattle.pawn_program.specs.Scope.{Scope}
-use Rattle.pawn_program.specs.ValidExprs.{Takes, IsOperator}
+use Rattle.pawn_meaning.specs.Program.{Slot, ScalarSlot}
+use Rattle.pawn_meaning.specs.Scope.{Scope}
+use Rattle.pawn_meaning.specs.ValidExprs.{Takes, IsOperator}
 use Rattle.pawn_meaning.specs.World.{World}
 use Rattle.pawn_meaning.specs.Natives.{Held, Value}
 use Rattle.pawn_meaning.specs.Later.{Grows}
@@ -17,7 +17,7 @@ use Rattle.amx_ops.specs.declared.op.Op.TheVariants as op
 use Rattle.amx_ops.specs.State.{push}
 use Rattle.amx_ops.specs.Effects.{at_next}
 use Rattle.amx_ops.specs.Moves.{Config, move}
-use Rattle.amx_ops.proofs.CellLaws.{small_cell}
+use Rattle.pawn_cells.proofs.CellLaws.{small_cell}
 use Rattle.gen_sim.proofs.Sim.{wider}
 use Rattle.gen_sim.specs.View.{View, kept, used}
 use Rattle.gen_sim.specs.Next.{HoldArguments}

@@ -20,7 +20,7 @@ use Rattle.amx_ops.specs.Written.{cells_of}
 use Rattle.amx_ops.specs.State.{State, Goes}
 use Rattle.amx_ops.specs.Step.{act}
 use Rattle.amx_ops.specs.Moves.{Config}
-use Rattle.amx_ops.proofs.CellLaws.{cell_of_cell, wrap_cell, shr_cell, truth_cell, floor_rem_cell}
+use Rattle.pawn_cells.proofs.CellLaws.{cell_of_cell, wrap_cell, shr_cell, truth_cell, floor_rem_cell}
 use Rattle.gen_sim.specs.View.{View}
 use Rattle.gen_sim.specs.Stands.{Stands, With}
 use Rattle.gen_sim.specs.Site.{Site, DoesAt}

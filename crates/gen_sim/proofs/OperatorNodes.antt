@@ -3,9 +3,9 @@ use Rattle.std.proofs.Common.{◌≡◌, ◌+◌, ◌≤◌, ℕ, ℤ, pos, List
 use Rattle.std.proofs.Common.{Option, length, sum, refl, sym, ap, subst, ◌∙◌, arith, if◌then◌else◌}
 use Rattle.std.specs.Prelude.{IfSome}
 use Rattle.pawn_cells.specs.Cells.{IsCell}
-use Rattle.pawn_program.specs.Program.{Scalar, Expr, UpdateBy, StepBy, Operate, OperateOne}
-use Rattle.pawn_program.specs.Scope.{Scope}
-use Rattle.pawn_program.specs.ValidExprs.{IsOperator}
+use Rattle.pawn_meaning.specs.Program.{Scalar, Expr, UpdateBy, StepBy, Operate, OperateOne}
+use Rattle.pawn_meaning.specs.Scope.{Scope}
+use Rattle.pawn_meaning.specs.ValidExprs.{IsOperator}
 use Rattle.pawn_meaning.specs.Memory.{Place, read, write}
 use Rattle.pawn_meaning.specs.World.{World}
 use Rattle.pawn_meaning.specs.Run.{Outcome, Gives, Stops, More, Run, ◌>>=◌, then_do, look, change}
@@ -27,12 +27,11 @@ use Rattle.gen_sim.specs.SimpleCode.{alone}
 use Rattle.gen_sim.specs.AccessCode.{load_code, store_code, changed_code, update_code, turned_code}
 use Rattle.gen_sim.specs.AccessCode.{step_by_code}
 use Rattle.gen_sim.proofs.ItemSteps.{next_lies, item_sets, item_pushes, item_pops_alt}
-use Rattle.gen_sim.proofs.NodesPartLaws.{nodes_of, gives_of, then_items, both_does}
-use Rattle.gen_sim.proofs.SimpleNodes.{value_leaves}
+use Rattle.gen_sim.proofs.NodesPartLaws.{gives_of, then_items, with_value, value_leaves}
 use Rattle.gen_sim.proofs.KindLaws.{OfKind}
-use Rattle.gen_sim.proofs.AccessLaws.{AddressOf, Loaded, Stored, place_loads, place_stores}
-use Rattle.gen_sim.proofs.AccessLaws.{place_leaves}
-use Rattle.gen_sim.proofs.AccessNodes.{placed_does, storing, storing_grows, changed_does}
+use Rattle.gen_sim.proofs.AccessLaws.{Loaded, Stored, place_stores, place_leaves, loads_at}
+use Rattle.gen_sim.proofs.AccessNodes.{placed_does, place_with_value, storing, storing_grows}
+use Rattle.gen_sim.proofs.AccessNodes.{changed_does}
 use Rattle.gen_sim.proofs.StepNodes.{leaving, leaving_grows, stored_does}
 use Rattle.gen_sim.specs.CallCode.{one_code, two_code, convert_code, operate_one_code, operate_code}
 use Rattle.gen_sim.proofs.OperatorCalls.{one_grows, two_grows, converted_grows, one_does, two_does}
@@ -133,12 +132,7 @@ module _ (scope : Scope) (x : Site) (same : x.program ≡ scope.program) (turns 
       >>= (λ z. leaving at z (if prefix then z else y)))
       (λ y m. (after_grows (one_grows x turns f y)
       (λ z. leaving_grows at z (if prefix then z else y))).at m)
-      (λ j. place_loads x s at kind (p + 4) u n
-      (record {
-        stands = b;
-        address = subst (λ z. IsAddress x.program x.room v at z)
-            (sym (e ∙ pri)) is;
-      }) j)
+      (λ j. loads_at x s at kind address is (p + 4) u n b (e ∙ pri) j)
       (λ j y m i k. turned_does prefix deep y (past (p + 4) (load_code s)) m i k.0
       (k.1 ∙ g ∙ pri) j))
 
@@ -168,25 +162,18 @@ module _ (scope : Scope) (begin : ℕ) where
       → ValueCode scope (Operate f l r swapped) begin (operate_code f swapped left right)
   operate_does f l r swapped left right takes one two = record {
     does = λ x site same turns calls v fits lie starts pending deep w c s.
-        let fewer = with_turns x turns in
-        both_does x begin left right (two_code f swapped) (value (scene_at x) fewer r)
-        (λ y z. call_two (scene_at x) fewer f swapped y z)
+        with_value scope begin r left right (two_code f swapped) two x site same turns calls fits
+        pending (omega (arith, deep)) w (record { lie = lie; starts = starts })
+        (value (scene_at x) (with_turns x turns) l w)
+        (λ y z. call_two (scene_at x) (with_turns x turns) f swapped y z)
         (λ y u t. With x.program x.room v pending (past begin left) y u t) (λ y z. z ≡ y)
-        (λ first y u t. With x.program x.room v (first ∷ pending)
-        (past (past begin left + 4) right) y u t) (λ y z. z ≡ y)
-        (λ q. With x.program x.room v pending q) w (record { lie = lie; starts = starts })
-        (value (scene_at x) fewer l w) (omega (arith, deep))
-        ((nodes_of x turns).values r) (λ y z. two_grows x turns f swapped y z)
+        (λ y z. two_grows x turns f swapped y z)
         (λ k. one.does x site same turns calls v fits k.lie k.starts pending
         (omega (arith, deep)) w c s)
         (λ y u t a. value_leaves x a)
-        (λ k first u t a. two.does x site same turns calls v fits k.lie k.starts (first ∷ pending)
-        (omega (arith, deep)) u t a)
-        (λ first y u t a. value_leaves x a)
-        (λ k y z a b a_is fa b_is fb u t j alt pri.
+        (λ k y z a a_is fa fz u t j alt pri.
         two_does scope x same turns calls v pending (omega (arith, deep)) f takes swapped y z
-        (subst (λ n. IsCell n) a_is fa) (subst (λ n. IsCell n) b_is fb) _ u t j
-        (alt ∙ a_is) (pri ∙ b_is) k);
+        (subst (λ n. IsCell n) a_is fa) fz _ u t j (alt ∙ a_is) pri k);
   }
 
   pub update_by_does : (p : Scalar) (f : ℕ) (swapped : Bool) (e : Expr) (convert : Option ℕ)
@@ -205,27 +192,14 @@ module _ (scope : Scope) (begin : ℕ) where
         let makes =
         λ (a y : ℤ). after_grows (two_grows x turns f swapped a y)
         (λ z. converted_grows x turns convert z) in
-        both_does x begin address items (changed_code p code) (value (scene_at x) fewer e)
+        place_with_value scope begin p e address items (changed_code p code) one two x site same turns
+        calls fits pending (omega (arith, deep)) (omega (arith, deep)) w c
+        (record { lie = lie; starts = starts }) s
         (λ at y. look (read at) >>= (λ a. two_of a y >>= (λ b. turn_of b >>= storing at)))
-        (λ at u t. PlaceAt x.program x.room v pending (past begin address) at u t × OfKind p at)
-        (AddressOf x v p)
-        (λ first y u t. With x.program x.room v (first ∷ pending)
-        (past (past begin address + 4) items) y u t) (λ y z. z ≡ y)
-        (λ q. With x.program x.room v pending q) w (record { lie = lie; starts = starts })
-        (place (scene_at x) fewer p w) (omega (arith, deep))
-        ((nodes_of x turns).values e)
         (λ at y. after_grows (look_grows (read at))
         (λ a. after_grows (two_grows x turns f swapped a y)
         (λ b. after_grows (converted_grows x turns convert b) (storing_grows at))))
-        (λ l. placed_does x scope p (length (item_cells address)) (past begin address) turns w
-        (one.does x site same turns calls v fits l.lie l.starts pending
-        (omega (arith, deep)) w c s))
-        (λ at u t a. place_leaves x p at (past begin address) u t a.0 a.1)
-        (λ l first u t a. two.does x site same turns calls v fits l.lie l.starts (first ∷ pending)
-        (omega (arith, deep)) u t a)
-        (λ first y u t a. value_leaves x a)
-        (λ l at y from z a fa z_is fz u t b alt pri.
-        let fy = subst (λ n. IsCell n) z_is fz in
+        (λ l at y from a fa fy u t b alt pri.
         let q = past (past begin address + 4) items + 4 in
         subst (λ o. DoesAt x (length (item_cells (changed_code p code))) u t o
         (With x.program x.room v pending (past q (changed_code p code))))
@@ -241,7 +215,7 @@ module _ (scope : Scope) (begin : ℕ) where
         (omega (arith, deep)) f takes swapped i y fi fy q2 n h k alt2 pri2 g)
         (λ g r m o i2. converted_does scope x same turns calls v (from ∷ pending)
         (omega (arith, deep)) convert converts r (past q2 (two_code f swapped)) m o i2 g))
-        (omega (arith, deep)) q u t b alt (pri ∙ z_is) l));
+        (omega (arith, deep)) q u t b alt pri l));
   }
 
   pub step_by_does : (p : Scalar) (f : ℕ) (prefix : Bool) (items : List Item) → IsOperator scope 1 f

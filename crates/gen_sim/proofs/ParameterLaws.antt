@@ -4,7 +4,7 @@ use Rattle.std.proofs.Common.{◌++◌, None, Some, Bool, true, false, ◌==◌,
 use Rattle.std.proofs.Common.{slice_get, if◌then◌else◌, refl, sym, ap, subst, ◌∙◌, arith}
 use Rattle.std.proofs.Common.{append_assoc, length-append, ne_eqb}
 use Rattle.std.proofs.lemmas.Bool.{cases_lt, eqb-true, eqb-false}
-use Rattle.pawn_program.specs.Program.{Program}
+use Rattle.pawn_meaning.specs.Program.{Program}
 use Rattle.pawn_meaning.specs.Memory.{Memory, Local, Holds, Owns, PointsTo, Unmade, Frame}
 use Rattle.pawn_meaning.specs.Memory.{object_at, one_cell, frame_at, slot_in, pointed, needs_of}
 use Rattle.pawn_meaning.specs.Natives.{Held, Value}

@@ -3,10 +3,10 @@ use Rattle.std.proofs.Common.{◌≡◌, ◌+◌, ◌*◌, ◌<◌, inl, ℕ, ze
 use Rattle.std.proofs.Common.{None, Some, take, slice_get, refl, sym, ap, subst, ◌∙◌, arith}
 use Rattle.pawn_cells.specs.Cells.{cell_of}
 use Rattle.pawn_arrays.specs.Sizes.{elements_in}
-use Rattle.pawn_program.specs.Program.{StaticObject, ScalarSlot, ReferenceSlot, Global, Own}
-use Rattle.pawn_program.specs.Program.{Through}
-use Rattle.pawn_program.specs.Scope.{Scope, IsInSight}
-use Rattle.pawn_program.specs.ValidExprs.{IsCellObject}
+use Rattle.pawn_meaning.specs.Program.{StaticObject, ScalarSlot, ReferenceSlot, Global, Own}
+use Rattle.pawn_meaning.specs.Program.{Through}
+use Rattle.pawn_meaning.specs.Scope.{Scope, IsInSight}
+use Rattle.pawn_meaning.specs.ValidExprs.{IsCellObject}
 use Rattle.pawn_meaning.specs.Memory.{Name, Static, Local, Reference}
 use Rattle.pawn_meaning.specs.Run.{give}
 use Rattle.pawn_meaning.specs.References.{other_sizes, cell_at, to_cell}

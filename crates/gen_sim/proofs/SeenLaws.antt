@@ -15,7 +15,7 @@ use Rattle.host_script.specs.declared.event.Seen.TheVariants as seen
 use Rattle.host_script.specs.Script.{characters, before_zero, bytes_of}
 use Rattle.host_script.specs.NativeCall.{Sight, Sought}
 use Rattle.pawn_arrays.specs.Sizes.{elements_in}
-use Rattle.pawn_program.specs.Program.{Program}
+use Rattle.pawn_meaning.specs.Program.{Program}
 use Rattle.pawn_meaning.specs.Memory.{Object, Reference, object_at, cells_from}
 use Rattle.pawn_meaning.specs.References.{other_sizes}
 use Rattle.pawn_meaning.specs.World.{World}

@@ -66,6 +66,19 @@ module _ (mv : Config → Moved Config End) (cells room : ℕ) where
     holds = q.holds;
   }
 
+  -- something else holds of where the machine comes to
+  pub reach_holds : {P R : Config → Type 0} {c u : ℕ} {s : Config} {w : World} {how : How}
+      → (r : Reach mv cells room c u s w how P) → R r.config → Reach mv cells room c u s w how R
+  reach_holds r holds = record {
+    steps = r.steps;
+    config = r.config;
+    by = r.by;
+    said = r.said;
+    least = r.least;
+    most = r.most;
+    holds = holds;
+  }
+
   pub grown : {P : Config → Type 0} {c d u : ℕ} {s : Config} {w : World} {how : How} → c ≤ d
       → Reach mv cells room c u s w how P → Reach mv cells room d u s w how P
   grown h r = record {

@@ -6,8 +6,8 @@ use Rattle.pawn_cells.specs.declared.operator.Operator.{Operator}
 use Rattle.pawn_cells.specs.Cells.{IsCell}
 use Rattle.pawn_cells.specs.Operators.{prefix, binary}
 use Rattle.host_script.specs.declared.event.End.TheVariants as end
-use Rattle.pawn_program.specs.Program.{Expr, Unary, Binary, Seq}
-use Rattle.pawn_program.specs.Scope.{Scope}
+use Rattle.pawn_meaning.specs.Program.{Expr, Unary, Binary, Seq}
+use Rattle.pawn_meaning.specs.Scope.{Scope}
 use Rattle.pawn_meaning.specs.World.{World}
 use Rattle.pawn_meaning.specs.Run.{give, or_stop}
 use Rattle.pawn_meaning.specs.Meaning.{value}
@@ -25,15 +25,8 @@ use Rattle.gen_sim.proofs.StepLaws.{given}
 use Rattle.gen_sim.specs.SimpleCode.{alone, prefix_op, operator_code, unary_code, binary_code}
 use Rattle.gen_sim.specs.SimpleCode.{comma_code}
 use Rattle.gen_sim.proofs.ItemSteps.{item_sets}
-use Rattle.gen_sim.proofs.NodesPartLaws.{nodes_of, then_items, Leaves, both_does}
+use Rattle.gen_sim.proofs.NodesPartLaws.{nodes_of, then_items, with_value, value_leaves}
 use Rattle.gen_sim.proofs.OperatorLaws.{prefix_act, prefix_cell, operator_does}
-
--- a value as what a part leaves
-pub value_leaves : (x : Site) {v : View} {pending : List ℤ} {p : ℕ} {y : ℤ} {w : World} {c : Config}
-    → With x.program x.room v pending p y w c
-    → Leaves x v pending p (λ z. z ≡ y) w c
-value_leaves x a =
-    record { stands = a.stands; is = a.value; fits = subst (λ z. IsCell z) (sym a.value) a.fits }
 
 module _ (scope : Scope) (begin : ℕ) where
   pub unary_does : (o : Prefix) (e : Expr) (items : List Item) → ValueCode scope e begin items
@@ -75,22 +68,15 @@ module _ (scope : Scope) (begin : ℕ) where
       → ValueCode scope (Binary o l r) begin (binary_code o left right)
   binary_does o l r left right one two = record {
     does = λ x site same turns calls v fits lie starts pending deep w c s.
-        let fewer = with_turns x turns in
-        both_does x begin left right (operator_code o) (value (scene_at x) fewer r)
+        with_value scope begin r left right (operator_code o) two x site same turns calls fits pending
+        (omega (arith, deep)) w (record { lie = lie; starts = starts })
+        (value (scene_at x) (with_turns x turns) l w)
         (λ y z. or_stop (binary o y z) (end.Error (pos 11)))
         (λ y u t. With x.program x.room v pending (past begin left) y u t) (λ y z. z ≡ y)
-        (λ first y u t. With x.program x.room v (first ∷ pending)
-        (past (past begin left + 4) right) y u t) (λ y z. z ≡ y)
-        (λ q. With x.program x.room v pending q) w (record { lie = lie; starts = starts })
-        (value (scene_at x) fewer l w) (omega (arith, deep))
-        ((nodes_of x turns).values r) (λ y z. or_stop_grows (binary o y z) (end.Error (pos 11)))
+        (λ y z. or_stop_grows (binary o y z) (end.Error (pos 11)))
         (λ k. one.does x site same turns calls v fits k.lie k.starts pending
         (omega (arith, deep)) w c s)
         (λ y u t a. value_leaves x a)
-        (λ k first u t a. two.does x site same turns calls v fits k.lie k.starts (first ∷ pending)
-        (omega (arith, deep)) u t a)
-        (λ first y u t a. value_leaves x a)
-        (λ k y z a b a_is fa b_is fb u t j alt pri.
-        operator_does x y z o (subst (λ n. IsCell n) a_is fa) (subst (λ n. IsCell n) b_is fb) _ t j
-        (pri ∙ b_is) (alt ∙ a_is) k);
+        (λ k y z a a_is fa fz u t j alt pri.
+        operator_does x y z o (subst (λ n. IsCell n) a_is fa) fz _ t j pri (alt ∙ a_is) k);
   }

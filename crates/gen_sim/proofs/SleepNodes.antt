@@ -9,7 +9,7 @@ use Rattle.std.proofs.lemmas.List.Elements.{All-append, All-take, All-drop, All-
 use Rattle.std.specs.Prelude.{All}
 use Rattle.pawn_cells.specs.Cells.{IsCell, cell_of}
 use Rattle.host_script.specs.declared.event.Event.TheVariants as event
-use Rattle.pawn_program.specs.Program.{Expr, Sleep}
+use Rattle.pawn_meaning.specs.Program.{Expr, Sleep}
 use Rattle.pawn_meaning.specs.World.{Entry, World, said}
 use Rattle.pawn_meaning.specs.Run.{Gives, Done, done, ◌>>=◌, give, say}
 use Rattle.pawn_meaning.specs.Calls.{Through}
@@ -25,7 +25,7 @@ use Rattle.amx_ops.specs.Runs as runs
 use Rattle.amx_ops.specs.Runs.{iterate}
 use Rattle.amx_ops.specs.Moves.{Config, shown, move}
 use Rattle.amx_ops.proofs.RunLaws.{iterate-sleeps}
-use Rattle.amx_ops.proofs.CellLaws.{small_cell}
+use Rattle.pawn_cells.proofs.CellLaws.{small_cell}
 use Rattle.gen_sim.specs.Does.{Reach, Running}
 use Rattle.gen_sim.proofs.Sim.{gives, wider}
 use Rattle.gen_sim.specs.Pieces.{Piece, image, total}

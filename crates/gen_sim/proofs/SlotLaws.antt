@@ -5,8 +5,8 @@ use Rattle.std.proofs.Common.{◌∷◌, Option, None, Some, true, false, length
 use Rattle.std.proofs.Common.{ap, subst, ◌∙◌, arith, nat_lt, le-ltb, lt-ltb}
 use Rattle.pawn_cells.specs.Cells.{bits_of, cell_of, wrapped_sum}
 use Rattle.host_script.specs.declared.event.End.TheVariants as end
-use Rattle.pawn_program.specs.Program.{ScalarSlot}
-use Rattle.pawn_program.specs.Scope.{Scope, IsMade, IsInSight}
+use Rattle.pawn_meaning.specs.Program.{ScalarSlot}
+use Rattle.pawn_meaning.specs.Scope.{Scope, IsMade, IsInSight}
 use Rattle.pawn_meaning.specs.Memory.{Local, Reference, running, through}
 use Rattle.pawn_meaning.specs.World.{World}
 use Rattle.pawn_meaning.specs.Run.{Run, then_do, or_stop, look}

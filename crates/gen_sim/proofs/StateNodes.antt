@@ -4,9 +4,9 @@ use Rattle.std.proofs.Common.{[], ◌∷◌, ◌++◌, Option, None, Some, true,
 use Rattle.std.proofs.Common.{slice_set, refl, sym, ap, subst, ◌∙◌, arith}
 use Rattle.std.specs.Prelude.{IfSome}
 use Rattle.pawn_cells.specs.Cells.{is_zero}
-use Rattle.pawn_program.specs.Program.{Perhaps, Absent, Present, State, Program}
-use Rattle.pawn_program.specs.ValidStmts.{IsStateOf}
-use Rattle.pawn_program.specs.ValidExprs.{Takes}
+use Rattle.pawn_meaning.specs.Program.{Perhaps, Absent, Present, State, Program}
+use Rattle.pawn_meaning.specs.ValidStmts.{IsStateOf}
+use Rattle.pawn_meaning.specs.ValidExprs.{Takes}
 use Rattle.pawn_meaning.specs.Memory.{Memory, switched}
 use Rattle.pawn_meaning.specs.World.{World}
 use Rattle.pawn_meaning.specs.Run.{Run, Done, done, ◌>>=◌, then_do, give, change, changed, at_zero}
@@ -20,7 +20,7 @@ use Rattle.amx_ops.specs.Written.{read_as}
 use Rattle.amx_ops.specs.State as machine
 use Rattle.amx_ops.specs.Step.{act}
 use Rattle.amx_ops.specs.Moves.{Config, move}
-use Rattle.amx_ops.proofs.CellLaws.{small_cell}
+use Rattle.pawn_cells.proofs.CellLaws.{small_cell}
 use Rattle.gen_sim.proofs.Sim.{wider}
 use Rattle.gen_sim.specs.Pieces.{Automaton}
 use Rattle.gen_sim.specs.Places.{Apart}

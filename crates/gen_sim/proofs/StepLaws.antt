@@ -27,9 +27,16 @@ use Rattle.gen_sim.specs.Stands.{Stands, With}
 use Rattle.gen_sim.proofs.MemLaws.{live_in, below_top, same_mem}
 use Rattle.gen_sim.proofs.ChangeLaws.{pushed_on, push_goes, push_errs, pushed_mem, dropped_mem}
 use Rattle.gen_sim.proofs.ChangeLaws.{pop_goes}
-use Rattle.gen_sim.proofs.WorldLaws.{stands_on, cell_reads, cell_written}
+use Rattle.gen_sim.proofs.WorldLaws.{stands_still, stands_on, cell_reads, cell_written}
 use Rattle.gen_sim.specs.Site.{Site, DoesAt}
 use Rattle.gen_sim.specs.Items.{with}
+
+-- what follows from where an instruction leads that keeps PRI and ALT
+abbrev pub Follows : {A : Type 0} → Site → View → List ℤ → (q d : ℕ) → World → Config → Outcome A
+    → (A → World → Config → Type 0) → Type 0
+Follows x v pending q d w c o Q =
+    (t : Config) → Stands x.program x.room v pending q w t → t.state.pri ≡ c.state.pri
+    → t.state.alt ≡ c.state.alt → DoesAt x d w t o Q
 
 module _ (x : Site) where
   -- what one move is, where an instruction is fetched
@@ -58,9 +65,7 @@ module _ (x : Site) where
         ≡ push c.state y (at_next (p + 4 * length (cells_of it)))
         → IsCell y → used x.program x.room v pending ≤ kept x.program x.room + sum v.needs + 15
         → Later w (world_of o)
-        → ((t : Config) → Stands x.program x.room v (y ∷ pending) (p + 4 * length (cells_of it)) w t
-        → t.state.pri ≡ c.state.pri
-        → t.state.alt ≡ c.state.alt → DoesAt x d w t o Q)
+        → Follows x v (y ∷ pending) (p + 4 * length (cells_of it)) d w c o Q
         → DoesAt x (1 + d) w c o Q
     pushes it f y e fit deep l next = by_free (length a.mem.free) refl
       where
@@ -75,18 +80,9 @@ module _ (x : Site) where
             let t : State = record (pushed_on c.state y) { cip = p + 4 * length (cells_of it) } in
             goes it f t (e ∙ push_goes a.mem y (at_next (p + 4 * length (cells_of it)))
             (omega (arith, n)))
-            (next (record c { state = t }) (record {
-              mem = same_mem (pushed_mem a.mem y fit (omega (arith, n))) t refl refl refl;
-              frame = a.frame;
-              at = refl;
-              said = a.said;
-              position = a.position;
-              needs = a.needs;
-              most = a.most;
-              laid = a.laid;
-              params = a.params;
-              temps = a.temps;
-            }) refl refl)
+            (next (record c { state = t }) (stands_still x.program x.room a
+            (same_mem (pushed_mem a.mem y fit (omega (arith, n))) t refl refl refl) refl refl)
+            refl refl)
 
   -- ---- ends
 
@@ -124,18 +120,8 @@ module _ (x : Site) where
       → (q : ℕ) (t : State) → t.cells ≡ c.state.cells → t.hea ≡ c.state.hea
       → t.stk ≡ c.state.stk + 4 → t.frm ≡ c.state.frm → t.cip ≡ q
       → Stands x.program x.room v pending q w (record c { state = t })
-  popped_stands {y = y} a q t e f g h i = record {
-    mem = dropped_mem (y ∷ []) a.mem t e f g;
-    frame = h ∙ a.frame;
-    at = i;
-    said = a.said;
-    position = a.position;
-    needs = a.needs;
-    most = a.most;
-    laid = a.laid;
-    params = a.params;
-    temps = a.temps;
-  }
+  popped_stands {y = y} a q t e f g h i =
+      stands_still x.program x.room a (dropped_mem (y ∷ []) a.mem t e f g) h i
 
   module _ {A : Type 0} {d : ℕ} {o : Outcome A} {Q : A → World → Config → Type 0} {v : View} {y : ℤ}
       {pending : List ℤ} {p : ℕ} {w : World} {c : Config}

@@ -2,8 +2,8 @@
 use Rattle.std.proofs.Common.{◌≡◌, ◌+◌, ◌≤◌, ℕ, ℤ, pos, List, [], ◌∷◌, ◌++◌, Bool, true, false}
 use Rattle.std.proofs.Common.{length, sum, refl, sym, ap, subst, ◌∙◌, arith, if◌then◌else◌}
 use Rattle.pawn_cells.specs.Cells.{IsCell, add}
-use Rattle.pawn_program.specs.Program.{Scalar, Step}
-use Rattle.pawn_program.specs.Scope.{Scope}
+use Rattle.pawn_meaning.specs.Program.{Scalar, Step}
+use Rattle.pawn_meaning.specs.Scope.{Scope}
 use Rattle.pawn_meaning.specs.Memory.{Place, read, write}
 use Rattle.pawn_meaning.specs.World.{World}
 use Rattle.pawn_meaning.specs.Run.{Run, ◌>>=◌, give, look, change}
@@ -12,7 +12,7 @@ use Rattle.pawn_meaning.specs.Meaning.{place}
 use Rattle.pawn_meaning.proofs.Grows.{after_grows, give_grows, look_grows, change_grows}
 use Rattle.amx_ops.specs.declared.op.Op.TheVariants as op
 use Rattle.amx_ops.specs.Moves.{Config}
-use Rattle.amx_ops.proofs.CellLaws.{wrap_cell}
+use Rattle.pawn_cells.proofs.CellLaws.{wrap_cell}
 use Rattle.gen_sim.specs.View.{View, kept, used}
 use Rattle.gen_sim.specs.Stands.{Stands, With}
 use Rattle.gen_sim.specs.Site.{Site, DoesAt, scene_at}
@@ -27,7 +27,7 @@ use Rattle.gen_sim.specs.AccessCode.{load_code, store_code, stepped_code, step_c
 use Rattle.gen_sim.proofs.ItemSteps.{next_lies, item_sets, item_pushes, item_pops_pri}
 use Rattle.gen_sim.proofs.NodesPartLaws.{gives_of, then_items}
 use Rattle.gen_sim.proofs.KindLaws.{OfKind}
-use Rattle.gen_sim.proofs.AccessLaws.{Loaded, Stored, place_loads, place_stores}
+use Rattle.gen_sim.proofs.AccessLaws.{Loaded, Stored, place_stores, loads_at}
 use Rattle.gen_sim.proofs.AccessNodes.{placed_does}
 
 -- stored, and another value given
@@ -103,12 +103,7 @@ module _ (x : Site) {v : View} {pending : List ℤ} (s : Scalar) (at : Place) (k
       (With x.program x.room v pending) u l1
       (look (read at) u) (λ y. leaving at (add y delta) (if prefix then add y delta else y))
       (λ y m. (leaving_grows at (add y delta) (if prefix then add y delta else y)).at m)
-      (λ j. place_loads x s at kind (p + 4) u n
-      (record {
-        stands = b;
-        address = subst (λ z. IsAddress x.program x.room v at z)
-            (sym (e ∙ pri)) is;
-      }) j)
+      (λ j. loads_at x s at kind address is (p + 4) u n b (e ∙ pri) j)
       (λ j y m i k. stepped_does delta prefix deep y (past (p + 4) (load_code s)) m i k.0
       (k.1 ∙ f ∙ pri) j))
 

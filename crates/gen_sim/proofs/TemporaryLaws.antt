@@ -35,11 +35,13 @@ use Rattle.gen_sim.specs.Next.{with_temporary, HoldsArgument}
 use Rattle.gen_sim.specs.Stands.{Stands, With}
 use Rattle.gen_sim.proofs.Lists.{set_put}
 use Rattle.gen_sim.proofs.PieceLaws.{each_gives, total-append}
-use Rattle.gen_sim.proofs.MemLaws.{count_cells}
+use Rattle.gen_sim.proofs.MemLaws.{count_cells, gap, in_use}
 use Rattle.gen_sim.proofs.ChangeLaws.{heap_mem}
 use Rattle.gen_sim.proofs.CutLaws.{last, cut_mem}
 use Rattle.gen_sim.proofs.DataLaws.{of_low}
 use Rattle.gen_sim.proofs.ViewLaws.{of_call, temporary_laid, more_low, next_apart}
+use Rattle.gen_sim.proofs.PlaceNodes.{cell_refers}
+use Rattle.gen_sim.proofs.WorldLaws.{stands_anew}
 use Rattle.gen_sim.specs.Site.{Site, IsSite, DoesAt}
 use Rattle.gen_sim.specs.Items.{with}
 use Rattle.gen_sim.specs.Results.{with_temporaries}
@@ -112,32 +114,20 @@ high_apart x v laid =
 newest : (x : Site) (v : View) → Laid x.program x.room v
     → RefersTo x.program x.room (with_temporary v) (to_cell (Temporary v.temps) 0)
     (total (low x.program x.room v))
-newest x v laid = record {
-  sizes = 1 ∷ [];
-  first = total (low x.program x.room v);
-  placed = record {
-    where_it_is = inl (record {
-      stands = record {
-        before = low x.program x.room v;
-        after = [];
-        split = more_low x.program x.room v;
-        first_is = refl;
-        not_before = low_apart x v;
-        not_after = tt;
-      };
-      apart = high_apart x v laid;
-    });
-  };
-  leads =
-      record {
-        steps = 0;
-        at_is = omega arith;
-        cell_is = omega arith;
-        behind_is = refl;
-        inside = omega arith;
-      };
-  alive = omega arith;
-}
+newest x v laid =
+    cell_refers x (with_temporary v) (Temporary v.temps) (total (low x.program x.room v)) (record {
+      where_it_is = inl (record {
+        stands = record {
+          before = low x.program x.room v;
+          after = [];
+          split = more_low x.program x.room v;
+          first_is = refl;
+          not_before = low_apart x v;
+          not_after = tt;
+        };
+        apart = high_apart x v laid;
+      });
+    }) (omega arith)
 
 module _ (x : Site) (site : IsSite x) (v : View) (pending : List ℤ) (p : ℕ) (w : World) (c : Config)
     (y : ℤ) (k : With x.program x.room v pending p y w c) where
@@ -215,20 +205,11 @@ module _ (x : Site) (site : IsSite x) (v : View) (pending : List ℤ) (p : ℕ) 
       subst (λ j. Mem (all_cells x.program x.room)
       (low_ones ++ next_one j ∷ []) pending v.high made_world.memory u2) n mem2 in
       let s2 : Stands x.program x.room (with_temporary v) pending (p + 8 + 4) made_world c2 =
-      record {
-        mem =
-            subst (λ l. Mem (all_cells x.program x.room) l pending v.high made_world.memory u2)
-            (sym (more_low x.program x.room v)) mem3;
-        frame = s.frame;
-        at = refl;
-        said = s.said;
-        position = s.position;
-        needs = s.needs;
-        most = s.most;
-        laid = temporary_laid x.program x.room v s.laid;
-        params = s.params;
-        temps = length-append w.memory.heap (one_cell y ∷ []) ∙ omega (arith, n);
-      } in
+      stands_anew x.program x.room s v.high (suc v.temps)
+      (subst (λ l. Mem (all_cells x.program x.room) l pending v.high made_world.memory u2)
+      (sym (more_low x.program x.room v)) mem3) refl refl
+      (temporary_laid x.program x.room v s.laid) refl (λ k slot. refl)
+      (length-append w.memory.heap (one_cell y ∷ []) ∙ omega (arith, n)) in
       let more : total (low x.program x.room (with_temporary v)) ≡ total low_ones + 1 =
       ap total (more_low x.program x.room v) ∙ total-append low_ones (next_one v.temps ∷ [])
       ∙ omega arith in
@@ -329,17 +310,7 @@ module _ (x : Site) (site : IsSite x) (v : View) (n : ℕ)
           short_here (move x.amx x.script) (length x.amx.code) x.room d c c w o
           (move_is x c p (with op.Heap (neg_ℤ (pos (4 * n)))) s.at f
           ∙ ap (λ y. moved x.amx x.script c y) (down_errs x c.state n (p + 8) above few)) s.said
-          (omega (
-            arith,
-            few,
-            s.mem.hea,
-            s.mem.stk,
-            s.mem.size,
-            length-append s.mem.free pending,
-            more_than,
-            deep,
-            s.most,
-          )) later
+          (omega (arith, few, gap s.mem, in_use s.mem, more_than, deep, s.most)) later
       by_room (inr much) =
           let l = last v.temps n in
           let t : State =
@@ -361,18 +332,8 @@ module _ (x : Site) (site : IsSite x) (v : View) (n : ℕ)
           step_then (move x.amx x.script) (length x.amx.code) x.room w c (record c { state = t })
           (move_is x c p (with op.Heap (neg_ℤ (pos (4 * n)))) s.at f
           ∙ ap (λ y. moved x.amx x.script c y) (down_goes x c.state n (p + 8) above much)) s.said
-          (next (record c { state = t }) (record {
-            mem =
-                cut_mem (low x.program x.room v) l.pieces v.temps (depth v) mem1
-                (of_low x.program (depth v) v.temps) of_high t refl
-                (omega (arith, above, l.count)) refl;
-            frame = s.frame;
-            at = refl;
-            said = s.said;
-            position = s.position;
-            needs = s.needs;
-            most = s.most;
-            laid = laid;
-            params = s.params;
-            temps = length-take-le v.temps w.memory.heap (omega (arith, s.temps));
-          }) refl)
+          (next (record c { state = t }) (stands_anew x.program x.room s v.high v.temps
+          (cut_mem (low x.program x.room v) l.pieces v.temps (depth v) mem1
+          (of_low x.program (depth v) v.temps) of_high t refl
+          (omega (arith, above, l.count)) refl) refl refl laid refl (λ k slot. refl)
+          (length-take-le v.temps w.memory.heap (omega (arith, s.temps)))) refl)

@@ -1,11 +1,11 @@
 -- What holds of a view holds of it with temporary arguments more.
 use Rattle.std.proofs.Common.{◌≡◌, ◌+◌, ◌≤◌, ℕ, zero, suc, ℤ, List, [], ◌∷◌, length, sum, refl, sym}
 use Rattle.std.proofs.Common.{ap, subst, ◌∙◌, arith}
-use Rattle.pawn_program.specs.Program.{Slot, ScalarSlot, ReferenceSlot, ArraySlot, OpenSlot}
-use Rattle.pawn_program.specs.Program.{Program, Arg, Value, Ref, Whole, Temp, Args, no_args}
-use Rattle.pawn_program.specs.Program.{then_arg}
-use Rattle.pawn_program.specs.Scope.{Scope}
-use Rattle.pawn_program.specs.ValidExprs.{ArgsAgree}
+use Rattle.pawn_meaning.specs.Program.{Slot, ScalarSlot, ReferenceSlot, ArraySlot, OpenSlot}
+use Rattle.pawn_meaning.specs.Program.{Program, Arg, Value, Ref, Whole, Temp, Args, no_args}
+use Rattle.pawn_meaning.specs.Program.{then_arg}
+use Rattle.pawn_meaning.specs.Scope.{Scope}
+use Rattle.pawn_meaning.specs.ValidExprs.{ArgsAgree}
 use Rattle.pawn_meaning.specs.Memory.{Local, Temporary}
 use Rattle.pawn_meaning.specs.Natives.{Held}
 use Rattle.pawn_meaning.specs.Need.{count_of}

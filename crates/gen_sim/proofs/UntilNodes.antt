@@ -3,9 +3,9 @@ use Rattle.std.proofs.Common.{◌≡◌, ◌+◌, ◌^◌, ◌<◌, ◌≤◌, i
 use Rattle.std.proofs.Common.{◌++◌, Bool, true, false, length, max, sum, refl, sym, ap, subst, ◌∙◌}
 use Rattle.std.proofs.Common.{arith}
 use Rattle.pawn_cells.specs.Cells.{is_zero}
-use Rattle.pawn_program.specs.Program.{Expr, Perhaps, Absent, Present, Stmt, DoWhile}
-use Rattle.pawn_program.specs.Scope.{Scope}
-use Rattle.pawn_program.specs.ValidStmts.{slots_made}
+use Rattle.pawn_meaning.specs.Program.{Expr, Perhaps, Absent, Present, Stmt, DoWhile}
+use Rattle.pawn_meaning.specs.Scope.{Scope}
+use Rattle.pawn_meaning.specs.ValidStmts.{slots_made}
 use Rattle.pawn_meaning.specs.World.{World}
 use Rattle.pawn_meaning.specs.Run.{Run, Done, done, ◌>>=◌, give, turn, choose, at_zero}
 use Rattle.pawn_meaning.specs.Calls.{Way, Through, Broke, Continued, Returned, again}
@@ -16,7 +16,7 @@ use Rattle.pawn_meaning.proofs.Grows.{give_grows, after_grows}
 use Rattle.pawn_meaning.proofs.RunLaws.{runs_grow_lem}
 use Rattle.amx_ops.specs.declared.op.Op.TheVariants as op
 use Rattle.amx_ops.specs.Moves.{Config, move}
-use Rattle.amx_ops.proofs.CellLaws.{small_cell}
+use Rattle.pawn_cells.proofs.CellLaws.{small_cell}
 use Rattle.gen_sim.proofs.Sim.{stays, grown, in_turn, wider}
 use Rattle.gen_sim.specs.View.{View, kept, used}
 use Rattle.gen_sim.specs.Stands.{Stands, With}

@@ -72,16 +72,19 @@ module _ (x : Site) {A : Type 0} (p : ℕ) (is js : List Item) (P : A → World 
       (then_nothing o)
       (then_items x p is js P Q w l o (λ a. give a) (λ a u. same_later u) first next)
 
+-- a part does its run, and is left in its way
+abbrev pub PartLeft : Site → Exits → Outer → View → ℕ → List Item → Run Way → ℕ → Type 0
+PartLeft x e o v p part run end =
+    Lies x p part → (n : World) (k : Config) → Stands x.program x.room v [] p n k
+    → DoesAt x (length (item_cells part)) n k (run n) (Left x e o v end)
+
 -- one of two parts, by the value in PRI
 module _ (x : Site) (e : Exits) (o : Outer) {v : View} (p : ℕ) (first second : List Item)
     (one two : Run Way) where
   sides : (y : ℤ) (u : World) (t : Config) → With x.program x.room v [] p y u t
       → Lies x p (choice_code p first second)
-      → (Lies x (p + 8) first → (n : World) (k : Config) → Stands x.program x.room v [] (p + 8) n k
-      → DoesAt x (length (item_cells first)) n k (one n) (Left x e o v (past (p + 8) first)))
-      → (Lies x (other_at p first) second → (n : World) (k : Config)
-      → Stands x.program x.room v [] (other_at p first) n k
-      → DoesAt x (length (item_cells second)) n k (two n) (Left x e o v (end_at p first second)))
+      → PartLeft x e o v (p + 8) first one (past (p + 8) first)
+      → PartLeft x e o v (other_at p first) second two (end_at p first second)
       → (b : Bool) → is_zero y ≡ b
       → DoesAt x (length (item_cells (choice_code p first second))) u t (choose b two one u)
       (Left x e o v (end_at p first second))
@@ -112,11 +115,8 @@ module _ (x : Site) (e : Exits) (o : Outer) {v : View} (p : ℕ) (first second :
 
   pub chooses : (y : ℤ) (u : World) (t : Config) → With x.program x.room v [] p y u t
       → Lies x p (choice_code p first second)
-      → (Lies x (p + 8) first → (n : World) (k : Config) → Stands x.program x.room v [] (p + 8) n k
-      → DoesAt x (length (item_cells first)) n k (one n) (Left x e o v (past (p + 8) first)))
-      → (Lies x (other_at p first) second → (n : World) (k : Config)
-      → Stands x.program x.room v [] (other_at p first) n k
-      → DoesAt x (length (item_cells second)) n k (two n) (Left x e o v (end_at p first second)))
+      → PartLeft x e o v (p + 8) first one (past (p + 8) first)
+      → PartLeft x e o v (other_at p first) second two (end_at p first second)
       → DoesAt x (length (item_cells (choice_code p first second))) u t (at_zero y two one u)
       (Left x e o v (past p (choice_code p first second)))
   chooses y u t a l hone htwo =

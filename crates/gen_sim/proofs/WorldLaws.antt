@@ -7,7 +7,7 @@ use Rattle.std.proofs.Common.{if◌then◌else◌}
 use Rattle.std.proofs.lemmas.Bool.{leb-true, ltb-true}
 use Rattle.std.specs.Prelude.{All}
 use Rattle.pawn_cells.specs.Cells.{IsCell}
-use Rattle.pawn_program.specs.Program.{Program}
+use Rattle.pawn_meaning.specs.Program.{Program}
 use Rattle.pawn_meaning.specs.Memory.{Memory, Object, Name, object_at, with_object, put, put_in}
 use Rattle.pawn_meaning.specs.Memory.{write_cells, read_cell, cell_in, switched, needs_of}
 use Rattle.pawn_meaning.specs.World.{World}
@@ -17,7 +17,7 @@ use Rattle.gen_sim.specs.Pieces.{Piece, Thing, Automaton, IsSized, HasSized, Has
 use Rattle.gen_sim.specs.Pieces.{cells_in, object_cells, state_cell, state_cells, vectors}
 use Rattle.gen_sim.specs.Places.{Placed}
 use Rattle.gen_sim.specs.Mem.{Mem}
-use Rattle.gen_sim.specs.View.{View, all_cells, PlacedIn, CellAt}
+use Rattle.gen_sim.specs.View.{View, Laid, all_cells, low, PlacedIn, CellAt}
 use Rattle.gen_sim.specs.Stands.{refers_at, Stands}
 use Rattle.gen_sim.proofs.Lists.{get_same, got_in_rest, put-after, put_length, set_put, one_fits}
 use Rattle.gen_sim.proofs.MemLaws.{Reads, mem_read, mem_there, mem_write, same_mem, count_cells}
@@ -146,22 +146,40 @@ module _ {N : ℕ} {low_ones : List Piece} {pending : List ℤ} {high : List Pie
 
 module _ (program : Program) (room : ℕ) {v : View} {pending : List ℤ} {p : ℕ} {w : World}
     {c : Config} (a : Stands program room v pending p w c) where
+  -- other cells wait, and the memory has other objects: frames and parameters stay
+  pub stands_anew : (high : List Piece) (temps : ℕ) {more : List ℤ} {q turns : ℕ} {m : Memory}
+      {t : State} → let u : View = record v { high = high; temps = temps } in
+      Mem (all_cells program room) (low program room u) more high m t → t.frm ≡ c.state.frm
+      → t.cip ≡ q → Laid program room u → needs_of m.frames ≡ needs_of w.memory.frames
+      → ((k slot : ℕ) → refers_at k slot m ≡ refers_at k slot w.memory) → length m.heap ≡ temps
+      → Stands program room u more q (record w { memory = m; turns = turns })
+      (record c { state = t })
+  stands_anew high temps mem frame at laid needs refers heap = record {
+    mem = mem;
+    frame = frame ∙ a.frame;
+    at = at;
+    said = a.said;
+    position = a.position;
+    needs = needs ∙ a.needs;
+    most = a.most;
+    laid = laid;
+    params = λ k slot. refers k slot ∙ a.params k slot;
+    temps = heap;
+  }
+
+  -- the memory has the same objects
+  pub stands_still : {more : List ℤ} {q turns : ℕ} {t : State}
+      → Mem (all_cells program room) (low program room v) more v.high w.memory t
+      → t.frm ≡ c.state.frm → t.cip ≡ q
+      → Stands program room v more q (record w { turns = turns }) (record c { state = t })
+  stands_still mem frame at =
+      stands_anew v.high v.temps mem frame at a.laid refl (λ k slot. refl) a.temps
+
   -- registers alone are changed
   pub stands_on : (q : ℕ) (t : State) → t.cells ≡ c.state.cells → t.hea ≡ c.state.hea
       → t.stk ≡ c.state.stk → t.frm ≡ c.state.frm → t.cip ≡ q
       → Stands program room v pending q w (record c { state = t })
-  stands_on q t e f g h i = record {
-    mem = same_mem a.mem t e f g;
-    frame = h ∙ a.frame;
-    at = i;
-    said = a.said;
-    position = a.position;
-    needs = a.needs;
-    most = a.most;
-    laid = a.laid;
-    params = a.params;
-    temps = a.temps;
-  }
+  stands_on q t e f g h i = stands_still (same_mem a.mem t e f g) h i
 
   -- the value of a cell is at its address
   pub cell_reads : {name : Name} {i cell : ℕ} → CellAt program room v name i cell → (x : ℤ)
@@ -181,26 +199,14 @@ module _ (program : Program) (room : ℕ) {v : View} {pending : List ℤ} {p : �
       let r = written name i values w.memory n e in
       let y : Object = record r.object { cells = put values i r.object.cells } in
       let there : first_of at ≡ cell = omega (arith, at.cell_is) in
-      record {
-        mem =
-            object_write a.mem at.placed n i values e t
-            (f ∙ ap (λ z. put values z c.state.cells) (sym there)) g h fit;
-        frame = j ∙ a.frame;
-        at = k;
-        said = a.said;
-        position = a.position;
-        needs =
-            subst (λ z. needs_of z.frames ≡ v.needs) (sym r.new)
-            (object_needs w.memory name y ∙ a.needs);
-        most = a.most;
-        laid = a.laid;
-        params =
-            λ b slot. subst (λ z. refers_at b slot z ≡ v.params b slot) (sym r.new)
-            (refers_same w.memory name y r.object b slot r.is ∙ a.params b slot);
-        temps =
-            subst (λ z. length z.heap ≡ v.temps) (sym r.new)
-            (object_heap w.memory name y ∙ a.temps);
-      }
+      stands_anew v.high v.temps
+      (object_write a.mem at.placed n i values e t
+      (f ∙ ap (λ z. put values z c.state.cells) (sym there)) g h fit) j k a.laid
+      (subst (λ z. needs_of z.frames ≡ needs_of w.memory.frames) (sym r.new)
+      (object_needs w.memory name y))
+      (λ b slot. subst (λ z. refers_at b slot z ≡ refers_at b slot w.memory) (sym r.new)
+      (refers_same w.memory name y r.object b slot r.is))
+      (subst (λ z. length z.heap ≡ v.temps) (sym r.new) (object_heap w.memory name y ∙ a.temps))
     where
       first_of : CellAt program room v name i cell → ℕ
       first_of at = at.first + (length (vectors at.sizes) + i)
@@ -252,19 +258,10 @@ module _ (program : Program) (room : ℕ) {v : View} {pending : List ℤ} {p : �
           rw got (sym (put_one (cells_in w.memory (Automaton automaton)) (pos (state + 1)) one)) in
           let zero_more : first + 0 ≡ first = omega arith in
           subst (λ y. Stands program room v pending q (record w { memory = y })
-          (record c { state = t })) (sym same) (record {
-            mem =
-                mem_write a.mem at new (state_leaves w.memory automaton state) there 0
-                (pos (state + 1) ∷ []) (omega (arith, one)) cells_are t
-                (f ∙ ap (λ z. put (pos (state + 1) ∷ []) z c.state.cells) (sym zero_more)) g h
-                (one_fits (pos (state + 1)) (record { sfits = omega (arith, small) }));
-            frame = j ∙ a.frame;
-            at = k;
-            said = a.said;
-            position = a.position;
-            needs = a.needs;
-            most = a.most;
-            laid = a.laid;
-            params = a.params;
-            temps = a.temps;
-          })
+          (record c { state = t })) (sym same)
+          (stands_anew v.high v.temps (mem_write a.mem at new
+          (state_leaves w.memory automaton state) there 0
+          (pos (state + 1) ∷ []) (omega (arith, one)) cells_are t
+          (f ∙ ap (λ z. put (pos (state + 1) ∷ []) z c.state.cells) (sym zero_more)) g h
+          (one_fits (pos (state + 1)) (record { sfits = omega (arith, small) })))
+          j k a.laid refl (λ b slot. refl) a.temps)

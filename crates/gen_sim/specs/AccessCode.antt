@@ -1,7 +1,7 @@
 -- The code of reads and writes: a place's address comes first, and then its cell or its character
 -- is loaded, or stored behind the value.
 use Rattle.std.specs.Prelude.{ℤ, pos, Bool, true, false, List, [], ◌∷◌, ◌++◌}
-use Rattle.pawn_program.specs.Program.{Scalar, Global, Own, Through, Element, Char}
+use Rattle.pawn_meaning.specs.Program.{Scalar, Global, Own, Through, Element, Char}
 use Rattle.amx_ops.specs.declared.op.Op.TheVariants as op
 use Rattle.gen_sim.specs.Items.{Item}
 use Rattle.gen_sim.specs.SimpleCode.{alone, taking, both_code}

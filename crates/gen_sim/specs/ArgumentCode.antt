@@ -1,10 +1,10 @@
 -- One argument of a call: its cell is on the stack, with a cell of its own on the heap where it is
 -- a temporary one.
 use Rattle.std.specs.Prelude.{◌+◌, ℕ, ℤ, List, [], ◌∷◌, Option, None, Some}
-use Rattle.pawn_program.specs.Program.{Slot, ScalarSlot, ReferenceSlot, ArraySlot, OpenSlot}
-use Rattle.pawn_program.specs.Program.{Program, Arg, Value, Ref, Whole, Temp, Args, no_args}
-use Rattle.pawn_program.specs.Program.{then_arg}
-use Rattle.pawn_program.specs.Scope.{Scope, Extent, extent}
+use Rattle.pawn_meaning.specs.Program.{Slot, ScalarSlot, ReferenceSlot, ArraySlot, OpenSlot}
+use Rattle.pawn_meaning.specs.Program.{Program, Arg, Value, Ref, Whole, Temp, Args, no_args}
+use Rattle.pawn_meaning.specs.Program.{then_arg}
+use Rattle.pawn_meaning.specs.Scope.{Scope, Extent, extent}
 use Rattle.pawn_meaning.specs.World.{World}
 use Rattle.pawn_meaning.specs.Natives.{Held}
 use Rattle.pawn_meaning.specs.Meaning.{argument}

@@ -1,6 +1,6 @@
 -- A call that has returned.
 use Rattle.std.specs.Prelude.{◌≡◌, ℕ, ℤ, List, ◌∷◌}
-use Rattle.pawn_program.specs.Program.{Program}
+use Rattle.pawn_meaning.specs.Program.{Program}
 use Rattle.pawn_meaning.specs.Memory.{Frame}
 use Rattle.pawn_meaning.specs.World.{World}
 use Rattle.amx_ops.specs.Moves.{Config}

@@ -1,8 +1,8 @@
 -- What the code of a node does, as one form for expressions, places, arrays and arguments.
 use Rattle.std.specs.Prelude.{◌≡◌, ◌+◌, ◌*◌, ◌^◌, ◌<◌, ◌≤◌, ℕ, ℤ, pos, List, ◌∷◌, ◌++◌, Some}
 use Rattle.std.specs.Prelude.{length, sum, slice_get}
-use Rattle.pawn_program.specs.Program.{Function}
-use Rattle.pawn_program.specs.Scope.{Scope}
+use Rattle.pawn_meaning.specs.Program.{Function}
+use Rattle.pawn_meaning.specs.Scope.{Scope}
 use Rattle.pawn_meaning.specs.World.{World}
 use Rattle.pawn_meaning.specs.Run.{Run}
 use Rattle.pawn_meaning.specs.Natives.{Held}

@@ -2,8 +2,8 @@
 use Rattle.std.specs.Prelude.{◌≡◌, ◌+◌, ◌*◌, ◌/◌, ◌≤◌, ℕ, ℤ, List, ◌++◌, Bool, ◌||◌, Some, length}
 use Rattle.std.specs.Prelude.{◌==◌}
 use Rattle.std.specs.List.{list_any}
-use Rattle.pawn_program.specs.Program.{Scalar, Array, Slot, Args, Expr}
-use Rattle.pawn_program.specs.Scope.{Scope, Extent, extent}
+use Rattle.pawn_meaning.specs.Program.{Scalar, Array, Slot, Args, Expr}
+use Rattle.pawn_meaning.specs.Scope.{Scope, Extent, extent}
 use Rattle.pawn_meaning.specs.Need.{load, place_load, array_load, args_load, count_of}
 use Rattle.pawn_meaning.specs.Weight.{expr_weight, never}
 use Rattle.pawn_meaning.specs.Meaning.{place, array, value, arguments}

@@ -1,7 +1,7 @@
 -- What the code of functions has to do.
 use Rattle.std.specs.Prelude.{◌≡◌, ◌+◌, ◌*◌, ◌^◌, ◌<◌, ◌≤◌, ℕ, ℤ, pos, List, ◌∷◌, ◌++◌, Some}
 use Rattle.std.specs.Prelude.{length, sum, slice_get}
-use Rattle.pawn_program.specs.Program.{Function}
+use Rattle.pawn_meaning.specs.Program.{Function}
 use Rattle.pawn_meaning.specs.World.{World}
 use Rattle.pawn_meaning.specs.Natives.{Held}
 use Rattle.pawn_meaning.specs.Calls.{enter_function}

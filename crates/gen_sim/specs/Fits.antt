@@ -2,9 +2,9 @@
 -- says.
 use Rattle.std.specs.Prelude.{◌≡◌, ◌+◌, ◌*◌, ◌<◌, ◌≤◌, ℕ, List, [], ◌∷◌, ◌++◌, Option, None, Some}
 use Rattle.std.specs.Prelude.{Any, slice_get}
-use Rattle.pawn_program.specs.Program.{Slot, ScalarSlot, ReferenceSlot, ArraySlot, OpenSlot}
-use Rattle.pawn_program.specs.Program.{Program}
-use Rattle.pawn_program.specs.Scope.{Scope, IsMade}
+use Rattle.pawn_meaning.specs.Program.{Slot, ScalarSlot, ReferenceSlot, ArraySlot, OpenSlot}
+use Rattle.pawn_meaning.specs.Program.{Program}
+use Rattle.pawn_meaning.specs.Scope.{Scope, IsMade}
 use Rattle.pawn_meaning.specs.Memory.{Local, Reference}
 use Rattle.gen_sim.specs.Pieces.{Piece, Thing, Each, total}
 use Rattle.gen_sim.specs.Places.{Apart}

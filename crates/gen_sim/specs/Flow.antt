@@ -1,8 +1,8 @@
 -- What the code of a statement does, as one form beside that of expressions.
 use Rattle.std.specs.Prelude.{◌≡◌, ◌+◌, ◌≤◌, ℕ, List, [], length, sum}
-use Rattle.pawn_program.specs.Program.{Perhaps, Stmt, Stmts, Else}
-use Rattle.pawn_program.specs.Scope.{Scope}
-use Rattle.pawn_program.specs.ValidStmts.{slots_made, slots_made_by}
+use Rattle.pawn_meaning.specs.Program.{Perhaps, Stmt, Stmts, Else}
+use Rattle.pawn_meaning.specs.Scope.{Scope}
+use Rattle.pawn_meaning.specs.ValidStmts.{slots_made, slots_made_by}
 use Rattle.pawn_meaning.specs.World.{World}
 use Rattle.pawn_meaning.specs.Run.{Run}
 use Rattle.pawn_meaning.specs.Calls.{Way}

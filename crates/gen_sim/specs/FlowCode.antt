@@ -2,7 +2,7 @@
 -- are left.
 use Rattle.std.specs.Prelude.{◌*◌, ℕ, pos, List, [], ◌∷◌, ◌++◌}
 use Rattle.pawn_cells.specs.Cells.{cell_of}
-use Rattle.pawn_program.specs.Program.{Slot}
+use Rattle.pawn_meaning.specs.Program.{Slot}
 use Rattle.amx_ops.specs.declared.op.Op.TheVariants as op
 use Rattle.gen_sim.specs.Pieces.{total}
 use Rattle.gen_sim.specs.Items.{Item}

@@ -1,6 +1,6 @@
 -- Where a statement stands: what a generator knows there.
 use Rattle.std.specs.Prelude.{◌≤◌, ℕ, List, [], ◌∷◌, ◌++◌, Bool}
-use Rattle.pawn_program.specs.Scope.{Scope, IsMade, with_made}
+use Rattle.pawn_meaning.specs.Scope.{Scope, IsMade, with_made}
 
 -- whether a loop is around it, and where `break` and `continue` lead then
 pub record Exits : Type 0 where

@@ -2,7 +2,6 @@ pub mod AccessCode
 pub mod ArgumentCode
 pub mod Back
 pub mod CallCode
-pub mod Cells
 pub mod ChainCode
 pub mod Code
 pub mod Contract

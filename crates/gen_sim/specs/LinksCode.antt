@@ -1,7 +1,7 @@
 -- What the code of a chain's links does, from its left operand on.
 use Rattle.std.specs.Prelude.{◌≡◌, ◌+◌, ◌^◌, ◌<◌, ◌≤◌, ◌⊎◌, ℕ, ℤ, pos, List, ◌∷◌, length, sum}
-use Rattle.pawn_program.specs.Program.{Links, no_links, then_link}
-use Rattle.pawn_program.specs.Scope.{Scope}
+use Rattle.pawn_meaning.specs.Program.{Links, no_links, then_link}
+use Rattle.pawn_meaning.specs.Scope.{Scope}
 use Rattle.pawn_meaning.specs.World.{World}
 use Rattle.pawn_meaning.specs.Run.{Run, ◌>>=◌, give}
 use Rattle.pawn_meaning.specs.Need.{links_load}

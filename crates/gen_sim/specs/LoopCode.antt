@@ -1,7 +1,7 @@
 -- The code of loops. Each pass begins with an instruction of its own: the jump behind a test, or a
 -- NOP.
 use Rattle.std.specs.Prelude.{◌+◌, ℕ, pos, List, [], ◌∷◌, ◌++◌, true}
-use Rattle.pawn_program.specs.Program.{Slot}
+use Rattle.pawn_meaning.specs.Program.{Slot}
 use Rattle.amx_ops.specs.declared.op.Op.TheVariants as op
 use Rattle.gen_sim.specs.Items.{Item, past}
 use Rattle.gen_sim.specs.SimpleCode.{alone}

@@ -1,7 +1,7 @@
 -- The views that a local, a temporary argument and a call lead to.
 use Rattle.std.specs.Prelude.{◌≡◌, ◌+◌, ◌-◌, ◌*◌, ◌==◌, ℕ, zero, suc, ℤ, pos, List, [], ◌∷◌, ◌++◌}
 use Rattle.std.specs.Prelude.{Option, None, Some, length, if◌then◌else◌}
-use Rattle.pawn_program.specs.Program.{Program}
+use Rattle.pawn_meaning.specs.Program.{Program}
 use Rattle.pawn_meaning.specs.Memory.{Local, Reference}
 use Rattle.pawn_meaning.specs.Natives.{Held, Value}
 use Rattle.pawn_meaning.specs.Natives as natives

@@ -3,7 +3,7 @@
 use Rattle.std.specs.Prelude.{◌≡◌, ◌+◌, ◌*◌, ℕ, zero, suc, ℤ, pos, List, [], ◌∷◌, ◌++◌, Option}
 use Rattle.std.specs.Prelude.{None, Some, length, slice_get}
 use Rattle.pawn_arrays.specs.Sizes.{elements_in}
-use Rattle.pawn_program.specs.Program.{StaticObject, Program}
+use Rattle.pawn_meaning.specs.Program.{StaticObject, Program}
 use Rattle.pawn_meaning.specs.Memory.{Object, Name, Static, Temporary, Memory, object_at}
 
 -- a part of the memory that stands for one thing

@@ -2,9 +2,9 @@
 -- `With`.
 use Rattle.std.specs.Prelude.{◌≡◌, ◌+◌, ◌*◌, ◌-◌, ◌<◌, ℕ, zero, suc, ℤ, pos, List, [], ◌∷◌, ◌++◌}
 use Rattle.std.specs.Prelude.{Option, None, Some}
-use Rattle.pawn_program.specs.Program.{Slot, ScalarSlot, Arg, Value, Ref, Whole, Temp, Args}
-use Rattle.pawn_program.specs.Program.{no_args, then_arg, Program}
-use Rattle.pawn_program.specs.Scope.{Extent}
+use Rattle.pawn_meaning.specs.Program.{Slot, ScalarSlot, Arg, Value, Ref, Whole, Temp, Args}
+use Rattle.pawn_meaning.specs.Program.{no_args, then_arg, Program}
+use Rattle.pawn_meaning.specs.Scope.{Extent}
 use Rattle.pawn_meaning.specs.Memory.{Reference, Place, Cell, Character}
 use Rattle.pawn_meaning.specs.World.{World}
 use Rattle.pawn_meaning.specs.References.{to_cell}

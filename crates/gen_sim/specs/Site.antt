@@ -2,8 +2,8 @@
 use Rattle.std.specs.Prelude.{◌≡◌, ◌*◌, ◌^◌, ◌<◌, ◌≤◌, ℕ, true, length}
 use Rattle.host_script.specs.declared.script.Script.{Script}
 use Rattle.host_script.specs.Ranges.{IsScript}
-use Rattle.pawn_program.specs.Program.{Program}
-use Rattle.pawn_program.specs.Valid.{IsValid}
+use Rattle.pawn_meaning.specs.Program.{Program}
+use Rattle.pawn_meaning.specs.Valid.{IsValid}
 use Rattle.pawn_meaning.specs.World.{World}
 use Rattle.pawn_meaning.specs.Run.{Outcome}
 use Rattle.pawn_meaning.specs.Meaning.{Scene, name_of}

@@ -3,7 +3,7 @@
 use Rattle.std.specs.Prelude.{◌+◌, ◌*◌, ℕ, ℤ, pos, List, [], ◌∷◌, ◌++◌, Option, None, Some}
 use Rattle.std.specs.Prelude.{slice_get}
 use Rattle.pawn_cells.specs.Cells.{cell_of}
-use Rattle.pawn_program.specs.Program.{Program}
+use Rattle.pawn_meaning.specs.Program.{Program}
 use Rattle.pawn_meaning.specs.Calls.{enter_of, entry_for}
 use Rattle.amx_ops.specs.declared.op.Op.TheVariants as op
 use Rattle.gen_sim.specs.Pieces.{total, objects_from}

@@ -3,7 +3,7 @@
 use Rattle.std.specs.Prelude.{◌≡◌, ◌+◌, ◌-◌, ◌*◌, ◌^◌, ◌<◌, ◌≤◌, ℕ, ℤ, pos, List, [], ◌∷◌, ◌++◌}
 use Rattle.std.specs.Prelude.{Option, None, Some, length}
 use Rattle.pawn_arrays.specs.Sizes.{elements_in}
-use Rattle.pawn_program.specs.Program.{Program}
+use Rattle.pawn_meaning.specs.Program.{Program}
 use Rattle.pawn_meaning.specs.Memory.{Name, Static, Local, Temporary, Reference}
 use Rattle.gen_sim.specs.Pieces.{Piece, Fixed, Thing, Automaton, Each, total, vectors, data_pieces}
 use Rattle.gen_sim.specs.Pieces.{temporaries}

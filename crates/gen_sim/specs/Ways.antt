@@ -1,6 +1,6 @@
 -- What holds where a statement is left, by the way in which it is.
 use Rattle.std.specs.Prelude.{◌≡◌, ◌^◌, ◌<◌, ℕ, ℤ, pos, List, [], ◌∷◌, ◌++◌, true, Some, slice_get}
-use Rattle.pawn_program.specs.Program.{Slot}
+use Rattle.pawn_meaning.specs.Program.{Slot}
 use Rattle.pawn_meaning.specs.World.{World}
 use Rattle.pawn_meaning.specs.Run.{Gives}
 use Rattle.pawn_meaning.specs.Calls.{Way, Through, Broke, Continued, Returned}

@@ -1,8 +1,20 @@
-//! The code of every statement, that it does what the statement means, that it has no fault, and
-//! that it is within its weight. There is no code here; a law is the contract of a function
-//! without a body.
+//! Code of statements: slots, jumps that are filled in, case tables, switches, and each node's.
 #![tactic(auto)]
 
-mod laws;
+pub mod cases;
+pub mod count;
+pub mod draft;
+mod entries;
+pub mod exits;
+pub mod left;
+pub mod locals;
+pub mod loops;
+pub mod nodes;
+pub mod place;
+pub mod statement;
+pub mod states;
+pub mod switches;
+pub mod table;
+pub mod write;
 
-pub use laws::{statements_fit, statements_mean};
+pub use entries::entry;

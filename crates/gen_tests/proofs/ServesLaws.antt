@@ -1,11 +1,11 @@
 -- Tables with the address of the first object and the offset of the first parameter alone.
 use Rattle.std.proofs.Common.{◌≡◌, ℕ, zero, suc, ℤ, pos, Some, [], ◌∷◌}
 use Rattle.std.specs.Prelude.{slice_get}
-use Rattle.pawn_program.specs.Program.{Program}
-use Rattle.pawn_program.specs.Scope.{Scope}
+use Rattle.pawn_meaning.specs.Program.{Program}
+use Rattle.pawn_meaning.specs.Scope.{Scope}
 use Rattle.gen_sim.specs.PlaceItems.{object_address, slot_offset}
-use Rattle.gen_emit.specs.declared.frame.Frame.{Frame}
-use Rattle.gen_emit.specs.Standing.{scope_of, Serves}
+use Rattle.gen_expr.specs.declared.frame.Frame.{Frame}
+use Rattle.gen_expr.specs.Standing.{scope_of, Serves}
 
 first_object : (program : Program) (o : ℕ) (x : ℤ) → slice_get (pos 0 ∷ []) o ≡ Some x
     → x ≡ object_address program o

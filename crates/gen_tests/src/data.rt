@@ -1,6 +1,6 @@
-use gen_data::{first_cells, object_addresses};
+use gen_module::{first_cells, object_addresses};
 use pawn_base::{Bytes, Cells, List};
-use pawn_program::{Automaton, Object, Program, Shape};
+use pawn_meaning::{Automaton, Object, Program, Shape};
 use std::alloc::Global;
 use std::process::Abort;
 use std::test::Fail;

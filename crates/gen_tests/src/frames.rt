@@ -1,8 +1,7 @@
-use gen_builder::Builder;
-use gen_emit::frame::Frame;
-use gen_emitter::expression;
+use gen_expr::frame::Frame;
+use gen_expr::{Builder, expression};
 use pawn_base::List;
-use pawn_program::{Expr, Program, Shape, Slot};
+use pawn_meaning::{Expr, Program, Shape, Slot};
 use std::alloc::Global;
 use std::boxed::Box;
 use std::test::Fail;

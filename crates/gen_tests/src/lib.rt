@@ -1,5 +1,4 @@
-//! An expression of each kind, whose code is taken with ample memory: the emitter gives it, and how
-//! many cells it has. And the data of a small program, and the offsets of arrays.
+//! Tests of the code that is generated.
 #![tactic(auto)]
 
 #[cfg(test)]
@@ -9,8 +8,8 @@ mod data;
 #[cfg(test)]
 mod frames;
 #[cfg(test)]
-mod lists;
+mod generated_nodes;
 #[cfg(test)]
-mod nodes;
+mod lists;
 #[cfg(test)]
 mod places;

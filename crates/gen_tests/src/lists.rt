@@ -1,6 +1,6 @@
 use super::frames::{one, taken};
 use pawn_base::List;
-use pawn_program::{Arg, Array, Comparison, Expr, Link, Scalar};
+use pawn_meaning::{Arg, Array, Comparison, Expr, Link, Scalar};
 use std::alloc::Global;
 use std::process::Abort;
 use std::test::Fail;

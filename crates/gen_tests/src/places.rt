@@ -1,5 +1,5 @@
 use super::frames::{one, taken};
-use pawn_program::{Array, Expr, Scalar};
+use pawn_meaning::{Array, Expr, Scalar};
 use std::alloc::Global;
 use std::boxed::Box;
 use std::process::Abort;

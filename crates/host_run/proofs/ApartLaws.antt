@@ -9,7 +9,7 @@ use Rattle.std.proofs.lemmas.Int.{of_z-to_z}
 use Rattle.std.proofs.lemmas.Bool.Decides.{leb_tells}
 use Rattle.std.proofs.lemmas.List.{append_assoc, length-take, length-take-le, get_or-drop}
 use Rattle.std.proofs.lemmas.List.{get_or-take, take-append-drop, take-append-le, take-take}
-use Rattle.std.proofs.lemmas.List.{drop-take, map-append}
+use Rattle.std.proofs.lemmas.List.{drop-take, map-append, take_all}
 use Rattle.std.proofs.lemmas.Slice.{drop-append-drop}
 use Rattle.pawn_cells.specs.Cells.{bits_of, cell_of}
 use Rattle.host_script.specs.declared.script.Write.{Write}
@@ -17,7 +17,7 @@ use Rattle.host_script.specs.NativeCall.{Put}
 use Rattle.amx_ops.specs.State.{State}
 use Rattle.amx_ops.specs.Moves.{live_from, arguments, with_write, with_writes}
 use Rattle.amx_machine.specs.Machine.{Machine}
-use Rattle.host_run.specs.Apart.{written, is_apart}
+use Rattle.host_run.specs.Apart.{written, is_apart, WritesApart}
 use Rattle.host_run.specs.Sights.{arguments_of, put_of, IsRoomFor}
 use Rattle.host_run.proofs.WriteLaws.{length-live, live_within, length-write, writes_length}
 
@@ -222,3 +222,12 @@ still_room old now before is same done write room =
     let there : IsRoomFor (with_cells s cells) values write = omega (arith, room, live) in
     subst (λ values. IsRoomFor now.state values write) (sym (ap (λ o. unwrap_or o []) same))
     (subst (λ (m : Machine). IsRoomFor m.state values write) (sym is) there)
+
+-- a write that wasn't done changed nothing
+pub left_be : (write : Write) (old new : Machine) (b : Bool) → b ≡ false
+    → WritesApart write old b new → new ≡ old
+left_be write old new b e is = subst (λ d. WritesApart write old d new) e is
+
+-- all that is left is as many as there are
+pub rest_taken : {A : Type 0} (xs : List A) (n : ℕ) → take (length xs - n) (drop n xs) ≡ drop n xs
+rest_taken xs n = take_all (length xs - n) (drop n xs) (omega (arith, length-drop n xs))

@@ -8,7 +8,7 @@ use Rattle.std.specs.Str.{bytes_eq}
 use Rattle.std.specs.Cmp.Lexicographic.{pointwise}
 use Rattle.std.proofs.lemmas.Cmp.{nat_list_eq_equiv}
 use Rattle.std.proofs.lemmas.List.{take-map, get_or-map, length-map, map-append, take_more}
-use Rattle.name_table.specs.Among.{is_among}
+use Rattle.pawn_base.specs.Among.{is_among}
 use Rattle.host_script.specs.declared.script.Script.{Script}
 use Rattle.host_script.specs.declared.script.Native.{Native}
 use Rattle.amx_ops.specs.declared.amx.Record.{Record}

@@ -1,5 +1,5 @@
 -- Steps that a machine counted are moves of its segments.
-use Rattle.std.proofs.Common.{◌≡◌, ◌+◌, ◌<◌, ◌≤◌, ◌==◌, ℕ, zero, suc, false, List, None, refl, sym}
+use Rattle.std.proofs.Common.{◌≡◌, ◌+◌, ◌-◌, ◌<◌, ◌≤◌, ◌==◌, ℕ, zero, suc, false, List, None, refl, sym}
 use Rattle.std.proofs.Common.{ap, ap₂, subst, ◌∙◌, arith}
 use Rattle.std.specs.Prelude.{if◌then◌else◌}
 use Rattle.std.proofs.lemmas.Bool.{ne_eqb}
@@ -11,10 +11,10 @@ use Rattle.amx_ops.specs.Step.{step}
 use Rattle.amx_ops.specs.Moves.{move, moved}
 use Rattle.amx_ops.specs.Runs.{segment}
 use Rattle.amx_ops.proofs.RunLaws.{segment-goes}
-use Rattle.amx_effects.specs.Machine.{Machine as Core}
-use Rattle.amx_effects.specs.declared.turn.Turn.{Turn}
-use Rattle.amx_effects.specs.declared.turn.Turn.TheVariants as turn
-use Rattle.amx_steps.specs.Runs.{Ran, runs, with_state}
+use Rattle.amx_step.specs.Machine.{Machine as Core}
+use Rattle.amx_step.specs.declared.turn.Turn.{Turn}
+use Rattle.amx_step.specs.declared.turn.Turn.TheVariants as turn
+use Rattle.amx_step.specs.Runs.{Ran, runs, with_state}
 use Rattle.amx_machine.specs.declared.event.Event.{Event}
 use Rattle.amx_machine.specs.declared.mode.Mode.{Mode}
 use Rattle.amx_machine.specs.declared.mode.Mode.TheVariants as mode
@@ -24,7 +24,8 @@ use Rattle.amx_machine.specs.Runs.{ran, ran_by, core_of}
 use Rattle.amx_machine.specs.Runs as machine
 use Rattle.amx_machine.proofs.CleanLaws.{after, one, none}
 use Rattle.host_run.specs.Stands.{IsAwake}
-use Rattle.host_run.specs.Reached.{placed, Reached}
+use Rattle.host_run.specs.Advance.{IsBehind}
+use Rattle.host_run.specs.Reached.{placed, IsLast, Reached}
 
 -- by what the last step did
 abbrev IsLastTurn : Turn → Amx → ℕ → State → ℕ → ℕ → State → Type 0
@@ -82,6 +83,19 @@ one_more (turn.Halts code) amx bound mid passed count s h =
 one_more (turn.Asks native) amx bound mid passed count s h =
     (omega (arith, h.0), omega (arith, h.1), h.2)
 
+-- its first step was the last
+at_first : (n so_far : ℕ) (m : Core) (r : Ran) → r.steps ≡ so_far + 1 → r.machine.amx ≡ m.amx
+    → IsLastTurn r.turn m.amx (suc n) m.state 0 1 r.machine.state → Passes (suc n) so_far m r
+at_first n so_far m r steps file last = record {
+  passed = 0;
+  count = 1;
+  mid = m.state;
+  steps = steps;
+  file = file;
+  leads = nothing m;
+  last = last;
+}
+
 by_turn : (n so_far : ℕ) (m : Core) (t : Turned) → step m.amx m.state ≡ t
     → ((s : State) → Passes n (so_far + 1) (with_state m s) (runs n (so_far + 1) (with_state m s)))
     → Passes (suc n) so_far m (after n so_far m t)
@@ -96,33 +110,12 @@ by_turn n so_far m (Goes s) e rest = let p = rest s in record {
       (p.leads script);
   last = one_more _ m.amx n p.mid p.passed p.count _ p.last;
 }
-by_turn n so_far m (Errs code) e rest = record {
-  passed = 0;
-  count = 1;
-  mid = m.state;
-  steps = refl;
-  file = refl;
-  leads = nothing m;
-  last = (omega arith, omega arith, e, refl);
-}
-by_turn n so_far m (Halts code s) e rest = record {
-  passed = 0;
-  count = 1;
-  mid = m.state;
-  steps = refl;
-  file = refl;
-  leads = nothing m;
-  last = (omega arith, omega arith, e);
-}
-by_turn n so_far m (Asks native s) e rest = record {
-  passed = 0;
-  count = 1;
-  mid = m.state;
-  steps = refl;
-  file = refl;
-  leads = nothing m;
-  last = (omega arith, omega arith, e);
-}
+by_turn n so_far m (Errs code) e rest =
+    at_first n so_far m _ refl refl (omega arith, omega arith, e, refl)
+by_turn n so_far m (Halts code s) e rest =
+    at_first n so_far m _ refl refl (omega arith, omega arith, e)
+by_turn n so_far m (Asks native s) e rest =
+    at_first n so_far m _ refl refl (omega arith, omega arith, e)
 
 passes : (n so_far : ℕ) (m : Core) → Passes n so_far m (runs n so_far m)
 passes zero so_far m = subst (Passes zero so_far m) (sym (none so_far m)) (record {
@@ -158,40 +151,33 @@ awake_ran n m h some =
     ∙ ap (λ b. if b then machine.stays event.Going m else ran_by (runs n 0 (core_of m)))
     (some_steps n some)
 
+last_by : (t : Turn) (amx : Amx) (bound : ℕ) (mid : State) (passed count steps : ℕ) (s : State)
+    → steps ≡ 0 + count → IsLastTurn t amx bound mid passed count s
+    → IsLast (machine.event_of t s) amx bound mid passed steps s
+last_by turn.Goes amx bound mid passed count steps s e h = (omega (arith, e, h.0), h.1, h.2)
+last_by (turn.Errs code) amx bound mid passed count steps s e h =
+    (omega (arith, e, h.0), h.1, h.2, h.3)
+last_by (turn.Halts code) amx bound mid passed count steps s e h = (omega (arith, e, h.0), h.1, h.2)
+last_by (turn.Asks native) amx bound mid passed count steps s e h =
+    (omega (arith, e, h.0), h.1, h.2)
+
+behind_by : (t : Turn) (core : Core)
+    → IsBehind (machine.event_of t core.state) (machine.behind t core)
+behind_by turn.Goes core = refl
+behind_by (turn.Errs code) core = refl
+behind_by (turn.Halts code) core = (refl, refl, refl)
+behind_by (turn.Asks native) core = refl
+
 reached_by : (n : ℕ) (old : Machine) (steps : ℕ) (t : Turn) (core : Core)
     → Passes n 0 (core_of old) (record { steps = steps; turn = t; machine = core })
     → Reached n old steps (machine.event_of t core.state) (machine.behind t core)
-reached_by n old steps turn.Goes core p = record {
+reached_by n old steps t core p = record {
   passed = p.passed;
   mid = p.mid;
   file = p.file;
   leads = p.leads;
-  last = (omega (arith, p.steps, p.last.0), p.last.1, p.last.2);
-  behind = refl;
-}
-reached_by n old steps (turn.Errs code) core p = record {
-  passed = p.passed;
-  mid = p.mid;
-  file = p.file;
-  leads = p.leads;
-  last = (omega (arith, p.steps, p.last.0), p.last.1, p.last.2, p.last.3);
-  behind = refl;
-}
-reached_by n old steps (turn.Halts code) core p = record {
-  passed = p.passed;
-  mid = p.mid;
-  file = p.file;
-  leads = p.leads;
-  last = (omega (arith, p.steps, p.last.0), p.last.1, p.last.2);
-  behind = (refl, refl, refl);
-}
-reached_by n old steps (turn.Asks native) core p = record {
-  passed = p.passed;
-  mid = p.mid;
-  file = p.file;
-  leads = p.leads;
-  last = (omega (arith, p.steps, p.last.0), p.last.1, p.last.2);
-  behind = refl;
+  last = last_by t old.amx n p.mid p.passed p.count steps core.state p.steps p.last;
+  behind = behind_by t core;
 }
 
 -- what a run of one step or more gives
@@ -203,3 +189,10 @@ reached n old new count e h some is =
     is ∙ awake_ran n old h some in
     subst (λ (it : machine.Ran). Reached n old it.steps it.event it.machine) (sym all)
     (reached_by n old r.steps r.turn r.machine (passes n 0 (core_of old)))
+
+-- where so many of them are done
+pub reached_more : (bound done : ℕ) (old new : Machine) (count : ℕ) (e : Event) → done < bound
+    → IsAwake old.mode → record { steps = count; event = e; machine = new } ≡ ran (bound - done) old
+    → Reached (bound - done) old count e new
+reached_more bound done old new count e less h is =
+    reached (bound - done) old new count e h (omega (arith, less)) is

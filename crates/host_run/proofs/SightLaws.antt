@@ -2,7 +2,7 @@
 use Rattle.std.proofs.Common.{◌≡◌, ◌+◌, ◌<◌, ◌≤◌, ℕ, zero, suc, ℤ, pos, List, [], ◌∷◌, ◌++◌, Bool}
 use Rattle.std.proofs.Common.{true, false, cond, ◌&&◌, All, Option, None, Some, length, map, take}
 use Rattle.std.proofs.Common.{drop, get_or, nat_le, nat_lt, slice_get, refl, sym, ap, ◌∙◌}
-use Rattle.std.proofs.Common.{append-nil, arith, true≢false, leb-true}
+use Rattle.std.proofs.Common.{append-nil, append_assoc, arith, true≢false, leb-true}
 use Rattle.std.specs.Prelude.{option_map, is_some, unwrap_or, if◌then◌else◌}
 use Rattle.std.specs.List.{slice_index_or, list_all}
 use Rattle.std.proofs.Math.Seq.{drop-cons}
@@ -16,6 +16,7 @@ use Rattle.host_script.specs.declared.script.Form.{Form}
 use Rattle.host_script.specs.declared.script.Form.TheVariants as form
 use Rattle.host_script.specs.declared.script.Write.{Write}
 use Rattle.host_script.specs.declared.event.Seen.{Seen}
+use Rattle.host_script.specs.declared.event.Seen.TheVariants as seen
 use Rattle.host_script.specs.Script.{characters}
 use Rattle.host_script.specs.Text.{argument_text, arguments_text}
 use Rattle.host_script.specs.NativeCall.{Sight, Sees, Blind, Hold, Sought, native_error, with_sight}
@@ -225,6 +226,52 @@ read_by (Some values) count e = let same : length values ≡ count = cc in same
 pub counted_is : (s : State) (count : ℕ) → option_map (length {A = ℤ}) (arguments s) ≡ Some count
     → length (arguments_of s) ≡ count
 counted_is s count e = read_by (arguments s) count e
+
+-- the text up to the next of them
+module _ (s : State) (form : ℕ → Form) (count i : ℕ)
+    (counted : option_map (length {A = ℤ}) (arguments s) ≡ Some count) (less : i < count) where
+  abbrev values : List ℤ
+  values = arguments_of s
+
+  abbrev all : List Seen
+  all = map (λ it. it.seen) (sought s form 0 values)
+
+  pub is_argument : i < length values
+  is_argument = omega (arith, counted_is s count counted, less)
+
+  is_shown : i < length all
+  is_shown =
+      omega (
+        arith,
+        is_argument,
+        length-shown (sought s form 0 values),
+        length-sought s form 0 values,
+      )
+
+  module _ (value : ℤ) (f : Form) (v : value ≡ get_or values i (pos 0)) (g : f ≡ form i) where
+    abbrev piece : List ℕ
+    piece = argument_text (sought_in (look s value f)).seen
+
+    piece_is : piece ≡ argument_text (get_or all i (seen.Cell (pos 0)))
+    piece_is =
+        let same : i ≡ 0 + i = omega arith in
+        ap (λ x. argument_text (sought_in (look s x f)).seen) v
+        ∙ ap (λ x. argument_text (sought_in (look s (get_or values i (pos 0)) x)).seen) g
+        ∙ ap argument_text
+        (sym (shown_at s form 0 values i i (seen.Cell (pos 0)) same is_argument))
+
+    pub text_next : arguments_text (take i all) ++ piece ≡ arguments_text (take (i + 1) all)
+    text_next =
+        ap (λ text. arguments_text (take i all) ++ text) piece_is
+        ∙ sym (text_more all i (seen.Cell (pos 0)) is_shown)
+
+    pub text_whole : (arguments_text (take i all) ++ piece) ++ arguments_text (drop (suc i) all)
+        ≡ arguments_text all
+    text_whole =
+        let rest = arguments_text (drop (suc i) all) in
+        append_assoc (arguments_text (take i all)) piece rest
+        ∙ ap (λ text. arguments_text (take i all) ++ (text ++ rest)) piece_is
+        ∙ text_at all i (seen.Cell (pos 0)) is_shown
 
 pub readable : (s : State) (count index : ℕ)
     → option_map (length {A = ℤ}) (arguments s) ≡ Some count → index < count

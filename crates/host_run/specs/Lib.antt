@@ -1,8 +1,10 @@
-pub mod Apart
 pub mod Advance
+pub mod Apart
 pub mod Bound
 pub mod Called
+pub mod Going
 pub mod Guest
+pub mod Last
 pub mod Reached
 pub mod Reply
 pub mod Segments
@@ -10,3 +12,4 @@ pub mod Session
 pub mod Sights
 pub mod SoFar
 pub mod Stands
+pub mod Trace

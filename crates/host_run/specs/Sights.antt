@@ -1,15 +1,18 @@
 -- What a native sees of its arguments, one after another, and where it writes.
 use Rattle.std.specs.Prelude.{◌≤◌, ℕ, ℤ, pos, suc, List, [], ◌∷◌, Option, None, Some, Bool, true}
-use Rattle.std.specs.Prelude.{false, ◌&&◌, length, unwrap_or, nat_lt, nat_le}
+use Rattle.std.specs.Prelude.{false, ◌&&◌, map, length, unwrap_or, nat_lt, nat_le}
 use Rattle.std.specs.List.{slice_index_or}
 use Rattle.pawn_cells.specs.Cells.{bits_of}
 use Rattle.host_script.specs.declared.script.Form.{Form}
 use Rattle.host_script.specs.declared.script.Form.TheVariants as form
 use Rattle.host_script.specs.declared.script.Write.{Write}
+use Rattle.host_script.specs.declared.event.Seen.{Seen}
 use Rattle.host_script.specs.declared.event.Seen.TheVariants as seen
 use Rattle.host_script.specs.NativeCall.{Sight, Sees, Blind, Sought, Put}
 use Rattle.amx_ops.specs.State.{State}
 use Rattle.amx_ops.specs.Moves.{look, arguments, live_from}
+use Rattle.host_run.specs.declared.guest.Guest.{Guest}
+use Rattle.host_run.specs.Guest.{form_at}
 
 -- none where they can't be read
 abbrev pub arguments_of : State → List ℤ
@@ -36,6 +39,14 @@ abbrev pub sought : State → (ℕ → Form) → ℕ → List ℤ → List (Soug
 sought s form index [] = []
 sought s form index (value ∷ values) =
     sought_in (look s value (form index)) ∷ sought s form (suc index) values
+
+-- as a host sees the arguments of a native, and whether it sees them all
+abbrev pub seen_by : State → Guest → List Seen
+seen_by s guest =
+    map (λ it. it.seen) (sought s (form_at guest.forms.now guest.rest) 0 (arguments_of s))
+
+abbrev pub sees_all : State → Guest → Bool
+sees_all s guest = all_seen s (form_at guest.forms.now guest.rest) 0 (arguments_of s)
 
 -- so many cells may be written to an argument of a form
 abbrev pub room_of : Form → Option ℕ

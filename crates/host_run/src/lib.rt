@@ -1,5 +1,4 @@
-//! The host of a machine: the natives of a file bound to a script, and sessions, which run a
-//! machine, answer its natives and print its trace.
+//! A machine's run under a script: natives bound, sessions with their lines, and runs in segments.
 #![tactic(auto)]
 
 mod bound;
@@ -7,9 +6,11 @@ mod calls;
 mod end;
 mod guest;
 mod lines;
+mod run;
 mod sessions;
 mod writes;
 
 pub use bound::{BindFault, Bound, BoundNative, bind};
 pub use end::SessionEnd;
+pub use run::run_segments;
 pub use sessions::session;

@@ -1,11 +1,10 @@
-ghost use Rattle.std.specs.Prelude.{◌≡◌, ◌++◌, codes, length, map, option_map, Some, true};
+ghost use Rattle.std.specs.Prelude.{◌≡◌, ◌++◌, codes, length, option_map, Some, true};
 ghost use Rattle.std.specs.Fmt.{signed_decimal};
 ghost use Rattle.pawn_outside.specs.Said.{Said};
 ghost use Rattle.host_script.specs.Text.{argument_text, arguments_text, event_text};
 ghost use Rattle.host_script.specs.declared.event.Event.TheVariants as event;
 ghost use Rattle.amx_ops.specs.Moves.{arguments, look};
-ghost use Rattle.host_run.specs.Guest.{form_at};
-ghost use Rattle.host_run.specs.Sights.{arguments_of, is_sight, sought_in, sought, all_seen};
+ghost use Rattle.host_run.specs.Sights.{is_sight, sought_in, seen_by, sees_all};
 
 use super::guest::Guest;
 use amx_machine::Machine;
@@ -22,11 +21,8 @@ pub fn say_call<S: Sink>(
     answer: i32,
 ) -> Result<(), SinkFault>
     requires counted { option_map length (arguments machine.now.state) ≡ Some count }
-    requires visible { all_seen machine.now.state
-        (form_at guest.now.forms.now guest.now.rest) 0 (arguments_of machine.now.state) ≡ true }
-    ensures { let form = form_at guest.now.forms.now guest.now.rest in
-        let values = arguments_of machine.now.state in
-        let seen = map (λ it. it.seen) (sought machine.now.state form 0 values) in
+    requires visible { sees_all machine.now.state guest.now ≡ true }
+    ensures { let seen = seen_by machine.now.state guest.now in
         Said S.taken S.faults S.has_room out.old out.new
         (event_text (event.Native name.now seen answer)) result }
 {
@@ -43,12 +39,9 @@ fn say_arguments<S: Sink>(
     count: u32,
 ) -> Result<(), SinkFault>
     requires counted { option_map length (arguments machine.now.state) ≡ Some count }
-    requires visible { all_seen machine.now.state
-        (form_at guest.now.forms.now guest.now.rest) 0 (arguments_of machine.now.state) ≡ true }
-    ensures { let form = form_at guest.now.forms.now guest.now.rest in
-        let values = arguments_of machine.now.state in
-        let seen = map (λ it. it.seen) (sought machine.now.state form 0 values) in
-        Said S.taken S.faults S.has_room out.old out.new (arguments_text seen) result }
+    requires visible { sees_all machine.now.state guest.now ≡ true }
+    ensures { let text = arguments_text (seen_by machine.now.state guest.now) in
+        Said S.taken S.faults S.has_room out.old out.new text result }
 {
     for index in 0..count {
         say_argument(out, machine, guest.form(index), machine.native_arg(index))?;

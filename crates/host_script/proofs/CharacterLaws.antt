@@ -2,6 +2,8 @@
 use Rattle.std.proofs.Common.{◌≡◌, ◌≢◌, ◌+◌, ◌<◌, ◌≤◌, ℕ, zero, ℤ, pos, negsuc, suc, Bool, true}
 use Rattle.std.proofs.Common.{false, List, [], ◌∷◌, ◌++◌, map, length, take, drop, get_or, Some}
 use Rattle.std.proofs.Common.{None, refl, sym, ap, ◌∙◌, append_assoc, append-nil, arith, true≢false}
+use Rattle.std.proofs.Common.{FitsSigned, w32, to_z, of_z}
+use Rattle.std.specs.Int.{to_be_bytes}
 use Rattle.std.specs.Prelude.{◌||◌, IfSome, option_map, if◌then◌else◌}
 use Rattle.std.specs.List.{flat_map}
 use Rattle.std.specs.Option.{is_some}
@@ -9,6 +11,7 @@ use Rattle.std.specs.Ordering.{int_eq}
 use Rattle.std.proofs.Math.Seq.{drop-cons}
 use Rattle.std.proofs.Math.ListN.{drop_of_length-le}
 use Rattle.std.proofs.lemmas.Bool.Decides.{Decides-int_eq}
+use Rattle.std.proofs.lemmas.Int.{to_z-of_z}
 use Rattle.std.proofs.lemmas.List.{take_more}
 use Rattle.std.proofs.lemmas.List.Concat.{flat_map-append}
 use Rattle.host_script.specs.Text.{character_text}
@@ -168,6 +171,13 @@ text_all f xs i h p =
     ap characters_text (sym (p.same
     ∙ ap (λ rest. flat_map f (take i xs) ++ front (flat_map f rest)) (drop_of_length-le xs h)
     ∙ append-nil (flat_map f (take i xs))))
+
+-- ---- a chunk of one cell's bytes
+
+pub packed_bytes : (cell : ℤ) (bytes : List ℕ) → FitsSigned w32 cell
+    → bytes ≡ to_be_bytes w32 (of_z w32 (to_z w32 (of_z w32 cell))) → map pos bytes ≡ bytes_of cell
+packed_bytes cell bytes fits written =
+    ap (map pos) written ∙ ap bytes_of (to_z-of_z w32 cell fits)
 
 -- ---- a chunk of one character
 

@@ -1,9 +1,11 @@
 -- The text of a native's arguments, one cell after another.
 use Rattle.std.proofs.Common.{◌≡◌, ◌+◌, ◌<◌, ℕ, ℤ, suc, List, [], ◌∷◌, ◌++◌, codes, map, length}
 use Rattle.std.proofs.Common.{take, drop, get_or, sym, ap, ◌∙◌, append_assoc, append-nil}
+use Rattle.std.proofs.Common.{FitsSigned, w32, to_z, of_z}
 use Rattle.std.specs.Fmt.{signed_decimal}
 use Rattle.std.specs.List.{flat_map}
 use Rattle.std.proofs.Math.Seq.{drop-cons}
+use Rattle.std.proofs.lemmas.Int.{to_z-of_z}
 use Rattle.std.proofs.lemmas.List.{take-append-drop, take_more}
 use Rattle.std.proofs.lemmas.List.Concat.{flat_map-append}
 use Rattle.std.proofs.lemmas.List.Folds.{flat_map-map}
@@ -13,6 +15,16 @@ use Rattle.host_script.specs.Text.{seen_text, arguments_text, values_text}
 -- a cell after one blank
 abbrev pub cell_text : ℤ → List ℕ
 cell_text cell = codes " " ++ signed_decimal cell
+
+-- the digits that the code wrote for a cell
+pub digits_of : (cell : ℤ) (text : List ℕ) → FitsSigned w32 cell
+    → text ≡ signed_decimal (to_z w32 (of_z w32 cell)) → text ++ [] ≡ signed_decimal cell
+digits_of cell text fits written =
+    append-nil text ∙ written ∙ ap signed_decimal (to_z-of_z w32 cell fits)
+
+pub cell_piece : (cell : ℤ) (text : List ℕ) → FitsSigned w32 cell
+    → text ≡ signed_decimal (to_z w32 (of_z w32 cell)) → 32 ∷ (text ++ []) ≡ cell_text cell
+cell_piece cell text fits written = ap (λ digits. 32 ∷ digits) (digits_of cell text fits written)
 
 abbrev pub cells_text : List ℤ → List ℕ
 cells_text cells = arguments_text (map Cell cells)

@@ -1,5 +1,5 @@
+pub mod Characters
 pub mod NativeCall
 pub mod Ranges
 pub mod Script
 pub mod Text
-pub mod Characters

@@ -4,5 +4,4 @@
 
 mod shape;
 
-pub use pawn_base::{Cells, Memory};
 pub use shape::{CELL_LIMIT, Shape, cells, inner_row, layout, row};

@@ -1,14 +1,15 @@
-//! The small types that every layer stands on: want of memory, and lists that contracts see as
-//! their elements. Each keeps the allocator that it was made with, and a call that wants memory
-//! and gets none leaves the list as it was.
+//! The small types that every layer stands on: want of memory, lists that contracts see as their
+//! elements, and names with their numbers.
 #![tactic(auto)]
 
 mod bytes;
 mod cells;
 mod list;
 mod memory;
+mod name_table;
 
 pub use bytes::Bytes;
 pub use cells::Cells;
 pub use list::List;
 pub use memory::Memory;
+pub use name_table::Names;

@@ -156,6 +156,11 @@ pub record Divided (a d r : ℤ) : Type 0 where
   pub rest : IsCell r
   pub is_rest : r ≡ int_rem (code a) (code d)
 
+pub divided : {a d r : ℤ} → IsCell a → IsCell d → d ≢ pos 0 → IsCell r
+    → r ≡ int_rem (code a) (code d) → Divided a d r
+divided a d h r e =
+    record { dividend = a; divisor = d; divides = h; rest = r; is_rest = e }
+
 rest_is : (a d r : ℤ) → Divided a d r → code r ≡ int_rem a d
 rest_is a d r g =
     to_z-of_z g.rest ∙ g.is_rest ∙ ap (λ x. int_rem x (code d)) (to_z-of_z g.dividend)

@@ -9,8 +9,5 @@ mod place;
 
 pub use cell::Cell;
 pub use constant::{Constant, predefined};
-pub use operator::{
-    ASSIGNMENT_LEVEL, CHOICE_LEVEL, COMPARISON_LEVEL, Comparison, Logical, Operator, PREFIX_LEVEL,
-    Prefix,
-};
+pub use operator::{CHOICE_LEVEL, COMPARISON_LEVEL, Comparison, Logical, Operator, Prefix};
 pub use place::Place;

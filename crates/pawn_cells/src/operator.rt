@@ -3,18 +3,12 @@ ghost use Rattle.pawn_cells.specs.Operators as spec;
 
 use super::cell::Cell;
 
-/// How tightly what stands before an operand binds: the lower a level, the tighter (Language
-/// Guide, "Operator precedence").
-pub const PREFIX_LEVEL: u32 = 2;
-
-/// The level of comparisons. A row of them is one chain.
+/// The level of comparisons, of which a row is one chain. A level says how tightly an operator binds:
+/// the lower, the tighter (Language Guide, "Operator precedence").
 pub const COMPARISON_LEVEL: u32 = 9;
 
 /// The level of `? :`.
 pub const CHOICE_LEVEL: u32 = 13;
-
-/// The level of `=` and of each operator with a `=` behind it.
-pub const ASSIGNMENT_LEVEL: u32 = 14;
 
 /// An operator before its operand.
 #[derive(Clone, Copy, Debug, PartialEq, Eq)]

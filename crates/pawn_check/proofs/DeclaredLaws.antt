@@ -1,22 +1,22 @@
 -- Heads and declarations, by what is known around them and where they begin.
 use Rattle.std.proofs.Common.{◌≡◌, List, [], Option, sym, ap, subst, ◌∙◌}
 use Rattle.pawn_tree.specs.Declarations.{Decl, Tree}
-use Rattle.pawn_scopes.specs.Verdict.{Verdict, Breaks, faults_of}
-use Rattle.pawn_typing.specs.Around.{Around, Head}
-use Rattle.pawn_bodies.specs.Points.{Point}
-use Rattle.pawn_typed.specs.Paths as paths
-use Rattle.pawn_typed.specs.Sources.{Source, source_of, stated, around_with, around_of, beginning}
-use Rattle.pawn_typed.specs.Sources.{without_heads}
-use Rattle.pawn_typed.specs.Declarations.{Done, declarations}
+use Rattle.names_rules.specs.Verdict.{Verdict, Breaks, faults_of}
+use Rattle.types_rules.specs.Around.{Around, Head}
+use Rattle.types_rules.specs.Points.{Point}
+use Rattle.types_rules.specs.Paths as paths
+use Rattle.types_rules.specs.Sources.{Source, source_of, stated, around_with, around_of, beginning}
+use Rattle.types_rules.specs.Sources.{without_heads}
+use Rattle.types_rules.specs.Declarations.{Done, declarations}
 use Rattle.pawn_verdict.specs.Answers.{Fails}
 use Rattle.pawn_verdict.specs.declared.fault.CheckFault.{CheckFault}
 use Rattle.pawn_verdict.specs.declared.fault.CheckFault.TheVariants as check
-use Rattle.part_verdict.specs.PartAnswers.{FailsPart, part_of}
-use Rattle.part_verdict.specs.declared.fault.PartFault.{PartFault}
-use Rattle.part_verdict.specs.declared.fault.PartFault.TheVariants.{Fallen}
-use Rattle.sound_faults.specs.Faulted.{DeclarationsHaveFaults}
+use Rattle.check_nodes.specs.PartAnswers.{FailsPart, part_of}
+use Rattle.check_nodes.specs.declared.fault.PartFault.{PartFault}
+use Rattle.check_nodes.specs.declared.fault.PartFault.TheVariants.{Fallen}
+use Rattle.types_laws.specs.Faulted.{DeclarationsHaveFaults}
 use Rattle.check_declarations.proofs.LeanLaws.{lean, declarations_alike}
-use Rattle.pawn_check.specs.Parts.{heads, declared}
+use Rattle.pawn_check.specs.TreeParts.{heads, declared}
 
 pub heads_are : (source : Source) (tree : Tree) (cx : Around) (point : Point) (decls : List Decl)
     → cx ≡ without_heads source → point ≡ beginning source → decls ≡ tree

@@ -1,4 +1,4 @@
 pub mod DeclaredLaws
-pub mod FunctionLaws
-pub mod NameLaws
+pub mod FunctionNameLaws
+pub mod NameFaultLaws
 pub mod WholeLaws

@@ -4,20 +4,21 @@ use Rattle.std.proofs.Common.{ap, subst, ◌∙◌}
 use Rattle.std.specs.Prelude.{flat_map}
 use Rattle.pawn_cells.specs.declared.place.Place.{Place}
 use Rattle.pawn_tree.specs.Declarations.{Tree}
-use Rattle.pawn_program.specs.Program.{Program, Public}
-use Rattle.pawn_scopes.specs.Verdict.{Fault, faults_of}
-use Rattle.pawn_typing.specs.declared.fault.TheConstants.{NO_FUNCTIONS}
-use Rattle.pawn_typing.specs.Around.{Head}
-use Rattle.pawn_typed.specs.Sources.{Source, stated}
-use Rattle.pawn_typed.specs.Functions.{group_faults}
-use Rattle.pawn_typed.specs.Publics.{publics}
-use Rattle.pawn_typed.specs.Whole.{Checked, unless, within_sums, has_main, has_some, whole_fault}
-use Rattle.pawn_typed.specs.Whole.{dynamic_faults, entry_faults}
+use Rattle.pawn_meaning.specs.Program.{Program, Public}
+use Rattle.names_rules.specs.Verdict.{Fault, faults_of}
+use Rattle.types_rules.specs.declared.fault.TheConstants.{NO_FUNCTIONS}
+use Rattle.types_rules.specs.Around.{Head}
+use Rattle.types_rules.specs.Sources.{Source, stated}
+use Rattle.types_rules.specs.Functions.{group_faults}
+use Rattle.types_rules.specs.Publics.{publics}
+use Rattle.types_rules.specs.TypedTrees.{Checked, unless, within_sums}
+use Rattle.types_rules.specs.TypedTrees.{has_main, has_some, whole_fault}
+use Rattle.types_rules.specs.TypedTrees.{dynamic_faults, entry_faults}
 use Rattle.pawn_verdict.specs.Answers.{Answers, Fails}
 use Rattle.pawn_verdict.specs.declared.fault.CheckFault.{CheckFault}
-use Rattle.check_whole.specs.PassedView.{passed_view}
-use Rattle.check_classifiers.specs.Finds.{Finds}
-use Rattle.pawn_check.specs.Parts.{heads, function_faults}
+use Rattle.check_declarations.specs.PassedView.{passed_view}
+use Rattle.check_functions.specs.Finds.{Finds}
+use Rattle.pawn_check.specs.TreeParts.{heads, function_faults}
 use Rattle.pawn_check.specs.View.{checked_view}
 use Rattle.pawn_check.specs.declared.checked.Checked.{Checked as HeldChecked}
 

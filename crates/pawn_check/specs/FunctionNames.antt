@@ -2,9 +2,9 @@
 use Rattle.std.specs.Prelude.{◌≡◌, ℕ, List, length, slice_get, Some}
 use Rattle.std.specs.List.{AllByRecursion}
 use Rattle.pawn_tree.specs.Declarations.{Tree}
-use Rattle.pawn_program.specs.Program.{Public, Program}
-use Rattle.pawn_typed.specs.Sources.{source_of}
-use Rattle.check_whole.specs.Names as names
+use Rattle.pawn_meaning.specs.Program.{Public, Program}
+use Rattle.types_rules.specs.Sources.{source_of}
+use Rattle.check_declarations.specs.NumberedNames as names
 
 -- by number, each as it is written in its first body; an operator's is `operator` with its sign
 abbrev pub function_names : Tree → List (List ℕ)

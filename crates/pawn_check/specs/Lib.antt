@@ -1,4 +1,4 @@
 pub mod FunctionNames
-pub mod Parts
 pub mod Reads
+pub mod TreeParts
 pub mod View

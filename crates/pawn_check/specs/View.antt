@@ -1,6 +1,6 @@
 -- What is seen of a tree that was checked.
-use Rattle.pawn_program.specs.View.{program_view}
-use Rattle.pawn_typed.specs.Whole as plain
+use Rattle.pawn_meaning.specs.View.{program_view}
+use Rattle.types_rules.specs.TypedTrees as plain
 use Rattle.pawn_check.specs.declared.checked.Checked.{Checked}
 
 -- the plain program, and the places of the warnings

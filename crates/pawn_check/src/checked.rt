@@ -1,6 +1,6 @@
 use pawn_base::List;
 use pawn_cells::Place;
-use pawn_program::Program;
+use pawn_meaning::Program;
 
 /// What the rules give of a tree.
 #[derive(Drop)]

@@ -1,17 +1,17 @@
 ghost use Rattle.pawn_tree.specs.View.{tree_view};
-ghost use Rattle.pawn_typed.specs.Whole.{typed};
+ghost use Rattle.types_rules.specs.TypedTrees.{typed};
 ghost use Rattle.pawn_verdict.specs.Answers.{Answers};
 ghost use Rattle.check_source.specs.SourceView.{source_view};
-ghost use Rattle.pawn_check.specs.Parts.{typed_by};
+ghost use Rattle.pawn_check.specs.TreeParts.{typed_by};
 ghost use Rattle.pawn_check.specs.Reads.{IsRead};
 ghost use Rattle.pawn_check.specs.View.{checked_view};
 
 use super::checked::Checked;
 use super::declared::{all_declared, all_heads};
-use super::reading::{Reading, read};
+use super::source_verdict::{finish, source_stands};
 use super::together::stand_together;
-use super::whole::{finish, source_stands};
-use check_whole::publics;
+use super::tree_reading::{Reading, read};
+use check_declarations::publics;
 use pawn_tree::Tree;
 use pawn_verdict::CheckFault;
 use std::alloc::Global;

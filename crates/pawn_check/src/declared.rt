@@ -1,25 +1,24 @@
 ghost use Rattle.std.specs.Prelude.{◌≡◌, IfOk};
 ghost use Rattle.pawn_tree.specs.View.{tree_view};
-ghost use Rattle.pawn_typed.specs.Sources.{around_of};
+ghost use Rattle.types_rules.specs.Sources.{around_of};
 ghost use Rattle.pawn_verdict.specs.Answers.{Answers};
-ghost use Rattle.part_verdict.specs.PartAnswers.{part_of};
-ghost use Rattle.part_verdict.specs.declared.fault.PartFault.TheVariants.{Fallen};
-ghost use Rattle.check_types.specs.ContextView.{around_view};
+ghost use Rattle.check_nodes.specs.PartAnswers.{part_of};
+ghost use Rattle.check_nodes.specs.declared.fault.PartFault.TheVariants.{Fallen};
+ghost use Rattle.check_nodes.specs.ContextView.{around_view};
 ghost use Rattle.check_source.specs.SourceView.{source_view};
-ghost use Rattle.check_contexts.specs.HeadsView.{heads_view};
-ghost use Rattle.check_whole.specs.DoneView.{done_view};
-ghost use Rattle.pawn_check.specs.Parts as spec;
+ghost use Rattle.check_functions.specs.HeadsView.{heads_view};
+ghost use Rattle.check_declarations.specs.DoneView.{done_view};
+ghost use Rattle.pawn_check.specs.TreeParts as spec;
 ghost use Rattle.pawn_check.specs.Reads.{IsRead};
 
-use super::reading::{Reading, around, start};
-use check_declarations::{Known, PartFault, declarations, heads};
-use check_types::{Context, Head};
-use check_whole::Done;
+use super::tree_reading::{Reading, around, start};
+use check_declarations::{Done, Known, PartFault, declarations, heads};
+use check_nodes::{Context, Head};
 use pawn_base::{List, Memory};
 use pawn_tree::Tree;
 use pawn_verdict::{CheckFault, broken};
-use sound_faults::faults_are_given;
 use std::alloc::Global;
+use types_laws::faults_are_given;
 
 /// All heads of a tree in order, each by the path where it stands.
 pub fn all_heads<'a>(

@@ -4,13 +4,13 @@
 mod checked;
 mod checking;
 mod declared;
-mod functions;
-mod names;
-mod reading;
+mod distinct_names;
+mod names_of_functions;
+mod source_verdict;
 mod together;
-mod whole;
+mod tree_reading;
 
 pub use checked::Checked;
 pub use checking::check;
-pub use functions::function_names;
+pub use names_of_functions::function_names;
 pub use pawn_verdict::CheckFault;

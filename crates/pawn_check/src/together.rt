@@ -1,20 +1,20 @@
 ghost use Rattle.std.specs.Prelude.{◌≡◌, map};
 ghost use Rattle.pawn_tree.specs.View.{tree_view};
-ghost use Rattle.pawn_typed.specs.Whole as whole;
+ghost use Rattle.types_rules.specs.TypedTrees as whole;
 ghost use Rattle.pawn_verdict.specs.Answers.{Answers};
-ghost use Rattle.check_whole.specs.PassedView.{passed_view};
+ghost use Rattle.check_declarations.specs.PassedView.{passed_view};
 ghost use Rattle.check_source.specs.SourceView.{source_view};
-ghost use Rattle.check_classifiers.specs.Finds.{Finds};
-ghost use Rattle.check_contexts.specs.HeadsView.{heads_view};
-ghost use Rattle.check_whole.specs.DoneView.{bodied_view};
-ghost use Rattle.pawn_check.specs.Parts as spec;
+ghost use Rattle.check_functions.specs.Finds.{Finds};
+ghost use Rattle.check_functions.specs.HeadsView.{heads_view};
+ghost use Rattle.check_declarations.specs.DoneView.{bodied_view};
+ghost use Rattle.pawn_check.specs.TreeParts as spec;
 ghost use Rattle.pawn_check.specs.Reads.{IsRead};
 
-use super::names::names_stand;
-use super::reading::Reading;
+use super::distinct_names::names_stand;
+use super::tree_reading::Reading;
+use check_declarations::{Bodied, returns_stand};
 use check_functions::group_faults;
-use check_types::Head;
-use check_whole::{Bodied, returns_stand};
+use check_nodes::Head;
 use pawn_tree::Tree;
 use pawn_verdict::CheckFault;
 use std::alloc::Global;
@@ -36,7 +36,7 @@ fn functions_stand(
 }
 
 /// What is wrong with declarations that stand, together.
-#[tactic(auto, using(check_classifiers::proofs::FindsLaws::finds))]
+#[tactic(auto, using(check_functions::proofs::FindsLaws::finds))]
 fn find_together(
     alloc: Global,
     tree: &Tree,

@@ -3,15 +3,15 @@ use Rattle.std.proofs.Common.{◌≡◌, ◌≢◌, inl, inr, ℕ, List as ListO
 use Rattle.std.proofs.Common.{subst}
 use Rattle.pawn_outside.specs.Held.{Held}
 use Rattle.amx_ops.specs.declared.amx.Amx.{Amx}
-use Rattle.pawn_words.specs.declared.command.Command.{Command}
-use Rattle.pawn_words.specs.declared.status.Status.{Status}
-use Rattle.pawn_words.specs.declared.status.Status.TheVariants as status
-use Rattle.pawn_words.specs.declared.stop.Stop.{Stop}
-use Rattle.pawn_words.specs.declared.stop.Stop.TheVariants.{FileFault}
-use Rattle.pawn_words.specs.declared.words.WordsFault.{WordsFault}
-use Rattle.pawn_words.specs.declared.words.WordsFault.TheVariants as words
-use Rattle.pawn_words.specs.Reading.{Reads}
-use Rattle.pawn_files.specs.ValidFile.{IsFileNamed}
+use Rattle.command_parts.specs.declared.command.Command.{Command}
+use Rattle.command_parts.specs.declared.status.Status.{Status}
+use Rattle.command_parts.specs.declared.status.Status.TheVariants as status
+use Rattle.command_parts.specs.declared.stop.Stop.{Stop}
+use Rattle.command_parts.specs.declared.stop.Stop.TheVariants.{FileFault}
+use Rattle.command_parts.specs.declared.command_words.WordsFault.{WordsFault}
+use Rattle.command_parts.specs.declared.command_words.WordsFault.TheVariants as words
+use Rattle.command_parts.specs.Reading.{Reads}
+use Rattle.command_parts.specs.ValidFile.{IsFileNamed}
 use Rattle.command_parts.specs.Told.{Told, Writes, TellsStop, status_told}
 use Rattle.pawn_cli.specs.Answers.{Answers, NoCommand, bad_words, no_memory, words_stop}
 use Rattle.pawn_cli.specs.ReadsFile.{ReadsFile}

@@ -1,23 +1,23 @@
 -- What a call of the program answers, writes and puts, by the command that its words are.
 use Rattle.std.specs.Prelude.{◌≡◌, ◌⊎◌, ℕ, List as ListOf, Bool, Option, None, Some}
 use Rattle.pawn_outside.specs.Held.{Held}
-use Rattle.pawn_words.specs.declared.command.Command.{Command}
-use Rattle.pawn_words.specs.declared.command.Command.TheVariants.{Compile, Verify, List, Run}
-use Rattle.pawn_words.specs.declared.command.Command.TheVariants.{Resume, Go}
-use Rattle.pawn_words.specs.declared.status.Status.{Status}
-use Rattle.pawn_words.specs.declared.stop.Stop.{Stop}
-use Rattle.pawn_words.specs.declared.stop.Stop.TheVariants.{BadWords, NoMemory}
-use Rattle.pawn_words.specs.declared.words.WordsFault.{WordsFault}
-use Rattle.pawn_words.specs.declared.words.WordsFault.TheVariants as words
+use Rattle.command_parts.specs.declared.command.Command.{Command}
+use Rattle.command_parts.specs.declared.command.Command.TheVariants.{Compile, Verify, List, Run}
+use Rattle.command_parts.specs.declared.command.Command.TheVariants.{Resume, Go}
+use Rattle.command_parts.specs.declared.status.Status.{Status}
+use Rattle.command_parts.specs.declared.stop.Stop.{Stop}
+use Rattle.command_parts.specs.declared.stop.Stop.TheVariants.{BadWords, NoMemory}
+use Rattle.command_parts.specs.declared.command_words.WordsFault.{WordsFault}
+use Rattle.command_parts.specs.declared.command_words.WordsFault.TheVariants as words
 use Rattle.command_parts.specs.Told.{Writes}
-use Rattle.go_command.specs.CompileCommand.declared.words.CompileWords.{CompileWords}
-use Rattle.go_command.specs.CompileCommand.Compiles.{Compiles}
-use Rattle.run_command.specs.declared.words.RunWords.{RunWords}
-use Rattle.run_command.specs.Runs.{IsStopped, Runs}
-use Rattle.resume_command.specs.declared.words.ResumeWords.{ResumeWords}
-use Rattle.resume_command.specs.Resumes.{Resumes}
-use Rattle.go_command.specs.declared.words.GoWords.{GoWords}
-use Rattle.go_command.specs.Goes.{Goes}
+use Rattle.commands.specs.declared.compile_words.CompileWords.{CompileWords}
+use Rattle.commands.specs.Compiles.{Compiles}
+use Rattle.commands.specs.declared.run_words.RunWords.{RunWords}
+use Rattle.commands.specs.Runs.{IsStopped, Runs}
+use Rattle.commands.specs.declared.resume_words.ResumeWords.{ResumeWords}
+use Rattle.commands.specs.Resumes.{Resumes}
+use Rattle.commands.specs.declared.go_words.GoWords.{GoWords}
+use Rattle.commands.specs.Goes.{Goes}
 use Rattle.pawn_cli.specs.ReadsFile.{Verifies, Lists}
 
 -- ---- words

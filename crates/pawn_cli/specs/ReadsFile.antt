@@ -3,14 +3,14 @@ use Rattle.std.specs.Prelude.{◌≡◌, ◌⊎◌, ℕ, List, Option, codes}
 use Rattle.pawn_outside.specs.Held.{Held}
 use Rattle.amx_ops.specs.declared.amx.Amx.{Amx}
 use Rattle.amx_text.specs.Listing.{listing}
-use Rattle.pawn_words.specs.declared.status.Status.{Status}
-use Rattle.pawn_words.specs.declared.status.Status.TheVariants as status
-use Rattle.pawn_files.specs.declared.read.TheConstants.{FILE_LIMIT}
-use Rattle.pawn_files.specs.Unread.{IsRead}
-use Rattle.pawn_files.specs.ValidFile.{IsValidFile}
+use Rattle.command_parts.specs.declared.status.Status.{Status}
+use Rattle.command_parts.specs.declared.status.Status.TheVariants as status
+use Rattle.command_parts.specs.declared.read.TheConstants.{FILE_LIMIT}
+use Rattle.command_parts.specs.Unread.{IsRead}
+use Rattle.command_parts.specs.ValidFile.{IsValidFile}
 use Rattle.command_parts.specs.Program.{NoFile}
 use Rattle.command_parts.specs.Told.{Told, Writes, status_told}
-use Rattle.run_command.specs.Runs.{IsStopped}
+use Rattle.commands.specs.Runs.{IsStopped}
 
 -- the file is valid, and a text of it was written, or a front of it
 pub record TellsFile {S : Type 0} (text_of : Amx → List ℕ) (writes : Writes S) (name : List ℕ)

@@ -1,20 +1,16 @@
 ghost use Rattle.std.specs.Prelude.{◌≡◌, List as ListOf, ℕ, Option, Some, map};
 ghost use Rattle.std.specs.String.{string_bytes};
 ghost use Rattle.pawn_outside.specs.Said.{Said};
-ghost use Rattle.pawn_words.specs.Command.{command_of};
+ghost use Rattle.command_parts.specs.Command.{command_of};
 ghost use Rattle.command_parts.specs.Calls.{CommandCalls};
 ghost use Rattle.pawn_cli.specs.Answers.{Answers, Does, words_stop};
 ghost use Rattle.pawn_cli.specs.Answers.{AreCompile, AreGo, AreResume, AreRun};
 
 use super::list::list;
 use super::verify::verify;
-use command_parts::tell_stop;
-use go_command::compile_command::{CompileWords, compile};
-use go_command::{GoWords, go};
+use command_parts::{Command, Name, Status, Stop, WordsFault, read_words, tell_stop};
+use commands::{CompileWords, GoWords, ResumeWords, RunWords, compile, go, resume, run};
 use pawn_outside::{Files, Sink};
-use pawn_words::{Command, Name, Status, Stop, WordsFault, read_words};
-use resume_command::{ResumeWords, resume};
-use run_command::{RunWords, run};
 use std::alloc::Global;
 
 /// Does what the words behind the program's name say, over any files and any sink.

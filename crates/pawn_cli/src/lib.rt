@@ -1,9 +1,12 @@
-//! The commands over any files and any sink.
+//! The program as a call: its words, its commands, its status; and the same over the host's files
+//! and standard output.
 #![tactic(auto)]
 
 mod command;
+mod host;
 mod list;
 mod verify;
 
 pub use command::pawn;
-pub use pawn_words::Status;
+pub use command_parts::Status;
+pub use host::run;

@@ -5,10 +5,8 @@ ghost use Rattle.command_parts.specs.Calls.{CommandCalls};
 ghost use Rattle.pawn_cli.specs.ReadsFile.{Lists};
 
 use amx_ops::Amx;
-use command_parts::{tell_stop, told};
-use pawn_files::read_valid;
+use command_parts::{Status, read_valid, tell_stop, told};
 use pawn_outside::{Files, Sink, SinkFault, WriteAnswer};
-use pawn_words::Status;
 use std::alloc::Global;
 
 /// Reads a file, and writes its listing.

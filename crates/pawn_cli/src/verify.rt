@@ -2,10 +2,8 @@ ghost use Rattle.pawn_outside.specs.Said.{Said};
 ghost use Rattle.command_parts.specs.Calls.{CommandCalls};
 ghost use Rattle.pawn_cli.specs.ReadsFile.{Verifies};
 
-use command_parts::{tell_stop, told};
-use pawn_files::read_valid;
+use command_parts::{Status, read_valid, tell_stop, told};
 use pawn_outside::{Files, Sink, say};
-use pawn_words::Status;
 use std::alloc::Global;
 
 /// Reads a file, and says that it is valid.

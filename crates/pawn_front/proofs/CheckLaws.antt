@@ -5,10 +5,10 @@ use Rattle.pawn_pre.specs.declared.line.Lines.{Lines}
 use Rattle.pawn_lex.specs.declared.token.Token.{Token}
 use Rattle.pawn_lex.specs.Lines.{AreTokens}
 use Rattle.pawn_tree.specs.Declarations.{Tree}
-use Rattle.pawn_grammar.specs.Brackets.{IsTooDeep}
-use Rattle.pawn_grammar.specs.Spells.{IsParse}
+use Rattle.tree_rules.specs.Brackets.{IsTooDeep}
+use Rattle.tree_rules.specs.Spells.{IsParse}
 use Rattle.pawn_parse.specs.Parses.{HasNoTree}
-use Rattle.pawn_typed.specs.Whole.{typed}
+use Rattle.types_rules.specs.TypedTrees.{typed}
 use Rattle.pawn_verdict.specs.declared.fault.CheckFault.{CheckFault}
 use Rattle.pawn_verdict.specs.declared.fault.CheckFault.TheVariants.{Source, Memory}
 use Rattle.pawn_verdict.specs.Answers.{Answers}

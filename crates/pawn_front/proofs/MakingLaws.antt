@@ -1,13 +1,13 @@
 -- What was written of a good program is its file.
 use Rattle.std.proofs.Common.{ℕ, List}
-use Rattle.pawn_program.specs.Program.{Program}
+use Rattle.pawn_meaning.specs.Program.{Program}
 use Rattle.amx_ops.specs.declared.amx.Amx.{Amx}
 use Rattle.amx_format.specs.declared.encoding.Encoding.{Encoding}
 use Rattle.amx_format.specs.Written.{IsWritten}
 use Rattle.amx_format.proofs.SortLaws.{written_sorted}
 use Rattle.gen_agrees.specs.Agrees.{Agrees}
 use Rattle.pawn_front.specs.Compiled.{HasFile}
-use Rattle.sound_sources.specs.GoodSources.{IsGoodProgram}
+use Rattle.types_laws.specs.GoodSources.{IsGoodProgram}
 use Rattle.pawn_front.proofs.SizeLaws.{file_small}
 
 pub file_is : (program : Program) (encoding : Encoding) (bytes : List ℕ) (amx : Amx)

@@ -4,8 +4,8 @@ use Rattle.std.proofs.Common.{length, map, refl, ap, arith, length-append}
 use Rattle.std.specs.Prelude.{All, sum_by}
 use Rattle.std.proofs.lemmas.List.Sums.{sum_by-append, sum_by-cons}
 use Rattle.pawn_cells.specs.Cells.{cell_of}
-use Rattle.pawn_program.specs.Names.{IsName, names_of}
-use Rattle.pawn_program.specs.Program.{Program, Public, Tag}
+use Rattle.pawn_meaning.specs.ProgramNames.{IsName, names_of}
+use Rattle.pawn_meaning.specs.Program.{Program, Public, Tag}
 use Rattle.amx_ops.specs.declared.amx.Amx.{Amx}
 use Rattle.amx_ops.specs.declared.amx.Record.{Record}
 use Rattle.amx_ops.specs.Writable.{table_size, names_size, over_tables, name_place, names_end}
@@ -20,7 +20,7 @@ use Rattle.amx_format.proofs.RowLaws.{names_size-append, row_short}
 use Rattle.amx_format.proofs.TableLaws.{length-table, length-names}
 use Rattle.gen_agrees.specs.Agrees.{Agrees}
 use Rattle.gen_agrees.specs.Shape.{names, native_record}
-use Rattle.sound_sources.specs.GoodSources.{IsGoodProgram}
+use Rattle.types_laws.specs.GoodSources.{IsGoodProgram}
 
 -- ---- names
 

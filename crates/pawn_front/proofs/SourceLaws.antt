@@ -9,13 +9,13 @@ use Rattle.pawn_pre.proofs.PageLaws.{only_outcome}
 use Rattle.pawn_lex.specs.declared.token.Token.{Token}
 use Rattle.pawn_lex.proofs.LineLaws.{are_determined}
 use Rattle.pawn_tree.specs.Declarations.{Tree}
-use Rattle.pawn_grammar.specs.Spells.{IsParse}
-use Rattle.pawn_grammar.proofs.Trees.{one_tree}
-use Rattle.pawn_program.specs.Program.{Program}
-use Rattle.pawn_scopes.specs.Verdict as verdict
-use Rattle.pawn_scopes.specs.Verdict.{Verdict, faults_of}
-use Rattle.pawn_typed.specs.Whole.{Checked}
-use Rattle.pawn_typed.specs.IsTyped.{IsTyped, IsFault}
+use Rattle.tree_rules.specs.Spells.{IsParse}
+use Rattle.tree_rules.proofs.Trees.{one_tree}
+use Rattle.pawn_meaning.specs.Program.{Program}
+use Rattle.names_rules.specs.Verdict as verdict
+use Rattle.names_rules.specs.Verdict.{Verdict, faults_of}
+use Rattle.types_rules.specs.TypedTrees.{Checked}
+use Rattle.types_rules.specs.IsTyped.{IsTyped, IsFault}
 use Rattle.pawn_front.specs.declared.compiled.Warning.{Warning}
 use Rattle.pawn_front.specs.declared.fault.CompileFault.{CompileFault}
 use Rattle.pawn_front.specs.declared.fault.CompileFault.TheVariants.{Refused, NoSource, TooLarge}

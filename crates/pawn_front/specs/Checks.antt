@@ -11,8 +11,8 @@ use Rattle.pawn_lex.specs.declared.token.Tokens.{Tokens}
 use Rattle.pawn_lex.specs.Lines.{AreTokens, IsFirstFault}
 use Rattle.pawn_tree.specs.declared.declaration.Tree.{Tree}
 use Rattle.pawn_tree.specs.View.{tree_view}
-use Rattle.pawn_grammar.specs.Spells.{IsParse}
-use Rattle.pawn_program.specs.View.{program_view}
+use Rattle.tree_rules.specs.Spells.{IsParse}
+use Rattle.pawn_meaning.specs.View.{program_view}
 use Rattle.pawn_verdict.specs.declared.fault.CheckFault.{CheckFault}
 use Rattle.pawn_verdict.specs.declared.fault.CheckFault.TheVariants as check
 use Rattle.pawn_check.specs.declared.checked.Checked.{Checked}

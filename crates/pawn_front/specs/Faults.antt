@@ -8,10 +8,10 @@ use Rattle.pawn_pre.specs.Outcome.{Whole, Fault, Long, NotHeld, name_of}
 use Rattle.pawn_lex.specs.declared.token.Token.{Token}
 use Rattle.pawn_lex.specs.Lines.{AreTokens, IsFirstFault}
 use Rattle.pawn_tree.specs.Declarations.{Tree}
-use Rattle.pawn_grammar.specs.Brackets.{IsTooDeep}
-use Rattle.pawn_grammar.specs.Spells.{IsParse}
+use Rattle.tree_rules.specs.Brackets.{IsTooDeep}
+use Rattle.tree_rules.specs.Spells.{IsParse}
 use Rattle.pawn_parse.specs.Parses.{HasNoTree}
-use Rattle.pawn_typed.specs.IsTyped.{IsFault}
+use Rattle.types_rules.specs.IsTyped.{IsFault}
 use Rattle.pawn_front.specs.declared.fault.CompileFault.{CompileFault}
 use Rattle.pawn_front.specs.declared.fault.CompileFault.TheVariants.{Refused, NoSource, TooLarge}
 use Rattle.pawn_front.specs.declared.fault.CompileFault.TheVariants.{Files, Memory}

@@ -3,9 +3,9 @@ use Rattle.std.specs.Prelude.{◌<◌, ℕ, List, All}
 use Rattle.pawn_cells.specs.declared.place.Place.{Place}
 use Rattle.pawn_pre.specs.declared.line.Lines.{Lines}
 use Rattle.pawn_pre.specs.Bounds.{IsBounded}
-use Rattle.pawn_program.specs.Program.{Program}
-use Rattle.sound_sources.specs.GoodSources.{IsGoodProgram}
-use Rattle.sound_sources.specs.SmallTokens.{AreByteLines}
+use Rattle.pawn_meaning.specs.Program.{Program}
+use Rattle.types_laws.specs.GoodSources.{IsGoodProgram}
+use Rattle.types_laws.specs.SmallTokens.{AreByteLines}
 use Rattle.pawn_front.specs.Means.{IsProgramOf}
 
 -- each number is a byte

@@ -1,7 +1,7 @@
-pub mod Places
-pub mod Means
+pub mod Checks
+pub mod Compiled
 pub mod Faults
 pub mod Good
-pub mod Compiled
-pub mod Checks
+pub mod Means
 pub mod OneProgram
+pub mod Places

@@ -9,9 +9,9 @@ use Rattle.pawn_pre.specs.Page.{Comes}
 use Rattle.pawn_lex.specs.declared.token.Token.{Token}
 use Rattle.pawn_lex.specs.Lines.{AreTokens}
 use Rattle.pawn_tree.specs.Declarations.{Tree}
-use Rattle.pawn_grammar.specs.Spells.{IsParse}
-use Rattle.pawn_program.specs.Program.{Program}
-use Rattle.pawn_typed.specs.IsTyped.{IsTyped}
+use Rattle.tree_rules.specs.Spells.{IsParse}
+use Rattle.pawn_meaning.specs.Program.{Program}
+use Rattle.types_rules.specs.IsTyped.{IsTyped}
 use Rattle.pawn_front.specs.declared.compiled.Warning.{Warning}
 use Rattle.pawn_front.specs.Places.{warning_at}
 

@@ -1,7 +1,7 @@
 -- A source has one program at most, and isn't refused where it has one.
 use Rattle.std.specs.Prelude.{◌≡◌, ◌⊎◌, ℕ, List, Some}
 use Rattle.pawn_outside.specs.Held.{Held}
-use Rattle.pawn_program.specs.Program.{Program}
+use Rattle.pawn_meaning.specs.Program.{Program}
 use Rattle.pawn_front.specs.declared.compiled.Warning.{Warning}
 use Rattle.pawn_front.specs.declared.fault.CompileFault.{CompileFault}
 use Rattle.pawn_front.specs.declared.fault.CompileFault.TheVariants.{Files, Memory}

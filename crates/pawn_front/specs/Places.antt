@@ -3,7 +3,7 @@ use Rattle.std.specs.Prelude.{◌-◌, ℕ, List, Option, None, Some, length, sl
 use Rattle.pawn_cells.specs.declared.place.Place.{Place}
 use Rattle.pawn_pre.specs.Outcome.{name_of}
 use Rattle.pawn_lex.specs.declared.token.Token.{Token}
-use Rattle.pawn_typed.specs.Whole.{first_line}
+use Rattle.types_rules.specs.TypedTrees.{first_line}
 use Rattle.pawn_front.specs.declared.compiled.Warning.{Warning}
 
 -- the place of a token, if there is one

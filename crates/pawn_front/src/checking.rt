@@ -1,7 +1,7 @@
 ghost use Rattle.std.specs.Prelude.{◌≡◌, ◌<◌, ◌≤◌, ◌-◌, ◌^◌, length, slice_get, IfOk};
 ghost use Rattle.pawn_pre.specs.Bounds.{IsBounded, bytes_of};
 ghost use Rattle.pawn_front.specs.Checks.{Checks, ChecksTokens, Cuts, Grows};
-ghost use Rattle.pawn_typed.specs.Whole.{first_line};
+ghost use Rattle.types_rules.specs.TypedTrees.{first_line};
 ghost use Rattle.pawn_front.specs.Places.{place_at, place_by};
 
 use pawn_cells::Place;

@@ -1,8 +1,8 @@
-ghost use Rattle.sound_sources.specs.SmallTokens.{AreByteLines};
+ghost use Rattle.types_laws.specs.SmallTokens.{AreByteLines};
 ghost use Rattle.pawn_front.specs.Good.{AreBytes, ProgramsOfSourcesAreGood};
 
 use pawn_pre::Line;
-use sound_sources::sources_are_good;
+use types_laws::sources_are_good;
 
 /// The program of a source is valid, within the limits, and has names as those of a source.
 pub fn programs_of_sources_are_good()

@@ -1,12 +1,12 @@
 ghost use Rattle.std.specs.Prelude.{IfOk};
-ghost use Rattle.pawn_program.specs.View.{program_view};
+ghost use Rattle.pawn_meaning.specs.View.{program_view};
 ghost use Rattle.pawn_front.specs.Compiled.{HasFile};
-ghost use Rattle.sound_sources.specs.GoodSources.{IsGoodProgram};
+ghost use Rattle.types_laws.specs.GoodSources.{IsGoodProgram};
 
 use amx_format::{Encoding, write};
 use gen_module::generate;
 use pawn_base::{Bytes, Memory};
-use pawn_program::Program;
+use pawn_meaning::Program;
 use std::alloc::Global;
 
 /// The bytes of a program's file.

@@ -1,11 +1,11 @@
 ghost use Rattle.std.specs.Prelude.{◌≡◌, Err, IfOk};
 ghost use Rattle.pawn_outside.specs.OnlyRead.{OnlyRead};
 ghost use Rattle.pawn_pre.specs.Bounds.{IsBounded};
-ghost use Rattle.pawn_program.specs.Program.{Program as PlainProgram};
-ghost use Rattle.pawn_program.specs.View.{program_view};
+ghost use Rattle.pawn_meaning.specs.Program.{Program as PlainProgram};
+ghost use Rattle.pawn_meaning.specs.View.{program_view};
 ghost use Rattle.pawn_front.specs.Checks.{Checks, Refuses, RefusesLines, fault_of};
 ghost use Rattle.pawn_front.specs.Compiled.{Compiles, CompilesLines, IsOfLines};
-ghost use Rattle.sound_sources.specs.GoodSources.{IsGoodProgram};
+ghost use Rattle.types_laws.specs.GoodSources.{IsGoodProgram};
 ghost use Rattle.pawn_front.specs.Means.{IsProgramOf};
 
 use super::checking::checked;

@@ -10,8 +10,6 @@ mod token;
 
 pub use fault::LexFault;
 pub use lexer::tokens;
-pub use pawn_base::{Bytes, List, Memory};
-pub use pawn_cells::Place;
 pub use pawn_pre::{Line, Lines};
 pub use pawn_token::{Key, Sign, TokenKind, key_of};
 pub use token::{Token, Tokens};

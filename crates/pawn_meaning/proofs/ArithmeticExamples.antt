@@ -6,9 +6,9 @@ use Rattle.pawn_cells.specs.declared.operator.Operator.TheVariants as operator
 use Rattle.pawn_cells.specs.declared.operator.Prefix.TheVariants as prefix
 use Rattle.pawn_cells.specs.declared.operator.Comparison.TheVariants as comparison
 use Rattle.pawn_cells.specs.Operators.{binary}
-use Rattle.pawn_program.specs.Program as node
-use Rattle.pawn_program.specs.Program.{Expr, Const, Program, Function, ScalarSlot, no_links}
-use Rattle.pawn_program.specs.Program.{then_link, no_else, otherwise}
+use Rattle.pawn_meaning.specs.Program as node
+use Rattle.pawn_meaning.specs.Program.{Expr, Const, Program, Function, ScalarSlot, no_links}
+use Rattle.pawn_meaning.specs.Program.{then_link, no_else, otherwise}
 use Rattle.pawn_meaning.specs.Told.{Cut}
 use Rattle.pawn_meaning.proofs.Programs.{args, function, program_of, cell, n, minus, own, global, p}
 use Rattle.pawn_meaning.proofs.Programs.{p_shows, shown, done, ends}

@@ -4,9 +4,9 @@ use Rattle.std.specs.Int.{int_wrap}
 use Rattle.host_script.specs.declared.event.End.TheVariants as end
 use Rattle.pawn_cells.specs.declared.operator.Operator.TheVariants as operator
 use Rattle.pawn_cells.specs.Operators.{binary}
-use Rattle.pawn_program.specs.Program as node
-use Rattle.pawn_program.specs.Program.{Array, Expr, Const, Read, Stmt, StaticObject, Program}
-use Rattle.pawn_program.specs.Program.{ScalarSlot, ReferenceSlot, ArraySlot, OpenSlot}
+use Rattle.pawn_meaning.specs.Program as node
+use Rattle.pawn_meaning.specs.Program.{Array, Expr, Const, Read, Stmt, StaticObject, Program}
+use Rattle.pawn_meaning.specs.Program.{ScalarSlot, ReferenceSlot, ArraySlot, OpenSlot}
 use Rattle.pawn_meaning.proofs.Programs.{args, function, program_of, array, n, own, p, p_shows}
 use Rattle.pawn_meaning.proofs.Programs.{shown, done, ends}
 

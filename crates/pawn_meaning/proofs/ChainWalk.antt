@@ -9,9 +9,9 @@ use Rattle.std.proofs.lemmas.List.Sums.{sum_by-cons}
 use Rattle.pawn_cells.specs.declared.cell.Cell.{Cell}
 use Rattle.pawn_cells.specs.declared.operator.Comparison.{Comparison}
 use Rattle.pawn_cells.specs.Operators.{cell_in, truth}
-use Rattle.pawn_program.specs.declared.node.Link.{Link}
-use Rattle.pawn_program.specs.Program.{Expr, Links, no_links, then_link}
-use Rattle.pawn_program.specs.View.{expr_view, links_view}
+use Rattle.pawn_meaning.specs.declared.node.Link.{Link}
+use Rattle.pawn_meaning.specs.Program.{Expr, Links, no_links, then_link}
+use Rattle.pawn_meaning.specs.View.{expr_view, links_view}
 use Rattle.pawn_meaning.specs.Capped.{capped}
 use Rattle.pawn_meaning.specs.Fold.{is_constant, are_constant, constant_value, links_value}
 use Rattle.pawn_meaning.specs.Fold.{chain_value, link_value, after_link}

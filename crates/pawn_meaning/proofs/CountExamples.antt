@@ -5,9 +5,9 @@ use Rattle.host_script.specs.Script.{plain}
 use Rattle.host_script.specs.declared.event.End.TheVariants as end
 use Rattle.pawn_cells.specs.declared.operator.Operator.TheVariants as operator
 use Rattle.pawn_cells.specs.Operators.{binary}
-use Rattle.pawn_program.specs.Program as node
-use Rattle.pawn_program.specs.Program.{Expr, Const, Stmt, Function, Program, ScalarSlot, ArraySlot}
-use Rattle.pawn_program.specs.Program.{no_else}
+use Rattle.pawn_meaning.specs.Program as node
+use Rattle.pawn_meaning.specs.Program.{Expr, Const, Stmt, Function, Program, ScalarSlot, ArraySlot}
+use Rattle.pawn_meaning.specs.Program.{no_else}
 use Rattle.pawn_meaning.specs.Need.{need, locals}
 use Rattle.pawn_meaning.specs.Weight.{weight, lean}
 use Rattle.pawn_meaning.specs.Fold.{fold}

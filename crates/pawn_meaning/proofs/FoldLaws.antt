@@ -11,9 +11,9 @@ use Rattle.pawn_cells.specs.declared.operator.Comparison.{Comparison}
 use Rattle.pawn_cells.specs.declared.operator.Logical.TheVariants as logic
 use Rattle.pawn_cells.specs.Cells.{is_zero}
 use Rattle.pawn_cells.specs.Operators.{truth, is_true, prefix, binary, compare, logical}
-use Rattle.pawn_program.specs.Program.{Expr, Const, Read, Unary, Binary, Chain, And, Or, Cond}
-use Rattle.pawn_program.specs.Program.{Assign, Update, UpdateBy, Step, StepBy, Copy, Operate}
-use Rattle.pawn_program.specs.Program.{OperateOne, Call, Native, Seq, Links, no_links, then_link}
+use Rattle.pawn_meaning.specs.Program.{Expr, Const, Read, Unary, Binary, Chain, And, Or, Cond}
+use Rattle.pawn_meaning.specs.Program.{Assign, Update, UpdateBy, Step, StepBy, Copy, Operate}
+use Rattle.pawn_meaning.specs.Program.{OperateOne, Call, Native, Seq, Links, no_links, then_link}
 use Rattle.pawn_meaning.specs.Fold.{is_constant, are_constant, constant_value, links_value}
 use Rattle.pawn_meaning.specs.Fold.{chain_value, link_value, after_link, binary_value, and_value}
 use Rattle.pawn_meaning.specs.Fold.{or_value, choice_value, fold}

@@ -2,7 +2,7 @@
 use Rattle.std.proofs.Common.{◌≡◌, ◌+◌, ◌≤◌, ◌⊎◌, inl, inr, ℕ, sym, ap, arith}
 use Rattle.pawn_meaning.specs.World.{World, first_world}
 use Rattle.pawn_meaning.specs.Run.{Outcome, Gives, Stops, More}
-use Rattle.pawn_program.specs.Program.{Program}
+use Rattle.pawn_meaning.specs.Program.{Program}
 use Rattle.pawn_meaning.specs.Told.{Cut, told_of, told_by, scene_of, whole}
 use Rattle.pawn_meaning.specs.Extends.{Rises, GoesOn, Extends, LaterTurnsExtend, TurnsNeverFall}
 use Rattle.pawn_meaning.specs.Later.{Later, world_of, bump, Below}

@@ -3,11 +3,11 @@ use Rattle.std.proofs.Common.{◌≡◌, ℕ, ◌+◌, ◌*◌, max, List, [], �
 use Rattle.std.proofs.Common.{arith}
 use Rattle.std.specs.declared.boxed.Box.{Box}
 use Rattle.std.specs.declared.alloc.Global.{Global}
-use Rattle.pawn_program.specs.declared.node.Arg.{Arg}
-use Rattle.pawn_program.specs.declared.node.Link.{Link}
-use Rattle.pawn_program.specs.declared.node.Expr as held
-use Rattle.pawn_program.specs.View.{expr_view, arg_view, args_view, links_view}
-use Rattle.pawn_program.proofs.ViewLaws.{expr_view-Call, expr_view-Native, expr_view-Chain}
+use Rattle.pawn_meaning.specs.declared.node.Arg.{Arg}
+use Rattle.pawn_meaning.specs.declared.node.Link.{Link}
+use Rattle.pawn_meaning.specs.declared.node.Expr as held
+use Rattle.pawn_meaning.specs.View.{expr_view, arg_view, args_view, links_view}
+use Rattle.pawn_meaning.proofs.ViewLaws.{expr_view-Call, expr_view-Native, expr_view-Chain}
 use Rattle.pawn_meaning.specs.Need.{greatest, count_of, load, arg_load, args_load, links_load}
 
 args_greatest : (xs : List Arg)

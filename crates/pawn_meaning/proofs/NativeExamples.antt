@@ -9,9 +9,9 @@ use Rattle.host_script.specs.declared.event.Seen.TheVariants as seen
 use Rattle.host_script.specs.declared.event.Event.{Event}
 use Rattle.host_script.specs.declared.event.Event.TheVariants as event
 use Rattle.host_script.specs.declared.event.End.TheVariants as end
-use Rattle.pawn_program.specs.Program as node
-use Rattle.pawn_program.specs.Program.{Arg, Expr, Read, Stmt, StaticObject, Program, ScalarSlot}
-use Rattle.pawn_program.specs.Program.{ArraySlot, OpenSlot}
+use Rattle.pawn_meaning.specs.Program as node
+use Rattle.pawn_meaning.specs.Program.{Arg, Expr, Read, Stmt, StaticObject, Program, ScalarSlot}
+use Rattle.pawn_meaning.specs.Program.{ArraySlot, OpenSlot}
 use Rattle.pawn_meaning.specs.Run.{Outcome, Gives, Stops, More}
 use Rattle.pawn_meaning.specs.Told.{whole, scene_of}
 use Rattle.pawn_meaning.proofs.Programs.{args, function, program_of, array, n, own, p, p_shows}

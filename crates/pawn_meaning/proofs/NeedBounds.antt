@@ -4,18 +4,18 @@ use Rattle.std.proofs.Common.{length, slice_get, arith}
 use Rattle.std.specs.List.{All, sum_by}
 use Rattle.std.proofs.lemmas.List.Elements.{All-head, All-tail}
 use Rattle.std.proofs.lemmas.List.Sums.{sum_by-cons}
-use Rattle.pawn_program.specs.Program.{Scalar, Global, Own, Through, Element, Char, Array, Object}
-use Rattle.pawn_program.specs.Program.{SlotArray, ParamArray, Row, From, Expr, Const, Read, Unary}
-use Rattle.pawn_program.specs.Program.{Binary, Chain, And, Or, Cond, Assign, Update, UpdateBy, Step}
-use Rattle.pawn_program.specs.Program.{StepBy, Copy, Operate, OperateOne, Call, Native, Seq, Links}
-use Rattle.pawn_program.specs.Program.{no_links, then_link, Arg, Value, Ref, Whole, Temp, Args}
-use Rattle.pawn_program.specs.Program.{no_args, then_arg, Perhaps, Absent, Present, Stmt, Block}
-use Rattle.pawn_program.specs.Program.{Local, LocalArray, Do, If, While, DoWhile, For, Switch}
-use Rattle.pawn_program.specs.Program.{Return, Break, Continue, Exit, Sleep, Assert, State, Empty}
-use Rattle.pawn_program.specs.Program.{Else, no_else, otherwise, Cases, no_cases, then_case, Stmts}
-use Rattle.pawn_program.specs.Program.{no_stmts, then_stmt, Body, Function, Program}
+use Rattle.pawn_meaning.specs.Program.{Scalar, Global, Own, Through, Element, Char, Array, Object}
+use Rattle.pawn_meaning.specs.Program.{SlotArray, ParamArray, Row, From, Expr, Const, Read, Unary}
+use Rattle.pawn_meaning.specs.Program.{Binary, Chain, And, Or, Cond, Assign, Update, UpdateBy, Step}
+use Rattle.pawn_meaning.specs.Program.{StepBy, Copy, Operate, OperateOne, Call, Native, Seq, Links}
+use Rattle.pawn_meaning.specs.Program.{no_links, then_link, Arg, Value, Ref, Whole, Temp, Args}
+use Rattle.pawn_meaning.specs.Program.{no_args, then_arg, Perhaps, Absent, Present, Stmt, Block}
+use Rattle.pawn_meaning.specs.Program.{Local, LocalArray, Do, If, While, DoWhile, For, Switch}
+use Rattle.pawn_meaning.specs.Program.{Return, Break, Continue, Exit, Sleep, Assert, State, Empty}
+use Rattle.pawn_meaning.specs.Program.{Else, no_else, otherwise, Cases, no_cases, then_case, Stmts}
+use Rattle.pawn_meaning.specs.Program.{no_stmts, then_stmt, Body, Function, Program}
 use Rattle.pawn_meaning.specs.Limits.{IsWithinLimits, IsWithinFunction, IsWithinBody}
-use Rattle.pawn_meaning.specs.declared.limits.TheConstants.{LOCALS_LIMIT}
+use Rattle.pawn_meaning.specs.declared.program_limits.TheConstants.{LOCALS_LIMIT}
 use Rattle.pawn_meaning.specs.Need.{greatest, count_of, place_load, array_load, load, links_load}
 use Rattle.pawn_meaning.specs.Need.{arg_load, args_load, perhaps_load, stmt_load, else_load}
 use Rattle.pawn_meaning.specs.Need.{cases_load, stmts_load, locals, greatest_locals, greatest_load}

@@ -5,16 +5,16 @@ use Rattle.std.specs.List.{sum_by}
 use Rattle.std.proofs.lemmas.List.Sums.{sum_by-cons}
 use Rattle.std.specs.declared.boxed.Box.{Box}
 use Rattle.std.specs.declared.alloc.Global.{Global}
-use Rattle.pawn_program.specs.Program.{Slot}
-use Rattle.pawn_program.specs.declared.node.Case.{Case}
-use Rattle.pawn_program.specs.declared.node.Expr as held_expr
-use Rattle.pawn_program.specs.declared.node.Stmt as held
-use Rattle.pawn_program.specs.declared.program.Body.{Body}
-use Rattle.pawn_program.specs.declared.program.Function.{Function}
-use Rattle.pawn_program.specs.View.{expr_view, perhaps_view, stmt_view, stmts_view, cases_view}
-use Rattle.pawn_program.specs.View.{else_view, slot_view, body_view, function_view}
-use Rattle.pawn_program.proofs.ViewLaws.{stmt_view-Block, stmt_view-If, stmt_view-For}
-use Rattle.pawn_program.proofs.ViewLaws.{stmt_view-Switch}
+use Rattle.pawn_meaning.specs.Program.{Slot}
+use Rattle.pawn_meaning.specs.declared.node.Case.{Case}
+use Rattle.pawn_meaning.specs.declared.node.Expr as held_expr
+use Rattle.pawn_meaning.specs.declared.node.Stmt as held
+use Rattle.pawn_meaning.specs.declared.program.Body.{Body}
+use Rattle.pawn_meaning.specs.declared.program.Function.{Function}
+use Rattle.pawn_meaning.specs.View.{expr_view, perhaps_view, stmt_view, stmts_view, cases_view}
+use Rattle.pawn_meaning.specs.View.{else_view, slot_view, body_view, function_view}
+use Rattle.pawn_meaning.proofs.ViewLaws.{stmt_view-Block, stmt_view-If, stmt_view-For}
+use Rattle.pawn_meaning.proofs.ViewLaws.{stmt_view-Switch}
 use Rattle.pawn_meaning.specs.Capped.{capped}
 use Rattle.pawn_meaning.specs.Need.{greatest, load, perhaps_load, stmt_load, stmts_load, cases_load}
 use Rattle.pawn_meaning.specs.Need.{else_load, locals, made_by, own_locals, inner_locals}

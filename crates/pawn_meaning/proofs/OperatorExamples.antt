@@ -6,9 +6,9 @@ use Rattle.host_script.specs.declared.event.End.TheVariants as end
 use Rattle.pawn_cells.specs.declared.operator.Operator.TheVariants as operator
 use Rattle.pawn_cells.specs.declared.operator.Comparison.TheVariants as comparison
 use Rattle.pawn_cells.specs.Operators.{binary}
-use Rattle.pawn_program.specs.Program as node
-use Rattle.pawn_program.specs.Program.{Expr, Const, Perhaps, Absent, Present, Stmt, Body, Function}
-use Rattle.pawn_program.specs.Program.{Automaton, Program, ScalarSlot, no_links, then_link}
+use Rattle.pawn_meaning.specs.Program as node
+use Rattle.pawn_meaning.specs.Program.{Expr, Const, Perhaps, Absent, Present, Stmt, Body, Function}
+use Rattle.pawn_meaning.specs.Program.{Automaton, Program, ScalarSlot, no_links, then_link}
 use Rattle.pawn_meaning.specs.Told.{Ended, meaning}
 use Rattle.host_script.specs.Script.{plain}
 use Rattle.pawn_meaning.proofs.Programs.{block, args, function, program_of, cell, n, own, global, p}

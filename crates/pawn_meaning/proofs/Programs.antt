@@ -11,10 +11,10 @@ use Rattle.host_script.specs.declared.event.Event.TheVariants as event
 use Rattle.host_script.specs.declared.event.Seen.TheVariants as seen
 use Rattle.host_script.specs.declared.event.End.{End}
 use Rattle.host_script.specs.declared.event.End.TheVariants as end
-use Rattle.pawn_program.specs.Program as node
-use Rattle.pawn_program.specs.Program.{Scalar, Expr, Const, Read, Arg, Args, no_args, then_arg}
-use Rattle.pawn_program.specs.Program.{Stmt, Stmts, no_stmts, then_stmt, Slot, StaticObject}
-use Rattle.pawn_program.specs.Program.{Function, Automaton, Program}
+use Rattle.pawn_meaning.specs.Program as node
+use Rattle.pawn_meaning.specs.Program.{Scalar, Expr, Const, Read, Arg, Args, no_args, then_arg}
+use Rattle.pawn_meaning.specs.Program.{Stmt, Stmts, no_stmts, then_stmt, Slot, StaticObject}
+use Rattle.pawn_meaning.specs.Program.{Function, Automaton, Program}
 use Rattle.pawn_meaning.specs.Told.{Last, Ended, Told, meaning, events_of}
 
 -- ---- programs

@@ -1,6 +1,6 @@
 -- The laws on runs, from those on each node for two bounds.
 use Rattle.std.proofs.Common.{◌≡◌, ◌≤◌, ℕ, zero, suc, arith}
-use Rattle.pawn_program.specs.Program.{Stmt}
+use Rattle.pawn_meaning.specs.Program.{Stmt}
 use Rattle.pawn_meaning.specs.Later.{Grows}
 use Rattle.pawn_meaning.specs.Meaning.{Scene, Fewer}
 use Rattle.pawn_meaning.specs.RunsExtend.{RunsExtend}

@@ -6,10 +6,10 @@ use Rattle.host_script.specs.declared.event.End.TheVariants as end
 use Rattle.pawn_cells.specs.declared.operator.Operator.TheVariants as operator
 use Rattle.pawn_cells.specs.declared.operator.Comparison.TheVariants as comparison
 use Rattle.pawn_cells.specs.Operators.{binary}
-use Rattle.pawn_program.specs.Program as node
-use Rattle.pawn_program.specs.Program.{Expr, Const, Perhaps, Absent, Present, Stmt, Program}
-use Rattle.pawn_program.specs.Program.{ScalarSlot, no_links, then_link, no_else, otherwise}
-use Rattle.pawn_program.specs.Program.{no_cases, then_case}
+use Rattle.pawn_meaning.specs.Program as node
+use Rattle.pawn_meaning.specs.Program.{Expr, Const, Perhaps, Absent, Present, Stmt, Program}
+use Rattle.pawn_meaning.specs.Program.{ScalarSlot, no_links, then_link, no_else, otherwise}
+use Rattle.pawn_meaning.specs.Program.{no_cases, then_case}
 use Rattle.pawn_meaning.specs.Told.{Cut}
 use Rattle.pawn_meaning.proofs.Programs.{stmts, block, function, program_of, n, own, p, p_shows}
 use Rattle.pawn_meaning.proofs.Programs.{shown, done, ends}

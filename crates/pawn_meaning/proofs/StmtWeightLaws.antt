@@ -5,16 +5,16 @@ use Rattle.std.specs.List.{sum_by}
 use Rattle.std.proofs.lemmas.List.Sums.{sum_by-cons}
 use Rattle.std.specs.declared.boxed.Box.{Box}
 use Rattle.std.specs.declared.alloc.Global.{Global}
-use Rattle.pawn_program.specs.Program.{Body, Function}
-use Rattle.pawn_program.specs.declared.node.Case.{Case}
-use Rattle.pawn_program.specs.declared.node.Expr as held_expr
-use Rattle.pawn_program.specs.declared.node.Stmt as held
-use Rattle.pawn_program.specs.declared.program.Body as held_body
-use Rattle.pawn_program.specs.declared.program.Function as held_function
-use Rattle.pawn_program.specs.View.{expr_view, perhaps_view, stmt_view, stmts_view, cases_view}
-use Rattle.pawn_program.specs.View.{else_view, body_view, function_view}
-use Rattle.pawn_program.proofs.ViewLaws.{stmt_view-Block, stmt_view-If, stmt_view-For}
-use Rattle.pawn_program.proofs.ViewLaws.{stmt_view-Switch}
+use Rattle.pawn_meaning.specs.Program.{Body, Function}
+use Rattle.pawn_meaning.specs.declared.node.Case.{Case}
+use Rattle.pawn_meaning.specs.declared.node.Expr as held_expr
+use Rattle.pawn_meaning.specs.declared.node.Stmt as held
+use Rattle.pawn_meaning.specs.declared.program.Body as held_body
+use Rattle.pawn_meaning.specs.declared.program.Function as held_function
+use Rattle.pawn_meaning.specs.View.{expr_view, perhaps_view, stmt_view, stmts_view, cases_view}
+use Rattle.pawn_meaning.specs.View.{else_view, body_view, function_view}
+use Rattle.pawn_meaning.proofs.ViewLaws.{stmt_view-Block, stmt_view-If, stmt_view-For}
+use Rattle.pawn_meaning.proofs.ViewLaws.{stmt_view-Switch}
 use Rattle.pawn_meaning.specs.Weight.{expr_weight, perhaps_weight, stmt_weight, stmts_weight}
 use Rattle.pawn_meaning.specs.Weight.{cases_weight, else_weight, ranges_weight, function_weight}
 use Rattle.pawn_meaning.specs.Weight.{alone_in}

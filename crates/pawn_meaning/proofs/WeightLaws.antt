@@ -6,12 +6,12 @@ use Rattle.std.specs.List.{sum_by}
 use Rattle.std.proofs.lemmas.List.Sums.{sum_by-cons}
 use Rattle.pawn_cells.specs.declared.cell.Cell.{Cell}
 use Rattle.pawn_cells.specs.Operators.{cell_in, truth}
-use Rattle.pawn_program.specs.Program.{Expr}
-use Rattle.pawn_program.specs.declared.node.Arg.{Arg}
-use Rattle.pawn_program.specs.declared.node.Link.{Link}
-use Rattle.pawn_program.specs.declared.node.Expr as held
-use Rattle.pawn_program.specs.View.{expr_view, arg_view, args_view, links_view}
-use Rattle.pawn_program.proofs.ViewLaws.{expr_view-Call, expr_view-Native}
+use Rattle.pawn_meaning.specs.Program.{Expr}
+use Rattle.pawn_meaning.specs.declared.node.Arg.{Arg}
+use Rattle.pawn_meaning.specs.declared.node.Link.{Link}
+use Rattle.pawn_meaning.specs.declared.node.Expr as held
+use Rattle.pawn_meaning.specs.View.{expr_view, arg_view, args_view, links_view}
+use Rattle.pawn_meaning.proofs.ViewLaws.{expr_view-Call, expr_view-Native}
 use Rattle.pawn_meaning.specs.Capped.{capped}
 use Rattle.pawn_meaning.specs.Fold.{is_constant, constant_value, links_value, chain_value}
 use Rattle.pawn_meaning.specs.Weight.{part, expr_weight, arg_weight, args_weight, alone_in}

@@ -3,7 +3,7 @@ use Rattle.std.specs.Prelude.{ℕ, ℤ, pos, List, ◌++◌, ◌-◌, Bool, true
 use Rattle.std.specs.Prelude.{Option, None, Some, is_some, slice_get, length, find, map, replicate}
 use Rattle.std.specs.Prelude.{if◌then◌else◌}
 use Rattle.host_script.specs.declared.event.End.TheVariants as end
-use Rattle.pawn_program.specs.Program.{Stmt, Body, Route, Function, Automaton, Program}
+use Rattle.pawn_meaning.specs.Program.{Stmt, Body, Route, Function, Automaton, Program}
 use Rattle.pawn_meaning.specs.Memory.{Memory, Frame, Holds, Owns, PointsTo, Unmade, one_cell}
 use Rattle.pawn_meaning.specs.Run.{Run, ◌>>=◌, give, or_stop, look, with_frame}
 use Rattle.pawn_meaning.specs.Natives.{Held, Value, Refers}

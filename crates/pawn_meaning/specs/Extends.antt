@@ -1,7 +1,7 @@
 -- What a greater bound on turns adds to a meaning.
 use Rattle.std.specs.Prelude.{◌≡◌, ◌+◌, ◌≤◌, ◌⊎◌, ℕ, List, [], ◌∷◌, ◌++◌}
 use Rattle.host_script.specs.declared.script.Script.{Script}
-use Rattle.pawn_program.specs.Program.{Program}
+use Rattle.pawn_meaning.specs.Program.{Program}
 use Rattle.pawn_meaning.specs.World.{Entry}
 use Rattle.pawn_meaning.specs.Told.{Last, Ended, Cut, Told, meaning}
 

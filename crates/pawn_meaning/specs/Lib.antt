@@ -10,10 +10,17 @@ pub mod Memory
 pub mod Natives
 pub mod Need
 pub mod NeedIsSmall
+pub mod Program
+pub mod ProgramNames
 pub mod References
 pub mod Run
 pub mod RunsExtend
 pub mod RunsGrow
+pub mod Scope
 pub mod Told
+pub mod Valid
+pub mod ValidExprs
+pub mod ValidStmts
+pub mod View
 pub mod Weight
 pub mod World

@@ -1,10 +1,11 @@
 -- Programs within the limits: those that a generator is asked for.
 use Rattle.std.specs.Prelude.{◌+◌, ◌≤◌, ◌≤ℤ◌, ℕ, pos, List, All, length, sum_by}
 use Rattle.pawn_arrays.specs.Sizes.{cells_of, cell_limit}
-use Rattle.pawn_program.specs.Program.{Slot, ScalarSlot, ReferenceSlot, ArraySlot, OpenSlot}
-use Rattle.pawn_program.specs.Program.{StaticObject, Body, Function, Program}
-use Rattle.pawn_meaning.specs.declared.limits.TheConstants.{DATA_LIMIT, LOCALS_LIMIT, WEIGHT_LIMIT}
-use Rattle.pawn_meaning.specs.declared.limits.TheConstants.{DYNAMIC_LIMIT}
+use Rattle.pawn_meaning.specs.Program.{Slot, ScalarSlot, ReferenceSlot, ArraySlot, OpenSlot}
+use Rattle.pawn_meaning.specs.Program.{StaticObject, Body, Function, Program}
+use Rattle.pawn_meaning.specs.declared.program_limits.TheConstants.{DATA_LIMIT, LOCALS_LIMIT}
+use Rattle.pawn_meaning.specs.declared.program_limits.TheConstants.{WEIGHT_LIMIT}
+use Rattle.pawn_meaning.specs.declared.program_limits.TheConstants.{DYNAMIC_LIMIT}
 use Rattle.pawn_meaning.specs.Need.{locals}
 use Rattle.pawn_meaning.specs.Weight.{weight}
 

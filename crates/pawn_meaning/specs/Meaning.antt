@@ -11,17 +11,17 @@ use Rattle.pawn_cells.specs.Operators.{truth, is_true, prefix, binary, compare, 
 use Rattle.host_script.specs.declared.script.Script.{Script}
 use Rattle.host_script.specs.declared.event.End.TheVariants as end
 use Rattle.host_script.specs.declared.event.Event.TheVariants as event
-use Rattle.pawn_program.specs.Program.{Scalar, Global, Own, Element, Char, Array, Object, SlotArray}
-use Rattle.pawn_program.specs.Program.{ParamArray, Row, From, Expr, Const, Read, Unary, Binary}
-use Rattle.pawn_program.specs.Program.{Chain, And, Or, Cond, Assign, Update, UpdateBy, Step, StepBy}
-use Rattle.pawn_program.specs.Program.{Copy, Operate, OperateOne, Call, Native, Seq, Links}
-use Rattle.pawn_program.specs.Program.{no_links, then_link, Arg, Ref, Whole, Temp, Args, no_args}
-use Rattle.pawn_program.specs.Program.{then_arg, Perhaps, Absent, Present, Stmt, Block, Local}
-use Rattle.pawn_program.specs.Program.{LocalArray, Do, If, While, DoWhile, For, Switch, Return}
-use Rattle.pawn_program.specs.Program.{Break, Continue, Exit, Sleep, Assert, State, Empty, Else}
-use Rattle.pawn_program.specs.Program.{no_else, otherwise, Cases, no_cases, then_case, Stmts}
-use Rattle.pawn_program.specs.Program.{no_stmts, then_stmt, Program}
-use Rattle.pawn_program.specs.Program as node
+use Rattle.pawn_meaning.specs.Program.{Scalar, Global, Own, Element, Char, Array, Object, SlotArray}
+use Rattle.pawn_meaning.specs.Program.{ParamArray, Row, From, Expr, Const, Read, Unary, Binary}
+use Rattle.pawn_meaning.specs.Program.{Chain, And, Or, Cond, Assign, Update, UpdateBy, Step, StepBy}
+use Rattle.pawn_meaning.specs.Program.{Copy, Operate, OperateOne, Call, Native, Seq, Links}
+use Rattle.pawn_meaning.specs.Program.{no_links, then_link, Arg, Ref, Whole, Temp, Args, no_args}
+use Rattle.pawn_meaning.specs.Program.{then_arg, Perhaps, Absent, Present, Stmt, Block, Local}
+use Rattle.pawn_meaning.specs.Program.{LocalArray, Do, If, While, DoWhile, For, Switch, Return}
+use Rattle.pawn_meaning.specs.Program.{Break, Continue, Exit, Sleep, Assert, State, Empty, Else}
+use Rattle.pawn_meaning.specs.Program.{no_else, otherwise, Cases, no_cases, then_case, Stmts}
+use Rattle.pawn_meaning.specs.Program.{no_stmts, then_stmt, Program}
+use Rattle.pawn_meaning.specs.Program as node
 use Rattle.pawn_meaning.specs.Memory as memory
 use Rattle.pawn_meaning.specs.Memory.{Static, Reference, Place, one_cell, running, whole_of}
 use Rattle.pawn_meaning.specs.Memory.{own_whole, through, read, write, copied, made, with_temporary}

@@ -4,17 +4,17 @@
 use Rattle.std.specs.Prelude.{ℕ, suc, ◌+◌, ◌*◌, List, [], ◌∷◌, Option, None, Some, max, map, length}
 use Rattle.std.specs.Prelude.{slice_get}
 use Rattle.pawn_arrays.specs.Sizes.{cells_of}
-use Rattle.pawn_program.specs.Program.{Scalar, Global, Own, Through, Element, Char, Array, Object}
-use Rattle.pawn_program.specs.Program.{SlotArray, ParamArray, Row, From, Expr, Const, Read, Unary}
-use Rattle.pawn_program.specs.Program.{Binary, Chain, And, Or, Cond, Assign, Update, UpdateBy, Step}
-use Rattle.pawn_program.specs.Program.{StepBy, Copy, Operate, OperateOne, Call, Native, Seq, Links}
-use Rattle.pawn_program.specs.Program.{no_links, then_link, Arg, Value, Ref, Whole, Temp, Args}
-use Rattle.pawn_program.specs.Program.{no_args, then_arg, Perhaps, Absent, Present, Stmt, Block}
-use Rattle.pawn_program.specs.Program.{Local, LocalArray, Do, If, While, DoWhile, For, Switch}
-use Rattle.pawn_program.specs.Program.{Return, Break, Continue, Exit, Sleep, Assert, State, Empty}
-use Rattle.pawn_program.specs.Program.{Else, no_else, otherwise, Cases, no_cases, then_case, Stmts}
-use Rattle.pawn_program.specs.Program.{no_stmts, then_stmt, Slot, ScalarSlot, ReferenceSlot}
-use Rattle.pawn_program.specs.Program.{ArraySlot, OpenSlot, Body, Function}
+use Rattle.pawn_meaning.specs.Program.{Scalar, Global, Own, Through, Element, Char, Array, Object}
+use Rattle.pawn_meaning.specs.Program.{SlotArray, ParamArray, Row, From, Expr, Const, Read, Unary}
+use Rattle.pawn_meaning.specs.Program.{Binary, Chain, And, Or, Cond, Assign, Update, UpdateBy, Step}
+use Rattle.pawn_meaning.specs.Program.{StepBy, Copy, Operate, OperateOne, Call, Native, Seq, Links}
+use Rattle.pawn_meaning.specs.Program.{no_links, then_link, Arg, Value, Ref, Whole, Temp, Args}
+use Rattle.pawn_meaning.specs.Program.{no_args, then_arg, Perhaps, Absent, Present, Stmt, Block}
+use Rattle.pawn_meaning.specs.Program.{Local, LocalArray, Do, If, While, DoWhile, For, Switch}
+use Rattle.pawn_meaning.specs.Program.{Return, Break, Continue, Exit, Sleep, Assert, State, Empty}
+use Rattle.pawn_meaning.specs.Program.{Else, no_else, otherwise, Cases, no_cases, then_case, Stmts}
+use Rattle.pawn_meaning.specs.Program.{no_stmts, then_stmt, Slot, ScalarSlot, ReferenceSlot}
+use Rattle.pawn_meaning.specs.Program.{ArraySlot, OpenSlot, Body, Function}
 
 -- the greatest of some numbers, 0 of none
 abbrev pub greatest : List ℕ → ℕ

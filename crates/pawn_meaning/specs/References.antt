@@ -4,7 +4,7 @@ use Rattle.std.specs.Prelude.{false, Option, None, Some, nat_lt, if◌then◌els
 use Rattle.host_script.specs.declared.event.End.{End}
 use Rattle.host_script.specs.declared.event.End.TheVariants as end
 use Rattle.pawn_arrays.specs.Sizes.{elements_in}
-use Rattle.pawn_program.specs.Program.{Array, Object, SlotArray, ParamArray, Row, From}
+use Rattle.pawn_meaning.specs.Program.{Array, Object, SlotArray, ParamArray, Row, From}
 use Rattle.pawn_meaning.specs.Memory.{Name, Reference, Place, Cell, Character}
 use Rattle.pawn_meaning.specs.Run.{Run, give, stop, or_stop}
 use Rattle.pawn_meaning.specs.Natives.{Held, Refers}

@@ -2,7 +2,7 @@
 -- `LaterTurnsExtend`.
 use Rattle.std.specs.Prelude.{◌≤◌, ℕ}
 use Rattle.host_script.specs.declared.script.Script.{Script}
-use Rattle.pawn_program.specs.Program.{Program}
+use Rattle.pawn_meaning.specs.Program.{Program}
 use Rattle.pawn_meaning.specs.Later.{Below}
 use Rattle.pawn_meaning.specs.Told.{scene_of, whole}
 

@@ -1,7 +1,7 @@
 -- Runs only grow: what each node means leads to a later world.
 use Rattle.std.specs.Prelude.{◌≤◌, ℕ}
 use Rattle.host_script.specs.declared.script.Script.{Script}
-use Rattle.pawn_program.specs.Program.{Scalar, Array, Expr, Arg, Args, Stmt, Stmts, Program}
+use Rattle.pawn_meaning.specs.Program.{Scalar, Array, Expr, Arg, Args, Stmt, Stmts, Program}
 use Rattle.pawn_meaning.specs.Later.{Later, Grows, world_of}
 use Rattle.pawn_meaning.specs.Meaning.{Scene, Fewer, place, array, value, argument, arguments, run}
 use Rattle.pawn_meaning.specs.Meaning.{run_all}

@@ -5,7 +5,7 @@ use Rattle.host_script.specs.declared.script.Script.{Script}
 use Rattle.host_script.specs.declared.event.Event.{Event}
 use Rattle.host_script.specs.declared.event.End.{End}
 use Rattle.host_script.specs.declared.event.End.TheVariants as end
-use Rattle.pawn_program.specs.Program.{Stmt, Slot, Function, Program}
+use Rattle.pawn_meaning.specs.Program.{Stmt, Slot, Function, Program}
 use Rattle.pawn_meaning.specs.World.{Entry, World, first_world}
 use Rattle.pawn_meaning.specs.Run.{Outcome, Gives, Stops, More, Run, ◌>>=◌, stop}
 use Rattle.pawn_meaning.specs.Calls.{Way, enter_function}

@@ -4,17 +4,18 @@
 -- counts 40 in all.
 use Rattle.std.specs.Prelude.{ℕ, ◌+◌, ◌*◌, ℤ, pos, negsuc, ◌+ℤ◌, ◌-ℤ◌, List, Bool, true, false}
 use Rattle.std.specs.Prelude.{Option, None, Some, is_some, length, sum_by}
-use Rattle.pawn_program.specs.Program.{Scalar, Global, Own, Through, Element, Char, Array, Object}
-use Rattle.pawn_program.specs.Program.{SlotArray, ParamArray, Row, From, Expr, Const, Read, Unary}
-use Rattle.pawn_program.specs.Program.{Binary, Chain, And, Or, Cond, Assign, Update, UpdateBy, Step}
-use Rattle.pawn_program.specs.Program.{StepBy, Copy, Operate, OperateOne, Call, Native, Seq, Links}
-use Rattle.pawn_program.specs.Program.{no_links, then_link, Arg, Value, Ref, Whole, Temp, Args}
-use Rattle.pawn_program.specs.Program.{no_args, then_arg, Perhaps, Absent, Present, Stmt, Block}
-use Rattle.pawn_program.specs.Program.{Local, LocalArray, Do, If, While, DoWhile, For, Switch}
-use Rattle.pawn_program.specs.Program.{Return, Break, Continue, Exit, Sleep, Assert, State, Empty}
-use Rattle.pawn_program.specs.Program.{Else, no_else, otherwise, Cases, no_cases, then_case, Stmts}
-use Rattle.pawn_program.specs.Program.{no_stmts, then_stmt, Body, Route, Function, Program}
-use Rattle.pawn_meaning.specs.declared.limits.TheConstants.{NODE_WEIGHT, PAIR_WEIGHT, ROUTE_WEIGHT}
+use Rattle.pawn_meaning.specs.Program.{Scalar, Global, Own, Through, Element, Char, Array, Object}
+use Rattle.pawn_meaning.specs.Program.{SlotArray, ParamArray, Row, From, Expr, Const, Read, Unary}
+use Rattle.pawn_meaning.specs.Program.{Binary, Chain, And, Or, Cond, Assign, Update, UpdateBy, Step}
+use Rattle.pawn_meaning.specs.Program.{StepBy, Copy, Operate, OperateOne, Call, Native, Seq, Links}
+use Rattle.pawn_meaning.specs.Program.{no_links, then_link, Arg, Value, Ref, Whole, Temp, Args}
+use Rattle.pawn_meaning.specs.Program.{no_args, then_arg, Perhaps, Absent, Present, Stmt, Block}
+use Rattle.pawn_meaning.specs.Program.{Local, LocalArray, Do, If, While, DoWhile, For, Switch}
+use Rattle.pawn_meaning.specs.Program.{Return, Break, Continue, Exit, Sleep, Assert, State, Empty}
+use Rattle.pawn_meaning.specs.Program.{Else, no_else, otherwise, Cases, no_cases, then_case, Stmts}
+use Rattle.pawn_meaning.specs.Program.{no_stmts, then_stmt, Body, Route, Function, Program}
+use Rattle.pawn_meaning.specs.declared.program_limits.TheConstants.{NODE_WEIGHT, PAIR_WEIGHT}
+use Rattle.pawn_meaning.specs.declared.program_limits.TheConstants.{ROUTE_WEIGHT}
 use Rattle.pawn_meaning.specs.Fold.{fold}
 
 -- a whole number as a count: negative ones count nothing

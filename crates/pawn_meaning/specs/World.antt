@@ -1,7 +1,7 @@
 -- The world of a run: what is alive, what the host was shown, and what was used up.
 use Rattle.std.specs.Prelude.{ℕ, List, [], ◌∷◌, ◌++◌, None, max, map, length, replicate}
 use Rattle.host_script.specs.declared.event.Event.{Event}
-use Rattle.pawn_program.specs.Program.{StaticObject, Program}
+use Rattle.pawn_meaning.specs.Program.{StaticObject, Program}
 use Rattle.pawn_meaning.specs.Memory.{Object, Frame, Memory, live_need}
 
 -- an event with the turns and the peak up to it

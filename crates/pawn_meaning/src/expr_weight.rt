@@ -3,17 +3,17 @@ ghost use Rattle.pawn_cells.specs.Operators.{cell_in};
 ghost use Rattle.pawn_meaning.specs.Capped.{capped};
 ghost use Rattle.pawn_meaning.specs.Fold as folded;
 ghost use Rattle.pawn_meaning.specs.Weight as spec;
-ghost use Rattle.pawn_program.specs.View.{scalar_view, array_view, expr_view};
-ghost use Rattle.pawn_program.specs.View.{arg_view, links_view, perhaps_view};
+ghost use Rattle.pawn_meaning.specs.View.{scalar_view, array_view, expr_view};
+ghost use Rattle.pawn_meaning.specs.View.{arg_view, links_view, perhaps_view};
 
 use super::folding::{
     Share, Weighed, after_link, and_value, behind_last, binary_value, chain_value, choice_value,
     link_value, node, or_value, prefix_value,
 };
-use super::limits::NODE_WEIGHT;
+use super::node::{Arg, Array, Expr, Link, Scalar};
+use super::program_limits::NODE_WEIGHT;
 use pawn_base::List;
 use pawn_cells::Cell;
-use pawn_program::{Arg, Array, Expr, Link, Scalar};
 
 /// The value of an expression that is built of constants and built-in operators alone, where its
 /// meaning gives one. It takes no memory, and is one walk over the expression.

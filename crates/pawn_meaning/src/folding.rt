@@ -3,10 +3,10 @@ ghost use Rattle.std.specs.Prelude.{option_map, option_and_then, is_some};
 ghost use Rattle.pawn_cells.specs.Operators.{cell_in, truth, prefix};
 ghost use Rattle.pawn_meaning.specs.Capped.{capped};
 ghost use Rattle.pawn_meaning.specs.Fold as spec;
-ghost use Rattle.pawn_meaning.specs.declared.limits.TheConstants.{NODE_WEIGHT};
-ghost use Rattle.pawn_program.specs.Program.{no_links};
+ghost use Rattle.pawn_meaning.specs.declared.program_limits.TheConstants.{NODE_WEIGHT};
+ghost use Rattle.pawn_meaning.specs.Program.{no_links};
 
-use super::limits::NODE_WEIGHT;
+use super::program_limits::NODE_WEIGHT;
 use pawn_cells::{Cell, Comparison, Logical, Operator, Prefix};
 
 /// The weight of a node with parts.

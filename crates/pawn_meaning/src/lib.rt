@@ -1,25 +1,30 @@
-//! What a typed program means: events and an end, from the source alone, with the turns and the
-//! stack that they take. The laws on this meaning are the contracts of functions without a body.
+//! Typed programs, which of them are valid, and what they mean.
 #![tactic(auto)]
 
 mod expr_weight;
 mod folding;
-mod laws;
-mod limits;
 mod load;
 mod locals;
+mod meaning_laws;
+mod name_limits;
 mod needs;
+mod node;
+mod program;
+mod program_limits;
 mod stmt_load;
 mod stmt_weight;
 mod weights;
 
 pub use expr_weight::fold;
-pub use laws::{
+pub use locals::locals_fit;
+pub use meaning_laws::{
     fold_means, later_turns_extend, need_is_small, runs_extend, runs_grow, turns_never_fall,
 };
-pub use limits::{
-    DATA_LIMIT, DYNAMIC_LIMIT, LOCALS_LIMIT, NODE_WEIGHT, PAIR_WEIGHT, ROUTE_WEIGHT, WEIGHT_LIMIT,
-};
-pub use locals::locals_fit;
+pub use name_limits::{NAME_LIMIT, NAMES_LIMIT};
 pub use needs::need;
+pub use node::{Arg, Array, Case, Expr, Link, Scalar, Stmt};
+pub use pawn_arrays::Shape;
+pub use pawn_cells::{Comparison, Operator, Prefix};
+pub use program::{Automaton, Body, Function, Object, Program, Public, Route, Slot, Tag};
+pub use program_limits::{DATA_LIMIT, DYNAMIC_LIMIT, WEIGHT_LIMIT};
 pub use weights::{lean, weight};

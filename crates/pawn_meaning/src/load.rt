@@ -1,11 +1,11 @@
 ghost use Rattle.std.specs.Prelude.{◌≡◌, ◌+◌, ◌*◌, length, map};
 ghost use Rattle.pawn_meaning.specs.Capped.{capped};
 ghost use Rattle.pawn_meaning.specs.Need as spec;
-ghost use Rattle.pawn_program.specs.View.{scalar_view, array_view, expr_view};
-ghost use Rattle.pawn_program.specs.View.{arg_view, perhaps_view};
+ghost use Rattle.pawn_meaning.specs.View.{scalar_view, array_view, expr_view};
+ghost use Rattle.pawn_meaning.specs.View.{arg_view, perhaps_view};
 
+use super::node::{Arg, Array, Expr, Link, Scalar};
 use pawn_base::List;
-use pawn_program::{Arg, Array, Expr, Link, Scalar};
 
 #[cycle(load)]
 fn scalar_load(place: &Scalar) -> u64

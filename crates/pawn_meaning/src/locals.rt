@@ -1,13 +1,15 @@
 ghost use Rattle.std.specs.Prelude.{◌≡◌, ◌+◌, ◌*◌, map, nat_le, slice_get, sum_by, unwrap_or};
 ghost use Rattle.pawn_arrays.specs.Sizes.{cell_count};
 ghost use Rattle.pawn_meaning.specs.Capped.{capped};
-ghost use Rattle.pawn_meaning.specs.declared.limits.TheConstants as limits;
+ghost use Rattle.pawn_meaning.specs.declared.program_limits.TheConstants as limits;
 ghost use Rattle.pawn_meaning.specs.Need as spec;
-ghost use Rattle.pawn_program.specs.View.{slot_view, stmt_view, else_view};
+ghost use Rattle.pawn_meaning.specs.View.{slot_view, stmt_view, else_view};
 
-use super::limits::LOCALS_LIMIT;
+use super::node::{Case, Stmt};
+use super::program::Slot;
+use super::program_limits::LOCALS_LIMIT;
+use pawn_arrays::Shape;
 use pawn_base::List;
-use pawn_program::{Case, Shape, Slot, Stmt};
 
 /// The cells of an array, offsets among them.
 fn shape_cells(shape: &Shape) -> u64

@@ -1,12 +1,12 @@
 ghost use Rattle.std.specs.Prelude.{◌≡◌, ◌<◌, map, length, slice_get, Some};
 ghost use Rattle.pawn_meaning.specs.Capped.{capped};
 ghost use Rattle.pawn_meaning.specs.Need as spec;
-ghost use Rattle.pawn_program.specs.View.{body_view, function_view, program_view};
+ghost use Rattle.pawn_meaning.specs.View.{body_view, function_view, program_view};
 
 use super::locals::locals;
+use super::program::{Body, Function, Program};
 use super::stmt_load::stmt_load;
 use pawn_base::List;
-use pawn_program::{Body, Function, Program};
 
 /// The cells that one call of the function with this number keeps on the stack and the heap at
 /// most; the greatest `u64` where there are more. It takes no memory, and is one walk over the

@@ -1,11 +1,11 @@
 ghost use Rattle.std.specs.Prelude.{◌≡◌, map};
 ghost use Rattle.pawn_meaning.specs.Capped.{capped};
 ghost use Rattle.pawn_meaning.specs.Need as spec;
-ghost use Rattle.pawn_program.specs.View.{stmt_view, else_view};
+ghost use Rattle.pawn_meaning.specs.View.{stmt_view, else_view};
 
 use super::load::{expr_load, perhaps_load};
+use super::node::{Case, Stmt};
 use pawn_base::List;
-use pawn_program::{Case, Stmt};
 
 /// The greatest load of an expression in a statement.
 #[cycle(stmt_load)]

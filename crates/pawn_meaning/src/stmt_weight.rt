@@ -1,13 +1,13 @@
 ghost use Rattle.std.specs.Prelude.{◌≡◌, ◌+◌, ◌^◌, ◌≤◌, sum_by};
 ghost use Rattle.pawn_meaning.specs.Capped.{capped};
 ghost use Rattle.pawn_meaning.specs.Weight as spec;
-ghost use Rattle.pawn_program.specs.View.{expr_view, stmt_view, else_view};
+ghost use Rattle.pawn_meaning.specs.View.{expr_view, stmt_view, else_view};
 
 use super::expr_weight::{perhaps_weight, weigh};
 use super::folding::node;
-use super::limits::{NODE_WEIGHT, PAIR_WEIGHT};
+use super::node::{Case, Expr, Stmt};
+use super::program_limits::{NODE_WEIGHT, PAIR_WEIGHT};
 use pawn_base::List;
-use pawn_program::{Case, Expr, Stmt};
 
 /// The weight of an expression.
 fn expr_weight(expr: &Expr, lean: bool) -> u64

@@ -1,12 +1,12 @@
 ghost use Rattle.std.specs.Prelude.{◌≡◌, map, option_map, sum_by};
 ghost use Rattle.pawn_meaning.specs.Capped.{capped};
 ghost use Rattle.pawn_meaning.specs.Weight as spec;
-ghost use Rattle.pawn_program.specs.View.{route_view, body_view, function_view, program_view};
+ghost use Rattle.pawn_meaning.specs.View.{route_view, body_view, function_view, program_view};
 
-use super::limits::{PAIR_WEIGHT, ROUTE_WEIGHT};
+use super::program::{Body, Function, Program, Route};
+use super::program_limits::{PAIR_WEIGHT, ROUTE_WEIGHT};
 use super::stmt_weight::stmt_weight;
 use pawn_base::List;
-use pawn_program::{Body, Function, Program, Route};
 
 /// The weight of a program, which bounds the cells of its code; the greatest `u64` where it is
 /// above that. It takes no memory, and is one walk over the program.

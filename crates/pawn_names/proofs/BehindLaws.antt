@@ -3,35 +3,35 @@ use Rattle.std.proofs.Common.{◌≡◌, ℕ, List, [], ◌∷◌, ◌++◌, Opt
 use Rattle.std.proofs.Common.{sym, ap, subst, ◌∙◌}
 use Rattle.std.specs.Option.{option_or}
 use Rattle.pawn_cells.specs.Constants.{predefined}
-use Rattle.pawn_scopes.specs.Verdict.{Fault}
-use Rattle.pawn_scopes.specs.Known as plain
-use Rattle.pawn_scopes.specs.Mark.{Mark, Opens, Closes, Mentions, Uses, Declares, Use, Declaration}
-use Rattle.pawn_scopes.specs.Overloads.{tag_number}
-use Rattle.pawn_scopes.specs.Around.{Around, constant}
-use Rattle.pawn_scopes.specs.Found.{meaning, declared, kind_of}
-use Rattle.pawn_scopes.specs.Here.{is_here}
-use Rattle.pawn_scopes.specs.Path.{path_of}
-use Rattle.pawn_scopes.specs.Faults.{use_faults, again_faults, value_faults, mark_faults}
-use Rattle.pawn_scopes.specs.Faults.{marks_faults}
-use Rattle.pawn_scopes.specs.Uses as u
-use Rattle.pawn_scopes.specs.Values as v
-use Rattle.pawn_scopes.proofs.FaultLaws.{no_mark_faults}
+use Rattle.names_rules.specs.Verdict.{Fault}
+use Rattle.names_rules.specs.Known as plain
+use Rattle.names_rules.specs.Mark.{Mark, Opens, Closes, Mentions, Uses, Declares, Use, Declaration}
+use Rattle.names_rules.specs.Overloads.{tag_number}
+use Rattle.names_rules.specs.Around.{Around, constant}
+use Rattle.names_rules.specs.Found.{meaning, declared, kind_of}
+use Rattle.names_rules.specs.Here.{is_here}
+use Rattle.names_rules.specs.Path.{path_of}
+use Rattle.names_rules.specs.Faults.{use_faults, again_faults, value_faults, mark_faults}
+use Rattle.names_rules.specs.Faults.{marks_faults}
+use Rattle.names_rules.specs.Uses as u
+use Rattle.names_rules.specs.Values as v
+use Rattle.names_rules.proofs.FaultLaws.{no_mark_faults}
 use Rattle.pawn_verdict.specs.declared.fault.CheckFault.{CheckFault}
-use Rattle.pawn_sight.specs.declared.known.Kind.{Kind}
-use Rattle.pawn_sight.specs.declared.known.Known.{Known}
-use Rattle.pawn_sight.specs.declared.context.Context.{Context}
+use Rattle.names_sight.specs.declared.known.Kind.{Kind}
+use Rattle.names_sight.specs.declared.known.Known.{Known}
+use Rattle.names_sight.specs.declared.context.Context.{Context}
 use Rattle.pawn_verdict.specs.Answers.{Fails}
-use Rattle.pawn_sight.specs.Changes as changes
-use Rattle.pawn_sight.specs.Changes.{IsNow}
-use Rattle.pawn_sight.specs.FileTable.{function_in}
-use Rattle.pawn_sight.specs.Means.{around_view, means_view}
-use Rattle.pawn_sight.specs.Scopes.{Numbered, innermost_has}
-use Rattle.pawn_sight.specs.Views.{kind_view, known_view, head_view}
+use Rattle.names_sight.specs.Changes as changes
+use Rattle.names_sight.specs.Changes.{IsNow}
+use Rattle.names_sight.specs.FileTable.{function_in}
+use Rattle.names_sight.specs.Means.{around_view, means_view}
+use Rattle.names_sight.specs.Scopes.{Numbered, innermost_has}
+use Rattle.names_sight.specs.Views.{kind_view, known_view, head_view}
 use Rattle.pawn_verdict.proofs.VerdictLaws.{fails_left, fails_right}
-use Rattle.pawn_constants.specs.Narrower.{NarrowerKind, NarrowerKnown}
+use Rattle.names_sight.specs.Narrower.{NarrowerKind, NarrowerKnown}
 use Rattle.pawn_names.specs.declared.resolver.Resolver.{Resolver}
 use Rattle.pawn_names.specs.Behind.{Knows, IsPath, IsBehind}
-use Rattle.pawn_names.specs.Parts.{IsTokenOf}
+use Rattle.pawn_names.specs.StepAnswers.{IsTokenOf}
 use Rattle.pawn_names.proofs.PathLaws.{path_with, path_out}
 use Rattle.pawn_names.proofs.StepLaws.{means_narrower, here_is, declared_narrower, use_is}
 use Rattle.pawn_names.proofs.DeclareLaws.{kind_twice, value_fails, kept_whole, kept_values}

@@ -1,17 +1,17 @@
 -- A declaration more: what code keeps of it is narrower than what it declares.
 use Rattle.std.proofs.Common.{◌≡◌, ℕ, ℤ, Bool, true, List, [], ◌∷◌, refl, ap}
-use Rattle.pawn_scopes.specs.Verdict.{Verdict, Stands, faults_of}
-use Rattle.pawn_scopes.specs.Known.{Kind, Cells, Worth, Function}
-use Rattle.pawn_scopes.specs.Mark.{Declaration}
-use Rattle.pawn_scopes.specs.Faults.{again_faults, value_faults}
-use Rattle.pawn_scopes.specs.Values.{with_kind, with_worth}
+use Rattle.names_rules.specs.Verdict.{Verdict, Stands, faults_of}
+use Rattle.names_rules.specs.Known.{Kind, Cells, Worth, Function}
+use Rattle.names_rules.specs.Mark.{Declaration}
+use Rattle.names_rules.specs.Faults.{again_faults, value_faults}
+use Rattle.names_rules.specs.Values.{with_kind, with_worth}
 use Rattle.pawn_verdict.specs.declared.fault.CheckFault.{CheckFault}
 use Rattle.pawn_verdict.specs.declared.fault.CheckFault.TheVariants.{Source, Memory}
-use Rattle.pawn_sight.specs.declared.known.Kind as held
-use Rattle.pawn_sight.specs.declared.known.Kind.TheVariants as kept
+use Rattle.names_sight.specs.declared.known.Kind as held
+use Rattle.names_sight.specs.declared.known.Kind.TheVariants as kept
 use Rattle.pawn_verdict.specs.Answers.{Fails}
-use Rattle.pawn_constants.specs.Narrower.{Narrower, AreNarrower, NarrowerKind}
-use Rattle.pawn_sight.specs.Views.{kind_view}
+use Rattle.names_sight.specs.Narrower.{Narrower, AreNarrower, NarrowerKind}
+use Rattle.names_sight.specs.Views.{kind_view}
 
 -- ---- narrower twice
 

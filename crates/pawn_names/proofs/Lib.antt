@@ -1,7 +1,7 @@
+mod BehindLaws
+mod DeclareLaws
+mod MarksLaws
 mod NarrowLaws
 mod PathLaws
+mod ResolvedLaws
 mod StepLaws
-mod DeclareLaws
-mod BehindLaws
-mod WholeLaws
-mod MarksLaws

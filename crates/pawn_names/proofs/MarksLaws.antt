@@ -4,12 +4,12 @@ use Rattle.std.proofs.Common.{◌≡◌, ◌+◌, ◌<◌, ◌≤◌, ℕ, List,
 use Rattle.std.proofs.Common.{subst, ◌∙◌}
 use Rattle.std.specs.List.{Contains}
 use Rattle.std.proofs.lemmas.List.{take_all}
-use Rattle.pawn_marks.specs.declared.mark.Mark as held
-use Rattle.pawn_marks.specs.MarkView.{mark_view, marks_view}
-use Rattle.pawn_scopes.specs.Around.{Around}
-use Rattle.pawn_scopes.specs.Faults.{marks_faults}
-use Rattle.pawn_scopes.proofs.ExtendLaws.{faults_stay}
-use Rattle.pawn_scopes.proofs.OrderLaws.{next_mark, all_marks_extend}
+use Rattle.names_sight.specs.declared.mark.Mark as held
+use Rattle.names_sight.specs.MarkView.{mark_view, marks_view}
+use Rattle.names_rules.specs.Around.{Around}
+use Rattle.names_rules.specs.Faults.{marks_faults}
+use Rattle.names_rules.proofs.ExtendLaws.{faults_stay}
+use Rattle.names_rules.proofs.OrderLaws.{next_mark, all_marks_extend}
 use Rattle.pawn_verdict.specs.declared.fault.CheckFault.{CheckFault}
 use Rattle.pawn_verdict.specs.declared.fault.CheckFault.TheVariants.{Source, Memory}
 use Rattle.pawn_verdict.specs.Answers.{Fails}

@@ -14,18 +14,18 @@ use Rattle.pawn_tree.specs.Expressions as e
 use Rattle.pawn_tree.specs.Expressions.{Expr, Link, Links}
 use Rattle.pawn_tree.specs.Variables as var
 use Rattle.pawn_tree.specs.Variables.{Dim, Init}
-use Rattle.pawn_scopes.specs.Verdict.{Verdict, Stands, Breaks, Fault, faults_of, after, both}
-use Rattle.pawn_scopes.specs.Known.{Known, Kind, Cells, Worth, Function}
-use Rattle.pawn_scopes.specs.Mark as mark
-use Rattle.pawn_scopes.specs.Mark.{Sort}
-use Rattle.pawn_scopes.specs.Around.{Around}
-use Rattle.pawn_scopes.specs.Worth.{Valued, known_value, name_worth, size_at, kind_size, name_size}
-use Rattle.pawn_scopes.specs.Worth.{name_tag, sizeof_worth, tagof_worth, worth, links_hold}
-use Rattle.pawn_scopes.specs.Worth.{link_worth}
-use Rattle.pawn_scopes.specs.Sizes.{constant_size, character_size, dim_size, first_size}
-use Rattle.pawn_scopes.specs.Sizes.{variable_sizes, open_size, parameter_sizes}
-use Rattle.pawn_scopes.specs.Found.{kind_of}
-use Rattle.pawn_constants.specs.Narrower.{Narrower, AreNarrower, NarrowerKind, NarrowerMeant}
+use Rattle.names_rules.specs.Verdict.{Verdict, Stands, Breaks, Fault, faults_of, after, both}
+use Rattle.names_rules.specs.Known.{Known, Kind, Cells, Worth, Function}
+use Rattle.names_rules.specs.Mark as mark
+use Rattle.names_rules.specs.Mark.{Sort}
+use Rattle.names_rules.specs.Around.{Around}
+use Rattle.names_rules.specs.Worth.{Valued, known_value, name_worth, size_at, kind_size, name_size}
+use Rattle.names_rules.specs.Worth.{name_tag, sizeof_worth, tagof_worth, worth, links_hold}
+use Rattle.names_rules.specs.Worth.{link_worth}
+use Rattle.names_rules.specs.Sizes.{constant_size, character_size, dim_size, first_size}
+use Rattle.names_rules.specs.Sizes.{variable_sizes, open_size, parameter_sizes}
+use Rattle.names_rules.specs.Found.{kind_of}
+use Rattle.names_sight.specs.Narrower.{Narrower, AreNarrower, NarrowerKind, NarrowerMeant}
 
 -- ---- verdicts
 

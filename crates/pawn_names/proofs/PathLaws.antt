@@ -2,17 +2,17 @@
 use Rattle.std.proofs.Common.{◌≡◌, ℕ, zero, suc, Bool, true, false, ◌||◌, if◌then◌else◌, List, []}
 use Rattle.std.proofs.Common.{◌∷◌, ◌++◌, length, Option, Some, option_map, slice_get, refl, ap}
 use Rattle.std.specs.Str.{bytes_eq}
-use Rattle.pawn_scopes.specs.Known as plain
-use Rattle.pawn_scopes.specs.Around.{Around, everywhere}
-use Rattle.pawn_scopes.specs.Path as p
-use Rattle.pawn_scopes.specs.Path.{Path, Entry, on_path}
-use Rattle.pawn_sight.specs.declared.known.Known.{Known}
-use Rattle.pawn_sight.specs.Scopes.{Numbered, with_number, outer_of, in_block, number_of, has_name}
-use Rattle.pawn_sight.specs.Scopes.{innermost_has}
-use Rattle.pawn_sight.specs.Means.{by_number}
-use Rattle.pawn_constants.specs.Narrower.{NarrowerMeant, NarrowerKnown}
+use Rattle.names_rules.specs.Known as plain
+use Rattle.names_rules.specs.Around.{Around, everywhere}
+use Rattle.names_rules.specs.Path as p
+use Rattle.names_rules.specs.Path.{Path, Entry, on_path}
+use Rattle.names_sight.specs.declared.known.Known.{Known}
+use Rattle.names_sight.specs.Scopes.{Numbered, with_number, outer_of, in_block, number_of, has_name}
+use Rattle.names_sight.specs.Scopes.{innermost_has}
+use Rattle.names_sight.specs.Means.{by_number}
+use Rattle.names_sight.specs.Narrower.{NarrowerMeant, NarrowerKnown}
 use Rattle.pawn_names.specs.Behind.{IsBlock, IsPath}
-use Rattle.pawn_sight.specs.Views.{known_view}
+use Rattle.names_sight.specs.Views.{known_view}
 
 pick : (known : List Known) (elsewhere : Option plain.Known) (b : Bool) (number : ℕ)
     (rest : Option ℕ) (x : plain.Known) (other : Option plain.Known)

@@ -1,20 +1,20 @@
 -- One mark more: what code finds out of it by what it keeps is what the definitions say.
 use Rattle.std.proofs.Common.{◌≡◌, ℕ, ℤ, List, [], ◌∷◌, Option, Some, None, refl, sym, ap, ◌∙◌}
 use Rattle.std.proofs.Common.{subst}
-use Rattle.pawn_scopes.specs.Verdict.{Verdict}
-use Rattle.pawn_scopes.specs.Known.{Known, Kind, Cells, Worth, Function}
-use Rattle.pawn_scopes.specs.Mark.{Mark, Use, Declaration}
-use Rattle.pawn_scopes.specs.Around.{Around, everywhere}
-use Rattle.pawn_scopes.specs.Found.{meaning, declared, kind_of}
-use Rattle.pawn_scopes.specs.Here.{is_here}
-use Rattle.pawn_scopes.specs.Path.{path_of}
-use Rattle.pawn_scopes.specs.Faults.{use_faults}
-use Rattle.pawn_scopes.specs.Uses.{pair_of, declared_at}
-use Rattle.pawn_scopes.proofs.PathLaws as scopes
-use Rattle.pawn_sight.specs.declared.context.Context.{Context}
-use Rattle.pawn_sight.specs.Scopes.{innermost_has}
-use Rattle.pawn_sight.specs.Means.{around_view, elsewhere_view, means_view}
-use Rattle.pawn_constants.specs.Narrower.{AreNarrower, NarrowerKind, NarrowerMeant}
+use Rattle.names_rules.specs.Verdict.{Verdict}
+use Rattle.names_rules.specs.Known.{Known, Kind, Cells, Worth, Function}
+use Rattle.names_rules.specs.Mark.{Mark, Use, Declaration}
+use Rattle.names_rules.specs.Around.{Around, everywhere}
+use Rattle.names_rules.specs.Found.{meaning, declared, kind_of}
+use Rattle.names_rules.specs.Here.{is_here}
+use Rattle.names_rules.specs.Path.{path_of}
+use Rattle.names_rules.specs.Faults.{use_faults}
+use Rattle.names_rules.specs.Uses.{pair_of, declared_at}
+use Rattle.names_rules.proofs.PathLaws as scopes
+use Rattle.names_sight.specs.declared.context.Context.{Context}
+use Rattle.names_sight.specs.Scopes.{innermost_has}
+use Rattle.names_sight.specs.Means.{around_view, elsewhere_view, means_view}
+use Rattle.names_sight.specs.Narrower.{AreNarrower, NarrowerKind, NarrowerMeant}
 use Rattle.pawn_names.specs.Behind.{IsPath, Knows}
 use Rattle.pawn_names.proofs.NarrowLaws.{same_narrower, bare, sort_narrower}
 use Rattle.pawn_names.proofs.PathLaws.{path_means, path_has_name}

@@ -1,20 +1,20 @@
 -- What code has found out behind some marks.
 use Rattle.std.specs.Prelude.{◌≡◌, ℕ, List, [], ◌∷◌, Some, option_map, slice_get, Result, Ok, Err}
-use Rattle.pawn_scopes.specs.Mark.{Mark}
-use Rattle.pawn_scopes.specs.Around.{Around, everywhere}
-use Rattle.pawn_scopes.specs.Path.{Path, Entry, path_of}
-use Rattle.pawn_scopes.specs.Faults.{marks_faults}
-use Rattle.pawn_scopes.specs.Uses as u
-use Rattle.pawn_scopes.specs.Values as v
-use Rattle.pawn_sight.specs.declared.known.Known.{Known}
-use Rattle.pawn_sight.specs.declared.context.Context.{Context}
+use Rattle.names_rules.specs.Mark.{Mark}
+use Rattle.names_rules.specs.Around.{Around, everywhere}
+use Rattle.names_rules.specs.Path.{Path, Entry, path_of}
+use Rattle.names_rules.specs.Faults.{marks_faults}
+use Rattle.names_rules.specs.Uses as u
+use Rattle.names_rules.specs.Values as v
+use Rattle.names_sight.specs.declared.known.Known.{Known}
+use Rattle.names_sight.specs.declared.context.Context.{Context}
 use Rattle.pawn_names.specs.declared.resolver.Resolver.{Resolver}
 use Rattle.pawn_verdict.specs.declared.fault.CheckFault.{CheckFault}
 use Rattle.pawn_verdict.specs.Answers.{Fails}
-use Rattle.pawn_sight.specs.Scopes.{Numbered}
-use Rattle.pawn_sight.specs.Means.{elsewhere_view}
-use Rattle.pawn_constants.specs.Narrower.{NarrowerMeant}
-use Rattle.pawn_sight.specs.Views.{known_view}
+use Rattle.names_sight.specs.Scopes.{Numbered}
+use Rattle.names_sight.specs.Means.{elsewhere_view}
+use Rattle.names_sight.specs.Narrower.{NarrowerMeant}
+use Rattle.names_sight.specs.Views.{known_view}
 
 -- ---- the declarations in sight
 

@@ -1,13 +1,13 @@
 -- What code finds a declaration to declare: what it keeps is narrower. A constant that has no
 -- value is refused at once, a size that has none only where it is asked for.
 use Rattle.std.specs.Prelude.{Result, Ok, Err}
-use Rattle.pawn_scopes.specs.Known.{Kind}
-use Rattle.pawn_scopes.specs.Faults.{value_faults}
-use Rattle.pawn_sight.specs.declared.known.Kind as held
+use Rattle.names_rules.specs.Known.{Kind}
+use Rattle.names_rules.specs.Faults.{value_faults}
+use Rattle.names_sight.specs.declared.known.Kind as held
 use Rattle.pawn_verdict.specs.declared.fault.CheckFault.{CheckFault}
 use Rattle.pawn_verdict.specs.Answers.{Fails}
-use Rattle.pawn_constants.specs.Narrower.{NarrowerKind}
-use Rattle.pawn_sight.specs.Views.{kind_view}
+use Rattle.names_sight.specs.Narrower.{NarrowerKind}
+use Rattle.names_sight.specs.Views.{kind_view}
 
 -- an answer agrees with what is declared
 abbrev pub AnswersKind : Kind → Result held.Kind CheckFault → Type 0

@@ -1,4 +1,4 @@
-pub mod Parts
-pub mod DeclaredKind
 pub mod Behind
-pub mod Whole
+pub mod DeclaredKind
+pub mod Resolved
+pub mod StepAnswers

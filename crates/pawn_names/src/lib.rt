@@ -1,10 +1,10 @@
 //! Names: which declaration each occurrence of a name means, and what constants are worth.
 #![tactic(auto)]
 
-mod names;
+mod mentioned_tags;
+mod resolved_names;
 mod resolver;
-mod tags;
 
-pub use names::{Names, resolve};
+pub use mentioned_tags::tags_of;
 pub use pawn_verdict::CheckFault;
-pub use tags::tags_of;
+pub use resolved_names::{Names, resolve};

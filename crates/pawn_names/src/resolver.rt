@@ -1,29 +1,30 @@
 ghost use Rattle.std.specs.Prelude.{◌≡◌, ◌++◌, ◌∷◌, ℤ, List as ListOf};
 ghost use Rattle.std.specs.Prelude.{map, option_map, IfOk, OnOk};
-ghost use Rattle.pawn_scopes.specs.Around.{Around as PlainAround};
-ghost use Rattle.pawn_scopes.specs.Faults as faults;
-ghost use Rattle.pawn_scopes.specs.Found as found;
-ghost use Rattle.pawn_scopes.specs.Known as plain_known;
-ghost use Rattle.pawn_scopes.specs.Mark as plain;
-ghost use Rattle.pawn_scopes.specs.Overloads as overloads;
-ghost use Rattle.pawn_scopes.specs.Uses as spec_uses;
-ghost use Rattle.pawn_scopes.specs.Values as spec_values;
-ghost use Rattle.pawn_scopes.specs.Verdict.{Verdict};
-ghost use Rattle.pawn_marks.specs.MarkView.{declaration_view, mark_view, sort_view, use_view};
+ghost use Rattle.names_rules.specs.Around.{Around as PlainAround};
+ghost use Rattle.names_rules.specs.Faults as faults;
+ghost use Rattle.names_rules.specs.Found as found;
+ghost use Rattle.names_rules.specs.Known as plain_known;
+ghost use Rattle.names_rules.specs.Mark as plain;
+ghost use Rattle.names_rules.specs.Overloads as overloads;
+ghost use Rattle.names_rules.specs.Uses as spec_uses;
+ghost use Rattle.names_rules.specs.Values as spec_values;
+ghost use Rattle.names_rules.specs.Verdict.{Verdict};
+ghost use Rattle.names_sight.specs.MarkView.{declaration_view, mark_view, sort_view, use_view};
 ghost use Rattle.pawn_verdict.specs.Answers.{Answers};
-ghost use Rattle.pawn_sight.specs.Means.{around_view, means_view};
-ghost use Rattle.pawn_sight.specs.Scopes as scopes;
-ghost use Rattle.pawn_sight.specs.Views.{kind_view, size_view};
-ghost use Rattle.pawn_constants.specs.Narrower.{AreNarrower};
+ghost use Rattle.names_sight.specs.Means.{around_view, means_view};
+ghost use Rattle.names_sight.specs.Scopes as scopes;
+ghost use Rattle.names_sight.specs.Views.{kind_view, size_view};
+ghost use Rattle.names_sight.specs.Narrower.{AreNarrower};
 ghost use Rattle.pawn_names.specs.Behind.{IsBehind, Comes};
 ghost use Rattle.pawn_names.specs.DeclaredKind.{AnswersKind};
-ghost use Rattle.pawn_names.specs.Parts.{AnswersToken, Passes};
+ghost use Rattle.pawn_names.specs.StepAnswers.{AnswersToken, Passes};
 
+use names_sight::{
+    Context, Declaration, Kind, Known, Mark, Size, Sort, TWICE, UNKNOWN, Use, constant_value,
+    name_worth, parameter_sizes, tag_number, variable_sizes,
+};
 use pawn_base::{Bytes, List, Memory};
 use pawn_cells::{Cell, Place};
-use pawn_constants::{constant_value, name_worth, parameter_sizes, variable_sizes};
-use pawn_marks::{Declaration, Mark, Sort, Use};
-use pawn_sight::{Context, Kind, Known, Size, TWICE, UNKNOWN, tag_number};
 use pawn_verdict::{CheckFault, broken};
 use std::alloc::Global;
 

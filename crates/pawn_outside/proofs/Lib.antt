@@ -1,3 +1,4 @@
+pub mod OnlyReadLaws
 pub mod SaidLaws
 pub mod SoFarLaws
 pub mod TakenLaws

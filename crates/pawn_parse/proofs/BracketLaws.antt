@@ -2,7 +2,7 @@
 use Rattle.std.proofs.Common.{◌≡◌, ℕ, zero, suc, ◌+◌, ◌<◌, ◌≤◌, List, [], ◌∷◌, length, get_or, take}
 use Rattle.std.proofs.Common.{refl, sym, ap, ◌∙◌, subst, arith, below_more}
 use Rattle.pawn_lex.specs.declared.token.Token.{Token}
-use Rattle.pawn_grammar.specs.Brackets.{open_by, open_from, open_at, IsShallow, IsTooDeep}
+use Rattle.tree_rules.specs.Brackets.{open_by, open_from, open_at, IsShallow, IsTooDeep}
 
 open_step : (n : ℕ) (ts : List Token) (i : ℕ) (t : Token) → i < length ts → t ≡ get_or ts i t
     → open_from n (take (suc i) ts) ≡ open_by (open_from n (take i ts)) t.kind

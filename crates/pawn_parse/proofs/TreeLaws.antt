@@ -4,14 +4,14 @@ use Rattle.std.proofs.Common.{sym, ◌∙◌, ap, subst, arith}
 use Rattle.pawn_lex.specs.declared.token.Token.{Token}
 use Rattle.pawn_tree.specs.Declarations.{Tree}
 use Rattle.pawn_tree.specs.declared.declaration.Tree as held
-use Rattle.pawn_grammar.specs.Brackets.{IsShallow, IsTooDeep}
-use Rattle.pawn_grammar.specs.Spells.{IsParse}
-use Rattle.pawn_grammar.specs.Readers.{Got}
-use Rattle.pawn_grammar.specs.ReadDeclarations.{unit}
-use Rattle.pawn_grammar.specs.OneTree.{AtMostOneTree}
-use Rattle.pawn_grammar.specs.UnitGives.{Gives, UnitIsSpelled, UnitIsComplete}
-use Rattle.pawn_parse.specs.declared.fault.ParseFault.{ParseFault}
-use Rattle.pawn_parse.specs.declared.fault.ParseFault.TheVariants.{TooDeep, Syntax, Memory}
+use Rattle.tree_rules.specs.Brackets.{IsShallow, IsTooDeep}
+use Rattle.tree_rules.specs.Spells.{IsParse}
+use Rattle.tree_rules.specs.Readers.{Got}
+use Rattle.tree_rules.specs.ReadDeclarations.{unit}
+use Rattle.tree_rules.specs.OneTree.{AtMostOneTree}
+use Rattle.tree_rules.specs.UnitGives.{Gives, UnitIsSpelled, UnitIsComplete}
+use Rattle.pawn_parse.specs.declared.parse_fault.ParseFault.{ParseFault}
+use Rattle.pawn_parse.specs.declared.parse_fault.ParseFault.TheVariants.{TooDeep, Syntax, Memory}
 use Rattle.pawn_parse.specs.Parses.{HasNoTree, Parses, Finds}
 
 pub parsed : UnitIsSpelled → {ts us : List Token} (x : Got Tree) → us ≡ ts → unit us ≡ Some x

@@ -1,11 +1,11 @@
 -- One turn of the words before a function.
 use Rattle.std.proofs.Common.{◌≡◌, ℕ, suc, List, Option, Some, None, Result, Ok, Err, ◌∙◌}
 use Rattle.pawn_lex.specs.declared.token.Token.{Token}
-use Rattle.pawn_grammar.specs.declared.modifiers.Modifiers.{Modifiers}
-use Rattle.pawn_grammar.specs.ReadDeclarations.{Words, modifiers}
-use Rattle.pawn_expressions.specs.declared.fault.ReadFault.{ReadFault}
-use Rattle.pawn_expressions.specs.declared.fault.ReadFault.TheVariants.{Syntax, Memory}
-use Rattle.pawn_expressions.specs.Answers.{Answers}
+use Rattle.tree_rules.specs.declared.modifiers.Modifiers.{Modifiers}
+use Rattle.tree_rules.specs.ReadDeclarations.{Words, modifiers}
+use Rattle.parse_statements.specs.declared.read_fault.ReadFault.{ReadFault}
+use Rattle.parse_statements.specs.declared.read_fault.ReadFault.TheVariants.{Syntax, Memory}
+use Rattle.parse_statements.specs.Answers.{Answers}
 use Rattle.pawn_parse.specs.Words.{AddsWord, words_view}
 
 pub words_fail : (ts : List Token) (m : Modifiers) (i : ℕ) {out : Option Words} (n : ℕ)

@@ -1,4 +1,4 @@
-pub mod Boxed
+pub mod BoxedDeclarations
 pub mod Deep
 pub mod Parses
 pub mod Words

@@ -6,10 +6,10 @@ use Rattle.pawn_tree.specs.Declarations.{Tree}
 use Rattle.pawn_tree.specs.Height.{depth}
 use Rattle.pawn_tree.specs.View.{tree_view}
 use Rattle.pawn_tree.specs.declared.declaration.Tree as held
-use Rattle.pawn_grammar.specs.Brackets.{IsShallow, IsTooDeep}
-use Rattle.pawn_grammar.specs.Spells.{Spells, IsParse}
-use Rattle.pawn_parse.specs.declared.fault.ParseFault.{ParseFault}
-use Rattle.pawn_parse.specs.declared.fault.ParseFault.TheVariants.{TooDeep, Syntax, Memory}
+use Rattle.tree_rules.specs.Brackets.{IsShallow, IsTooDeep}
+use Rattle.tree_rules.specs.Spells.{Spells, IsParse}
+use Rattle.pawn_parse.specs.declared.parse_fault.ParseFault.{ParseFault}
+use Rattle.pawn_parse.specs.declared.parse_fault.ParseFault.TheVariants.{TooDeep, Syntax, Memory}
 
 -- brackets aren't too deep anywhere, and no tree of 1,024 levels at most spells the tokens
 pub record HasNoTree (ts : List Token) : Type 0 where

@@ -2,10 +2,10 @@
 use Rattle.std.specs.Prelude.{◌≡◌, ℕ, suc, ◌<◌, ◌≤◌, List, length, Option, Some, None, Result, Ok}
 use Rattle.std.specs.Prelude.{Err}
 use Rattle.pawn_lex.specs.declared.token.Token.{Token}
-use Rattle.pawn_grammar.specs.declared.modifiers.Modifiers.{Modifiers}
-use Rattle.pawn_grammar.specs.ReadDeclarations.{Words, modifiers}
-use Rattle.pawn_expressions.specs.declared.fault.ReadFault.{ReadFault}
-use Rattle.pawn_expressions.specs.declared.fault.ReadFault.TheVariants.{Syntax, Memory}
+use Rattle.tree_rules.specs.declared.modifiers.Modifiers.{Modifiers}
+use Rattle.tree_rules.specs.ReadDeclarations.{Words, modifiers}
+use Rattle.parse_statements.specs.declared.read_fault.ReadFault.{ReadFault}
+use Rattle.parse_statements.specs.declared.read_fault.ReadFault.TheVariants.{Syntax, Memory}
 use Rattle.pawn_parse.specs.declared.functions.Words as held
 
 -- those words, as the definitions have them

@@ -1,19 +1,18 @@
 ghost use Rattle.std.specs.Prelude.{◌≡◌, ◌<◌, suc, length, map, if◌then◌else◌, IfOk};
 ghost use Rattle.pawn_tree.specs.View.{decl_view};
-ghost use Rattle.pawn_grammar.specs.Declarations as heads;
-ghost use Rattle.pawn_grammar.specs.Readers.{node};
-ghost use Rattle.pawn_grammar.specs.ReadDeclarations as spec;
-ghost use Rattle.pawn_grammar.specs.Spells.{are_left};
-ghost use Rattle.pawn_expressions.specs.Answers.{Answers, IsStuck, got_view};
-ghost use Rattle.pawn_parse.specs.Boxed.{boxed_decl};
+ghost use Rattle.tree_rules.specs.Declarations as heads;
+ghost use Rattle.tree_rules.specs.Readers.{node};
+ghost use Rattle.tree_rules.specs.ReadDeclarations as spec;
+ghost use Rattle.tree_rules.specs.Spells.{are_left};
+ghost use Rattle.parse_statements.specs.Answers.{Answers, IsStuck, got_view};
+ghost use Rattle.pawn_parse.specs.BoxedDeclarations.{boxed_decl};
 
+use parse_statements::{Got, ReadFault, Reader, no_parts};
 use pawn_base::List;
-use pawn_expressions::{Got, ReadFault};
-use pawn_grammar::Word;
-use pawn_statements::Reader;
 use pawn_token::Key;
 use pawn_tree::{Decl, Storage};
 use std::alloc::AllocError;
+use tree_rules::Word;
 
 /// The rules of what stands at the level of the file.
 #[derive(Clone, Copy)]
@@ -35,14 +34,8 @@ impl<'a> Declarations<'a> {
             Answers ts (got_view boxed_decl) (node d (decl_view tree) under stop) result }
     {
         let tree = self.boxed(tree)?;
-        if under > usize::from(self.reader.height) {
-            return Err(self.reader.parser.stuck(at));
-        }
-        Ok(Got {
-            tree,
-            height: under + 1,
-            stop,
-        })
+        let height = self.reader.height_above(under, at)?;
+        Ok(Got { tree, height, stop })
     }
 
     fn boxed(&self, tree: Decl) -> Result<Box<Decl>, AllocError>
@@ -53,7 +46,7 @@ impl<'a> Declarations<'a> {
     }
 
     /// A native.
-    #[tactic(auto, unfolding(pawn_grammar::specs::ReadDeclarations::native_decl))]
+    #[tactic(auto, unfolding(tree_rules::specs::ReadDeclarations::native_decl))]
     fn native_decl(&self, start: usize) -> Result<Got<Box<Decl>>, ReadFault>
         requires { start < length self.now.reader.parser.tokens.now }
         ensures { let ts = self.now.reader.parser.tokens.now in let d = self.now.reader.height in
@@ -66,7 +59,7 @@ impl<'a> Declarations<'a> {
     }
 
     /// A function that is declared ahead.
-    #[tactic(auto, unfolding(pawn_grammar::specs::ReadDeclarations::forward_decl))]
+    #[tactic(auto, unfolding(tree_rules::specs::ReadDeclarations::forward_decl))]
     fn forward_decl(&self, start: usize) -> Result<Got<Box<Decl>>, ReadFault>
         requires { start < length self.now.reader.parser.tokens.now }
         ensures { let ts = self.now.reader.parser.tokens.now in let d = self.now.reader.height in
@@ -81,7 +74,7 @@ impl<'a> Declarations<'a> {
     }
 
     /// Variables.
-    #[tactic(auto, unfolding(pawn_grammar::specs::ReadDeclarations::declared))]
+    #[tactic(auto, unfolding(tree_rules::specs::ReadDeclarations::declared))]
     fn declared(&self, storage: Storage, start: usize) -> Result<Got<Box<Decl>>, ReadFault>
         requires { start < length self.now.reader.parser.tokens.now }
         ensures { let ts = self.now.reader.parser.tokens.now in let d = self.now.reader.height in
@@ -93,7 +86,7 @@ impl<'a> Declarations<'a> {
     }
 
     /// A constant.
-    #[tactic(auto, unfolding(pawn_grammar::specs::ReadDeclarations::constant_decl))]
+    #[tactic(auto, unfolding(tree_rules::specs::ReadDeclarations::constant_decl))]
     fn constant_decl(&self, start: usize) -> Result<Got<Box<Decl>>, ReadFault>
         requires { start < length self.now.reader.parser.tokens.now }
         ensures { let ts = self.now.reader.parser.tokens.now in let d = self.now.reader.height in
@@ -131,7 +124,7 @@ impl<'a> Declarations<'a> {
     }
 
     /// A declaration, by its first token.
-    #[tactic(auto, unfolding(pawn_grammar::specs::ReadDeclarations::decl, pawn_grammar::specs::ReadDeclarations::decl_by))]
+    #[tactic(auto, unfolding(tree_rules::specs::ReadDeclarations::decl, tree_rules::specs::ReadDeclarations::decl_by))]
     fn decl(&self, start: usize) -> Result<Got<Box<Decl>>, ReadFault>
         ensures { let ts = self.now.reader.parser.tokens.now in let d = self.now.reader.height in
             Answers ts (got_view boxed_decl) (spec.decl ts d start) result }
@@ -159,15 +152,11 @@ impl<'a> Declarations<'a> {
             Answers ts (got_view decl_view) (spec.decl ts d start) result }
     {
         let x = self.decl(start)?;
-        Ok(Got {
-            tree: Box::into_inner(x.tree),
-            height: x.height,
-            stop: x.stop,
-        })
+        Ok(x.unboxed())
     }
 
     /// Whether tokens are left.
-    #[tactic(auto, unfolding(pawn_grammar::specs::Spells::are_left))]
+    #[tactic(auto, unfolding(tree_rules::specs::Spells::are_left))]
     fn are_left(&self, at: usize) -> bool
         ensures { result ≡ are_left self.now.reader.parser.tokens.now at }
     {
@@ -175,27 +164,19 @@ impl<'a> Declarations<'a> {
     }
 
     /// The declarations of a source.
-    #[tactic(auto, unfolding(pawn_grammar::specs::ReadDeclarations::unit_to))]
+    #[tactic(auto, unfolding(tree_rules::specs::ReadDeclarations::unit_to), using(parse_statements::proofs::Turns::one_part_more, parse_statements::proofs::Turns::no_part_more, std::proofs::lemmas::Grind::common_steps))]
     pub(crate) fn decls(&self) -> Result<Got<List<Decl>>, ReadFault>
         ensures { let ts = self.now.reader.parser.tokens.now in let d = self.now.reader.height in
             Answers ts (got_view (map decl_view)) (spec.unit_to ts d) result }
     {
-        let mut items = List::new(self.reader.parser.alloc);
-        let mut height = 0;
-        let mut stop = 0;
+        let mut parts = no_parts(self.reader.parser.alloc, 0);
         for _turn in 0..self.reader.parser.tokens.len() + 1 {
-            if !self.are_left(stop) {
-                return Ok(Got {
-                    tree: items,
-                    height,
-                    stop,
-                });
+            if !self.are_left(parts.stop) {
+                return Ok(parts);
             }
-            let x = self.declaration(stop)?;
-            items.push(x.tree)?;
-            height = height.max(x.height);
-            stop = x.stop;
+            let x = self.declaration(parts.stop)?;
+            parts.add(x)?;
         }
-        Err(self.reader.parser.stuck(stop))
+        Err(self.reader.parser.stuck(parts.stop))
     }
 }

@@ -1,18 +1,17 @@
 ghost use Rattle.std.specs.Prelude.{◌≡◌, ◌<◌, suc, length};
 ghost use Rattle.pawn_tree.specs.View.{head_view, decl_view};
-ghost use Rattle.pawn_grammar.specs.Declarations as heads;
-ghost use Rattle.pawn_grammar.specs.Declarations.{none_yet};
-ghost use Rattle.pawn_grammar.specs.ReadDeclarations as spec;
+ghost use Rattle.tree_rules.specs.Declarations as heads;
+ghost use Rattle.tree_rules.specs.Declarations.{none_yet};
+ghost use Rattle.tree_rules.specs.ReadDeclarations as spec;
 ghost use Rattle.pawn_parse.specs.Words.{AddsWord, words_view};
-ghost use Rattle.pawn_expressions.specs.Answers.{Answers, got_view};
-ghost use Rattle.pawn_parse.specs.Boxed.{boxed_decl};
+ghost use Rattle.parse_statements.specs.Answers.{Answers, got_view};
+ghost use Rattle.pawn_parse.specs.BoxedDeclarations.{boxed_decl};
 
 use super::declarations::Declarations;
-use pawn_expressions::{Got, ReadFault};
-use pawn_grammar::{Modifiers, Word};
-use pawn_statements::statement;
+use parse_statements::{Got, ReadFault, statement};
 use pawn_token::{Key, Sign};
 use pawn_tree::{Decl, Function, Head};
+use tree_rules::{Modifiers, Word};
 
 /// The words before a function, and the token behind them.
 #[derive(Clone, Copy)]
@@ -23,7 +22,7 @@ struct Words {
 
 impl<'a> Declarations<'a> {
     /// A word before a function, behind others: those and that one, or none where none stands.
-    #[tactic(auto, unfolding(pawn_grammar::specs::ReadDeclarations::modifiers))]
+    #[tactic(auto, unfolding(tree_rules::specs::ReadDeclarations::modifiers))]
     fn modifier(&self, all: Modifiers, at: usize) -> Result<Option<Modifiers>, ReadFault>
         ensures { AddsWord self.now.reader.parser.tokens.now all at result }
     {
@@ -83,7 +82,7 @@ impl<'a> Declarations<'a> {
     }
 
     /// What stands behind the head of a function.
-    #[tactic(auto, unfolding(pawn_grammar::specs::ReadDeclarations::function_rest))]
+    #[tactic(auto, unfolding(tree_rules::specs::ReadDeclarations::function_rest))]
     fn function_rest(
         &self,
         start: usize,
@@ -109,7 +108,7 @@ impl<'a> Declarations<'a> {
     }
 
     /// A function with its body.
-    #[tactic(auto, unfolding(pawn_grammar::specs::ReadDeclarations::function))]
+    #[tactic(auto, unfolding(tree_rules::specs::ReadDeclarations::function))]
     pub(crate) fn function(&self, start: usize) -> Result<Got<Box<Decl>>, ReadFault>
         ensures { let ts = self.now.reader.parser.tokens.now in let d = self.now.reader.height in
             Answers ts (got_view boxed_decl) (spec.function ts d start) result }
@@ -134,7 +133,7 @@ impl<'a> Declarations<'a> {
     }
 
     /// Whether a function goes on there, behind one of its words.
-    #[tactic(auto, unfolding(pawn_grammar::specs::Declarations::is_function))]
+    #[tactic(auto, unfolding(tree_rules::specs::Declarations::is_function))]
     pub(crate) fn is_function(&self, at: usize) -> bool
         ensures { result ≡ heads.is_function self.now.reader.parser.tokens.now at }
     {

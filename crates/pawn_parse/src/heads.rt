@@ -1,17 +1,17 @@
 ghost use Rattle.std.specs.Prelude.{◌≡◌, ◌<◌, suc, length, [], ◌∷◌, map, option_map, true, IfOk};
 ghost use Rattle.pawn_token.specs.declared.sign.Sign.TheVariants as sign;
 ghost use Rattle.pawn_tree.specs.View.{expr_view, param_view, head_view};
-ghost use Rattle.pawn_grammar.specs.Declarations as heads;
-ghost use Rattle.pawn_grammar.specs.Readers.{behind, led, many};
-ghost use Rattle.pawn_grammar.specs.ReadExpressions.{expr};
-ghost use Rattle.pawn_grammar.specs.ReadVariables.{expression};
-ghost use Rattle.pawn_grammar.specs.ReadDeclarations as spec;
-ghost use Rattle.pawn_grammar.specs.Tokens as tok;
-ghost use Rattle.pawn_expressions.specs.Answers.{Answers, as_is, got_view};
+ghost use Rattle.tree_rules.specs.Declarations as heads;
+ghost use Rattle.tree_rules.specs.Readers.{behind, led, many};
+ghost use Rattle.tree_rules.specs.ReadExpressions.{expr};
+ghost use Rattle.tree_rules.specs.ReadVariables.{expression};
+ghost use Rattle.tree_rules.specs.ReadDeclarations as spec;
+ghost use Rattle.tree_rules.specs.Tokens as tok;
+ghost use Rattle.parse_statements.specs.Answers.{Answers, as_is, got_view};
 
 use super::declarations::Declarations;
+use parse_statements::{Got, ReadFault, no_parts, one_part};
 use pawn_base::List;
-use pawn_expressions::{Got, ReadFault};
 use pawn_token::{Key, Sign};
 use pawn_tree::{Expr, Head, Name, Param};
 
@@ -38,7 +38,7 @@ impl<'a> Declarations<'a> {
     }
 
     /// The token behind `const` and `&`, which each may be left out.
-    #[tactic(auto, unfolding(pawn_grammar::specs::Declarations::behind_reference))]
+    #[tactic(auto, unfolding(tree_rules::specs::Declarations::behind_reference))]
     fn behind_reference(&self, at: usize) -> usize
         ensures { result ≡ heads.behind_reference self.now.reader.parser.tokens.now at }
     {
@@ -47,7 +47,7 @@ impl<'a> Declarations<'a> {
     }
 
     /// A parameter other than `...`, behind its tags.
-    #[tactic(auto, unfolding(pawn_grammar::specs::ReadDeclarations::plain))]
+    #[tactic(auto, unfolding(tree_rules::specs::ReadDeclarations::plain))]
     fn plain_param(&self, start: usize, tags: Got<List<Name>>) -> Result<Got<Param>, ReadFault>
         ensures { let ts = self.now.reader.parser.tokens.now in let d = self.now.reader.height in
             Answers ts (got_view param_view) (spec.plain ts d start (as_is tags)) result }
@@ -61,11 +61,11 @@ impl<'a> Declarations<'a> {
                 self.reader.nameless(tags.stop)
             });
         }
-        let dims = self.reader.dims(tags.stop + 1)?;
-        let value = self.value(dims.stop)?;
         let constant = parser.sees_key(Key::Const, start);
         let reference = parser.sees(Sign::Ampersand, parser.behind_key(Key::Const, start));
         let name = parser.name_at(tags.stop)?;
+        let dims = self.reader.dims(tags.stop + 1)?;
+        let value = self.value(dims.stop)?;
         Ok(Got {
             tree: Param::Plain {
                 constant,
@@ -81,7 +81,7 @@ impl<'a> Declarations<'a> {
     }
 
     /// A parameter, of a native or of another function. `...` is the last one of a native.
-    #[tactic(auto, unfolding(pawn_grammar::specs::ReadDeclarations::param))]
+    #[tactic(auto, unfolding(tree_rules::specs::ReadDeclarations::param))]
     fn param(&self, native: bool, start: usize) -> Result<Got<Param>, ReadFault>
         ensures { let ts = self.now.reader.parser.tokens.now in let d = self.now.reader.height in
             Answers ts (got_view param_view) (spec.param ts d native start) result }
@@ -106,34 +106,26 @@ impl<'a> Declarations<'a> {
     }
 
     /// The parameters behind the first one.
+    #[tactic(auto, using(parse_statements::proofs::Turns::one_part_more, parse_statements::proofs::Turns::no_part_more, std::proofs::lemmas::Grind::common_steps))]
     fn more_params(&self, native: bool, first: Got<Param>) -> Result<Got<List<Param>>, ReadFault>
         ensures { let ts = self.now.reader.parser.tokens.now in let d = self.now.reader.height in
             Answers ts (got_view (map param_view))
             (many (tok.sees ts sign.Comma) (behind (spec.param ts d native))
             (suc (length ts)) (param_view first.tree ∷ []) first.height first.stop) result }
     {
-        let mut items = List::new(self.reader.parser.alloc);
-        items.push(first.tree)?;
-        let mut height = first.height;
-        let mut stop = first.stop;
+        let mut parts = one_part(self.reader.parser.alloc, first)?;
         for _turn in 0..self.reader.parser.tokens.len() + 1 {
-            if !self.reader.parser.sees(Sign::Comma, stop) {
-                return Ok(Got {
-                    tree: items,
-                    height,
-                    stop,
-                });
+            if !self.reader.parser.sees(Sign::Comma, parts.stop) {
+                return Ok(parts);
             }
-            let x = self.param(native, stop + 1)?;
-            items.push(x.tree)?;
-            height = height.max(x.height);
-            stop = x.stop;
+            let x = self.param(native, parts.stop + 1)?;
+            parts.add(x)?;
         }
-        Err(self.reader.parser.stuck(stop))
+        Err(self.reader.parser.stuck(parts.stop))
     }
 
     /// All parameters, up to the closing parenthesis.
-    #[tactic(auto, unfolding(pawn_grammar::specs::ReadDeclarations::params))]
+    #[tactic(auto, unfolding(tree_rules::specs::ReadDeclarations::params))]
     fn params(&self, native: bool, start: usize) -> Result<Got<List<Param>>, ReadFault>
         ensures reads { let ts = self.now.reader.parser.tokens.now in
             let d = self.now.reader.height in
@@ -141,11 +133,7 @@ impl<'a> Declarations<'a> {
         ensures inside { IfOk result (λ x. x.stop < length self.now.reader.parser.tokens.now) }
     {
         if self.reader.parser.sees(Sign::CloseParenthesis, start) {
-            return Ok(Got {
-                tree: List::new(self.reader.parser.alloc),
-                height: 0,
-                stop: start,
-            });
+            return Ok(no_parts(self.reader.parser.alloc, start));
         }
         let first = self.param(native, start)?;
         let params = self.more_params(native, first)?;
@@ -156,7 +144,7 @@ impl<'a> Declarations<'a> {
     }
 
     /// A head (Language Guide, "Functions").
-    #[tactic(auto, unfolding(pawn_grammar::specs::ReadDeclarations::head))]
+    #[tactic(auto, unfolding(tree_rules::specs::ReadDeclarations::head))]
     pub(crate) fn head(&self, native: bool, start: usize) -> Result<Got<Head>, ReadFault>
         ensures { let ts = self.now.reader.parser.tokens.now in let d = self.now.reader.height in
             Answers ts (got_view head_view) (spec.head ts d native start) result }

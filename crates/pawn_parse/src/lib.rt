@@ -4,11 +4,11 @@
 mod declarations;
 mod deep;
 mod enums;
-mod fault;
 mod functions;
 mod heads;
-mod names;
-mod parser;
+mod labels;
+mod parse_fault;
+mod source_tree;
 
-pub use fault::ParseFault;
-pub use parser::parse;
+pub use parse_fault::ParseFault;
+pub use source_tree::parse;

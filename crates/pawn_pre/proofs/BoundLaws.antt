@@ -17,12 +17,12 @@ use Rattle.pawn_pre.specs.declared.directive.Word.{Word}
 use Rattle.pawn_pre.specs.declared.directive.Word.TheVariants as word
 use Rattle.pawn_pre.specs.declared.directive.Setting.{Setting}
 use Rattle.pawn_pre.specs.declared.directive.Setting.TheVariants as setting
-use Rattle.pawn_macro.specs.Substitution.{expanded}
+use Rattle.pawn_pre.specs.Substitution.{expanded}
 use Rattle.pawn_pre.specs.Directive.{pragma, quoted_byte}
-use Rattle.pawn_lines.specs.Blanks.{past_blanks}
+use Rattle.pawn_pre.specs.Blanks.{past_blanks}
 use Rattle.pawn_cells.specs.Cells.{is_zero}
-use Rattle.pawn_macro.specs.Define.{definition, undefined}
-use Rattle.pawn_macro.specs.Evaluation.{Value, proceed, or_fault}
+use Rattle.pawn_pre.specs.Define.{definition, undefined}
+use Rattle.pawn_pre.specs.Evaluation.{Value, proceed, or_fault}
 use Rattle.pawn_pre.specs.Level.{Level}
 use Rattle.pawn_pre.specs.Lists.{first_of}
 use Rattle.pawn_pre.specs.Work.{act, keep, with_line, line_of, is_in_chosen, begin_if, turn_elseif}
@@ -33,8 +33,8 @@ use Rattle.pawn_pre.specs.Work.{with_settings, is_set, with_definition, conditio
 use Rattle.pawn_pre.specs.Walk.{Stack, lines_of, entered, first_stack}
 use Rattle.std.specs.Prelude.{IfOk}
 use Rattle.pawn_cells.specs.declared.place.Place.{Place}
-use Rattle.pawn_macro.specs.declared.refusal.Refusal.{Refusal}
-use Rattle.pawn_macro.specs.declared.refusal.Refusal.TheVariants as refusal
+use Rattle.pawn_pre.specs.declared.refusal.Refusal.{Refusal}
+use Rattle.pawn_pre.specs.declared.refusal.Refusal.TheVariants as refusal
 use Rattle.pawn_pre.specs.declared.fault.PreFault.{PreFault}
 use Rattle.pawn_pre.specs.Acted.{Acted}
 use Rattle.pawn_pre.specs.WalkAnswers.{IsTold}

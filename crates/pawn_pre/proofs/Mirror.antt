@@ -13,7 +13,7 @@ use Rattle.pawn_pre.specs.Outcome.{Outcome}
 use Rattle.pawn_pre.specs.Page.{turn}
 use Rattle.pawn_pre.specs.Partner.{Partner, partner}
 use Rattle.pawn_pre.specs.Turn.{Turn}
-use Rattle.pawn_macro.specs.Evaluation.{Value}
+use Rattle.pawn_pre.specs.Evaluation.{Value}
 use Rattle.pawn_pre.specs.Walk.{Stack, Turned, On, Stopped}
 use Rattle.pawn_pre.proofs.PageLaws.{EndsBy}
 

@@ -17,7 +17,7 @@ use Rattle.pawn_pre.specs.OpenLines.{Open, Line, Plain, Directs, place}
 use Rattle.pawn_pre.specs.Page.{turn, condition_at}
 use Rattle.pawn_pre.specs.Partner.{Lacks, partner}
 use Rattle.pawn_pre.specs.Turn.{Turn, Goes, fault}
-use Rattle.pawn_macro.specs.Evaluation.{Value}
+use Rattle.pawn_pre.specs.Evaluation.{Value}
 use Rattle.pawn_pre.specs.Walk as walks
 use Rattle.pawn_pre.specs.Walk.{Turned, On, Stopped, worked}
 use Rattle.pawn_pre.proofs.Mirror.{Way, Waits, Passes, Drops, Covers, Follows, Mirrors, chosen}

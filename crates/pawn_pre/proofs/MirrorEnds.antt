@@ -1,6 +1,6 @@
 -- What the steps of a stack come to is what the turns of its page come to.
 use Rattle.std.specs.Prelude.{IsSomeAnd}
-use Rattle.pawn_condition.specs.Condition.{IsValue}
+use Rattle.pawn_pre.specs.Condition.{IsValue}
 use Rattle.std.proofs.Common.{◌≡◌, ◌<◌, ◌≤◌, ℕ, zero, suc, length, arith, List, [], ◌∷◌, Bool, true}
 use Rattle.std.proofs.Common.{false, Option, Some, None, Result, Ok, Err, refl, sym, ap, subst}
 use Rattle.std.proofs.lemmas.Bool.{ltb-true, lt-ltb}
@@ -13,11 +13,11 @@ use Rattle.pawn_pre.specs.declared.directive.Word.TheVariants as word
 use Rattle.pawn_pre.specs.declared.fault.PreFault.{PreFault}
 use Rattle.pawn_pre.specs.declared.fault.PreFault.TheVariants as fault
 use Rattle.pawn_pre.specs.declared.line.Lines.{Lines}
-use Rattle.pawn_lines.specs.declared.row.Row.{Row}
+use Rattle.pawn_pre.specs.declared.row.Row.{Row}
 use Rattle.pawn_pre.specs.Answers.{Answers}
 use Rattle.pawn_pre.specs.WalkAnswers.{EndsIn}
 use Rattle.pawn_pre.specs.Directive.{Directive, directive}
-use Rattle.pawn_lines.specs.File.{file_of}
+use Rattle.pawn_pre.specs.File.{file_of}
 use Rattle.pawn_pre.specs.Marks.{Mark, Began, Ended, begun, kept, rules, settings, conditionals}
 use Rattle.pawn_pre.specs.Level.{Level, opened}
 use Rattle.pawn_pre.specs.OpenLines.{Line, End, place, text_by, lines_of_rows, lines_of_file}
@@ -26,7 +26,7 @@ use Rattle.pawn_pre.specs.Page as page
 use Rattle.pawn_pre.specs.Page.{turn, Comes, ComesFrom}
 use Rattle.pawn_pre.specs.Partner.{partner}
 use Rattle.pawn_pre.specs.Turn.{Turn, Goes}
-use Rattle.pawn_macro.specs.Evaluation.{Value}
+use Rattle.pawn_pre.specs.Evaluation.{Value}
 use Rattle.pawn_pre.specs.Walk as walks
 use Rattle.pawn_pre.specs.Walk.{Stack, Turned, On, Stopped, step, run, run_by, Ends, first_stack}
 use Rattle.pawn_pre.specs.Walk.{at_end, line_by}

@@ -5,7 +5,7 @@ use Rattle.std.proofs.lemmas.Bool.{ltb-false, ltb-true}
 use Rattle.std.specs.FinMap.{get}
 use Rattle.pawn_outside.specs.Held.{Held}
 use Rattle.pawn_pre.specs.declared.include.Named.{Named}
-use Rattle.pawn_lines.specs.File.{file_of}
+use Rattle.pawn_pre.specs.File.{file_of}
 use Rattle.pawn_pre.specs.Include.{include_name}
 use Rattle.pawn_pre.specs.Inclusion as page
 use Rattle.pawn_pre.specs.Marks.{Mark, Began, begun, kept, rules, settings, conditionals}
@@ -13,7 +13,7 @@ use Rattle.pawn_pre.specs.Level.{Level, opened}
 use Rattle.pawn_pre.specs.OpenLines.{place}
 use Rattle.pawn_pre.specs.Outcome.{is_long_file}
 use Rattle.pawn_pre.specs.Turn.{Turn}
-use Rattle.pawn_macro.specs.Evaluation.{Value}
+use Rattle.pawn_pre.specs.Evaluation.{Value}
 use Rattle.pawn_pre.specs.Walk as walks
 use Rattle.pawn_pre.specs.Walk.{Turned}
 use Rattle.pawn_pre.proofs.Mirror.{Reads, Covers, Mirrors, chosen, shown, lines_open, lines_below}

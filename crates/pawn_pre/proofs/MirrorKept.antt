@@ -12,8 +12,8 @@ use Rattle.pawn_pre.specs.declared.work.Work.{Work}
 use Rattle.pawn_pre.specs.Work.{act, keep, with_line, is_in_chosen, define, undefine, without}
 use Rattle.pawn_pre.specs.Work.{assert_true, set_pragma, pragma_by, with_definition, with_settings}
 use Rattle.pawn_pre.specs.Work.{is_set}
-use Rattle.pawn_lines.specs.Blanks.{past_blanks}
-use Rattle.pawn_macro.specs.Define.{definition, undefined}
+use Rattle.pawn_pre.specs.Blanks.{past_blanks}
+use Rattle.pawn_pre.specs.Define.{definition, undefined}
 use Rattle.pawn_pre.specs.Directive.{pragma, quoted_byte}
 use Rattle.pawn_pre.specs.Kept as kept_lines
 use Rattle.pawn_pre.specs.Lists.{first_of}
@@ -23,8 +23,8 @@ use Rattle.pawn_pre.specs.Level.{Level, is_chosen}
 use Rattle.pawn_pre.specs.OpenLines.{Open, End, place, lines_of_rows, to_end}
 use Rattle.pawn_pre.specs.Page as page
 use Rattle.pawn_pre.specs.Turn.{Turn, Goes, fault, or_fault_at}
-use Rattle.pawn_macro.specs.Substitution.{expanded}
-use Rattle.pawn_macro.specs.Evaluation.{Value, proceed, or_fault}
+use Rattle.pawn_pre.specs.Substitution.{expanded}
+use Rattle.pawn_pre.specs.Evaluation.{Value, proceed, or_fault}
 use Rattle.pawn_pre.specs.Walk.{worked}
 use Rattle.pawn_pre.proofs.BoundLaws.{bytes_of-push}
 use Rattle.pawn_pre.proofs.Mirror.{Mode, Reads, Covers, Follows, Mirrors, chosen, shown, lines_open}

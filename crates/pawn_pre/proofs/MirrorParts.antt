@@ -14,7 +14,7 @@ use Rattle.pawn_pre.specs.Level.{Level}
 use Rattle.pawn_pre.specs.OpenLines.{place}
 use Rattle.pawn_pre.specs.Page as page
 use Rattle.pawn_pre.specs.Partner.{partner}
-use Rattle.pawn_macro.specs.Evaluation.{Value}
+use Rattle.pawn_pre.specs.Evaluation.{Value}
 use Rattle.pawn_pre.specs.Walk.{On, worked, with_work}
 use Rattle.pawn_pre.proofs.Mirror.{Reads, Drops, Waits, Passes, Covers, Mirrors, chosen, passed}
 use Rattle.pawn_pre.proofs.Mirror.{shown, lines_open}

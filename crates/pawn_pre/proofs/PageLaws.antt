@@ -5,15 +5,15 @@ use Rattle.std.proofs.Common.{refl, ap, sym, subst, ◌∙◌}
 use Rattle.std.specs.Bool.{MatchBool}
 use Rattle.std.specs.FinMap.{get}
 use Rattle.pawn_outside.specs.Held.{Held}
-use Rattle.pawn_condition.specs.ConditionMachine.{value_of}
-use Rattle.pawn_condition.proofs.ForCallers.{only_value}
-use Rattle.pawn_lines.specs.File.{file_of}
+use Rattle.pawn_pre.specs.ConditionMachine.{value_of}
+use Rattle.pawn_pre.proofs.ForCallers.{only_value}
+use Rattle.pawn_pre.specs.File.{file_of}
 use Rattle.pawn_pre.specs.Marks.{Mark, Began}
 use Rattle.pawn_pre.specs.OpenLines.{Open, lines_of_file}
 use Rattle.pawn_pre.specs.Outcome.{Outcome, Long, is_long_file}
 use Rattle.pawn_pre.specs.Page.{turn, run, run_by, Ends, ComesFrom, Comes, HasOneOutcome}
 use Rattle.pawn_pre.specs.Turn.{Turn, Goes, Halts}
-use Rattle.pawn_macro.specs.Evaluation.{Value}
+use Rattle.pawn_pre.specs.Evaluation.{Value}
 
 -- what a turn comes to
 abbrev pub EndsBy : Value → Held → Turn → Outcome → Type 0

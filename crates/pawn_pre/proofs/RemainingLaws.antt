@@ -5,21 +5,21 @@ use Rattle.std.specs.Prelude.{IfOk, OnOk}
 use Rattle.std.proofs.lemmas.List.{length-append}
 use Rattle.pawn_cells.specs.declared.place.Place.{Place}
 use Rattle.pawn_pre.specs.declared.fault.PreFault.{PreFault}
-use Rattle.pawn_macro.specs.declared.refusal.Refusal.{Refusal}
-use Rattle.pawn_macro.specs.declared.refusal.Refusal.TheVariants as refusal
-use Rattle.pawn_lines.specs.declared.row.Row.{Row}
+use Rattle.pawn_pre.specs.declared.refusal.Refusal.{Refusal}
+use Rattle.pawn_pre.specs.declared.refusal.Refusal.TheVariants as refusal
+use Rattle.pawn_pre.specs.declared.row.Row.{Row}
 use Rattle.pawn_pre.specs.declared.line.TheConstants.{MOST_BYTES}
 use Rattle.pawn_pre.specs.declared.directive.Word.{Word}
 use Rattle.pawn_pre.specs.declared.work.Work.{Work}
 use Rattle.pawn_pre.specs.Acted.{Acted}
 use Rattle.pawn_pre.specs.Work.{act, keep, with_line, is_in_chosen}
 use Rattle.pawn_pre.specs.WalkAnswers.{IsTold}
-use Rattle.pawn_lines.specs.File.{file_of}
+use Rattle.pawn_pre.specs.File.{file_of}
 use Rattle.pawn_pre.specs.Lists.{first_of, rest_of}
 use Rattle.pawn_pre.specs.Level.{Level}
 use Rattle.pawn_pre.specs.Remaining.{remaining, waiting, FallsBelow}
-use Rattle.pawn_macro.specs.Substitution.{expanded}
-use Rattle.pawn_macro.specs.Evaluation.{Value, proceed}
+use Rattle.pawn_pre.specs.Substitution.{expanded}
+use Rattle.pawn_pre.specs.Evaluation.{Value, proceed}
 use Rattle.pawn_pre.specs.Walk.{Stack, entered}
 use Rattle.pawn_pre.proofs.BoundLaws.{acted_rows}
 

@@ -1,7 +1,7 @@
 -- Steps, one after another.
 use Rattle.std.proofs.Common.{◌≡◌, suc, Err, refl}
 use Rattle.pawn_outside.specs.Held.{Held}
-use Rattle.pawn_macro.specs.Evaluation.{Value}
+use Rattle.pawn_pre.specs.Evaluation.{Value}
 use Rattle.pawn_pre.specs.declared.fault.PreFault.{PreFault}
 use Rattle.pawn_pre.specs.declared.fault.PreFault.TheVariants as fault
 use Rattle.pawn_pre.specs.WalkAnswers.{Says, EndsIn}

@@ -1,7 +1,7 @@
 -- What the code answers for what one line does.
 use Rattle.std.specs.Prelude.{◌≡◌, ℕ, Result, Ok, Err}
-use Rattle.pawn_macro.specs.declared.refusal.Refusal.{Refusal}
-use Rattle.pawn_macro.specs.declared.refusal.Refusal.TheVariants as refusal
+use Rattle.pawn_pre.specs.declared.refusal.Refusal.{Refusal}
+use Rattle.pawn_pre.specs.declared.refusal.Refusal.TheVariants as refusal
 use Rattle.pawn_pre.specs.declared.work.Work.{Work}
 
 -- the same work done, or the same fault; want of memory is free

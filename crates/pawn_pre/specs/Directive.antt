@@ -5,7 +5,7 @@ use Rattle.pawn_pre.specs.declared.directive.Word.{Word}
 use Rattle.pawn_pre.specs.declared.directive.Word.TheVariants as word
 use Rattle.pawn_pre.specs.declared.directive.Setting.{Setting}
 use Rattle.pawn_pre.specs.declared.directive.Setting.TheVariants as setting
-use Rattle.pawn_lines.specs.Blanks.{past_blanks, front_word, behind_word}
+use Rattle.pawn_pre.specs.Blanks.{past_blanks, front_word, behind_word}
 
 -- a word in front, and the bytes behind it
 pub record Directive : Type 0 where

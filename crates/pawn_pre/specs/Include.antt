@@ -3,7 +3,7 @@ use Rattle.std.specs.Prelude.{ℕ, ◌==◌, nat_lt, codes, not, position, Optio
 use Rattle.std.specs.Prelude.{◌∷◌, ◌++◌, take, Bool, true, false, if◌then◌else◌, ◌&&◌}
 use Rattle.std.specs.List.{list_any, list_all}
 use Rattle.pawn_pre.specs.declared.include.Named.{Named}
-use Rattle.pawn_lines.specs.Blanks.{past_blanks, without_end}
+use Rattle.pawn_pre.specs.Blanks.{past_blanks, without_end}
 
 -- no bytes
 abbrev pub is_empty : List ℕ → Bool

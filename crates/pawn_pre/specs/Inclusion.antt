@@ -7,7 +7,7 @@ use Rattle.std.specs.FinMap.{get}
 use Rattle.pawn_cells.specs.declared.place.Place.{Place}
 use Rattle.pawn_outside.specs.Held.{Held}
 use Rattle.pawn_pre.specs.declared.include.Named.{Named}
-use Rattle.pawn_lines.specs.File.{file_of}
+use Rattle.pawn_pre.specs.File.{file_of}
 use Rattle.pawn_pre.specs.Include.{include_name}
 use Rattle.pawn_pre.specs.Marks.{Mark, Began, begun, conditionals}
 use Rattle.pawn_pre.specs.OpenLines.{Open, lines_of_file}

@@ -7,7 +7,7 @@ use Rattle.pawn_pre.specs.declared.line.TheConstants.{MOST_BYTES}
 use Rattle.pawn_pre.specs.Bounds.{bytes_of}
 use Rattle.pawn_pre.specs.Marks.{Mark, Keeps, kept, rules, settings}
 use Rattle.pawn_pre.specs.OpenLines.{Open}
-use Rattle.pawn_macro.specs.Substitution.{expanded}
+use Rattle.pawn_pre.specs.Substitution.{expanded}
 use Rattle.pawn_pre.specs.Turn.{Turn, Goes, fault, or_fault_at}
 
 -- a line with the settings in force

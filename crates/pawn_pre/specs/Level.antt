@@ -1,10 +1,10 @@
 -- The files that are open, with the lines that are left of each: for the proof alone.
 use Rattle.std.specs.Prelude.{ℕ, Option, Some, None, List, [], Bool, true, false}
-use Rattle.pawn_lines.specs.declared.row.Row.{Row}
+use Rattle.pawn_pre.specs.declared.row.Row.{Row}
 use Rattle.pawn_pre.specs.declared.state.Part.{Part}
 use Rattle.pawn_pre.specs.declared.state.Part.TheVariants.{Chosen, Waiting, Done}
 use Rattle.pawn_pre.specs.declared.state.Conditional.{Conditional}
-use Rattle.pawn_lines.specs.File.{File}
+use Rattle.pawn_pre.specs.File.{File}
 
 -- an open file: its number, the number of its last line, whether a comment is open at its end,
 -- the lines that are left, and its open conditionals, the innermost first

@@ -5,8 +5,8 @@ use Rattle.std.specs.FinMap.{insert, remove, empty}
 use Rattle.pawn_pre.specs.declared.line.Line.{Line}
 use Rattle.pawn_pre.specs.declared.line.Lines.{Lines}
 use Rattle.pawn_pre.specs.declared.state.Settings.{Settings}
-use Rattle.pawn_macro.specs.declared.define.Definition.{Definition}
-use Rattle.pawn_macro.specs.Table.{Rules}
+use Rattle.pawn_pre.specs.declared.define.Definition.{Definition}
+use Rattle.pawn_pre.specs.Table.{Rules}
 use Rattle.pawn_pre.specs.Lists.{first_of, rest_of}
 
 -- a file of a name begins, or ends; a line is kept; a conditional is opened, which tells whether

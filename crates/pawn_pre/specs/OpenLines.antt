@@ -2,9 +2,9 @@
 -- Guide, "Preprocessor").
 use Rattle.std.specs.Prelude.{ℕ, Option, Some, None, List, [], ◌∷◌, Bool}
 use Rattle.pawn_cells.specs.declared.place.Place.{Place}
-use Rattle.pawn_lines.specs.declared.row.Row.{Row}
+use Rattle.pawn_pre.specs.declared.row.Row.{Row}
 use Rattle.pawn_pre.specs.declared.directive.Word.{Word}
-use Rattle.pawn_lines.specs.File.{File}
+use Rattle.pawn_pre.specs.File.{File}
 use Rattle.pawn_pre.specs.Directive.{Directive, directive}
 
 -- plain bytes, or a directive's word and the bytes behind it

@@ -6,17 +6,17 @@ use Rattle.std.specs.Bool.{MatchBool}
 use Rattle.std.specs.FinMap.{get}
 use Rattle.pawn_cells.specs.Cells.{is_zero}
 use Rattle.pawn_cells.specs.declared.place.Place.{Place}
-use Rattle.pawn_condition.specs.Condition.{IsValue}
+use Rattle.pawn_pre.specs.Condition.{IsValue}
 use Rattle.pawn_outside.specs.Held.{Held}
 use Rattle.pawn_pre.specs.declared.directive.Word.{Word}
 use Rattle.pawn_pre.specs.declared.directive.Word.TheVariants as word
 use Rattle.pawn_pre.specs.declared.directive.Setting.{Setting}
 use Rattle.pawn_pre.specs.declared.directive.Setting.TheVariants as setting
-use Rattle.pawn_lines.specs.Blanks.{past_blanks}
+use Rattle.pawn_pre.specs.Blanks.{past_blanks}
 use Rattle.pawn_pre.specs.Conditionals.{if_by, elseif_line, else_line, endif_line}
-use Rattle.pawn_macro.specs.Define.{definition, undefined}
+use Rattle.pawn_pre.specs.Define.{definition, undefined}
 use Rattle.pawn_pre.specs.Directive.{pragma, quoted_byte}
-use Rattle.pawn_lines.specs.File.{file_of}
+use Rattle.pawn_pre.specs.File.{file_of}
 use Rattle.pawn_pre.specs.Inclusion.{include}
 use Rattle.pawn_pre.specs.Kept.{keep}
 use Rattle.pawn_pre.specs.Marks.{Mark, Began, Ended, Stops, Defines, Undefines, Demands, Packs}
@@ -24,7 +24,7 @@ use Rattle.pawn_pre.specs.Marks.{Controls, Reserves, rules, settings, innermost,
 use Rattle.pawn_pre.specs.OpenLines.{Open, Line, End, Plain, Directs, lines_of_file, to_end}
 use Rattle.pawn_pre.specs.Outcome.{Outcome, Whole, Long, NotHeld, is_long_file}
 use Rattle.pawn_pre.specs.Turn.{Turn, Goes, Halts, fault, or_fault_at}
-use Rattle.pawn_macro.specs.Evaluation.{Value, or_fault, condition, number}
+use Rattle.pawn_pre.specs.Evaluation.{Value, or_fault, condition, number}
 
 -- a condition under what is in force
 abbrev pub condition_at : Value → List Mark → List ℕ → Result ℤ ℕ

@@ -9,15 +9,15 @@ use Rattle.std.specs.FinMap.{get}
 use Rattle.pawn_outside.specs.Held.{Held}
 use Rattle.pawn_pre.specs.declared.line.Lines.{Lines}
 use Rattle.pawn_pre.specs.Outcome.{Outcome, Whole, Fault, Long, name_of, is_long_file}
-use Rattle.pawn_lines.specs.declared.row.Row.{Row}
+use Rattle.pawn_pre.specs.declared.row.Row.{Row}
 use Rattle.pawn_pre.specs.declared.work.Work.{Work}
 use Rattle.pawn_pre.specs.declared.include.Named.{Named}
 use Rattle.pawn_pre.specs.declared.directive.Word.{Word}
 use Rattle.pawn_pre.specs.declared.directive.Word.TheVariants as word
-use Rattle.pawn_lines.specs.File.{file_of}
+use Rattle.pawn_pre.specs.File.{file_of}
 use Rattle.pawn_pre.specs.Directive.{Directive, directive}
 use Rattle.pawn_pre.specs.Include.{include_name}
-use Rattle.pawn_macro.specs.Evaluation.{Value}
+use Rattle.pawn_pre.specs.Evaluation.{Value}
 use Rattle.pawn_pre.specs.Level.{Level, opened}
 use Rattle.pawn_pre.specs.Lists.{first_of, rest_of}
 use Rattle.pawn_pre.specs.Work.{act, keep, is_in_chosen, nothing_in}

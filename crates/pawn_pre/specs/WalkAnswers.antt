@@ -5,10 +5,10 @@ use Rattle.pawn_outside.specs.Held.{Held}
 use Rattle.pawn_pre.specs.declared.fault.PreFault.{PreFault}
 use Rattle.pawn_pre.specs.declared.fault.PreFault.TheVariants as fault
 use Rattle.pawn_pre.specs.declared.line.Lines.{Lines}
-use Rattle.pawn_macro.specs.declared.refusal.Refusal.{Refusal}
-use Rattle.pawn_macro.specs.declared.refusal.Refusal.TheVariants as refusal
+use Rattle.pawn_pre.specs.declared.refusal.Refusal.{Refusal}
+use Rattle.pawn_pre.specs.declared.refusal.Refusal.TheVariants as refusal
 use Rattle.pawn_pre.specs.Outcome.{Outcome, Whole, Fault, Long, name_of}
-use Rattle.pawn_macro.specs.Evaluation.{Value}
+use Rattle.pawn_pre.specs.Evaluation.{Value}
 use Rattle.pawn_pre.specs.Walk.{Stack, Turned, On, Stopped, lines_of, Ends}
 
 -- of one step: whether it goes on, or the fault

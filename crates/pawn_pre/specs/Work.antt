@@ -14,14 +14,14 @@ use Rattle.pawn_pre.specs.declared.directive.Word.{Word}
 use Rattle.pawn_pre.specs.declared.directive.Word.TheVariants as word
 use Rattle.pawn_pre.specs.declared.directive.Setting.{Setting}
 use Rattle.pawn_pre.specs.declared.directive.Setting.TheVariants as setting
-use Rattle.pawn_macro.specs.declared.define.Definition.{Definition}
-use Rattle.pawn_lines.specs.Blanks.{past_blanks}
-use Rattle.pawn_macro.specs.Substitution.{expanded}
+use Rattle.pawn_pre.specs.declared.define.Definition.{Definition}
+use Rattle.pawn_pre.specs.Blanks.{past_blanks}
+use Rattle.pawn_pre.specs.Substitution.{expanded}
 use Rattle.pawn_pre.specs.Directive.{pragma, quoted_byte}
-use Rattle.pawn_macro.specs.Define.{definition, undefined}
+use Rattle.pawn_pre.specs.Define.{definition, undefined}
 use Rattle.pawn_pre.specs.Level.{Level, is_chosen}
 use Rattle.pawn_pre.specs.Lists.{first_of, rest_of}
-use Rattle.pawn_macro.specs.Evaluation.{Value, proceed, or_fault, condition, number}
+use Rattle.pawn_pre.specs.Evaluation.{Value, proceed, or_fault, condition, number}
 
 -- nothing is kept, defined or set; the control character is `\`, and the room is 4,096 cells
 abbrev pub nothing_in : Level → Work

@@ -2,7 +2,7 @@ ghost use Rattle.std.specs.Prelude.{◌≡◌};
 ghost use Rattle.pawn_pre.specs.Directive as spec;
 ghost use Rattle.pawn_pre.specs.Parsed.{IsDirective, IsPragma};
 
-use pawn_lines::{past_blanks, split_word};
+use super::blanks::{past_blanks, split_word};
 
 /// The word of a directive.
 #[derive(Clone, Copy, Debug, PartialEq, Eq)]

@@ -3,8 +3,8 @@ ghost use Rattle.std.specs.Str.{IsAscii};
 ghost use Rattle.std.specs.List.{list_any};
 ghost use Rattle.pawn_pre.specs.Include as spec;
 
+use super::blanks::{past_blanks, trimmed_end};
 use pawn_base::{Bytes, Memory};
-use pawn_lines::{past_blanks, trimmed_end};
 use std::alloc::Global;
 
 /// The name that an include asks for, and whether it can be asked for.

@@ -2,9 +2,10 @@ ghost use Rattle.std.specs.Prelude.{◌≡◌, [], ◌∷◌, OnOk};
 ghost use Rattle.pawn_pre.specs.Lists as lists;
 ghost use Rattle.pawn_pre.specs.Level as levels;
 
+use super::file::File;
+use super::row::Row;
 use super::state::{Conditional, Part};
 use pawn_base::Memory;
-use pawn_lines::{File, Row};
 use std::alloc::Global;
 use std::collections::VecDeque;
 use std::marker::Model;

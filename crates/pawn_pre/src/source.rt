@@ -2,7 +2,7 @@ ghost use Rattle.std.specs.Prelude.{◌≡◌, ◌≢◌, Some, IfOk};
 ghost use Rattle.pawn_outside.specs.Held.{Held};
 ghost use Rattle.pawn_outside.specs.OnlyRead.{OnlyRead};
 ghost use Rattle.pawn_outside.specs.Rose.{risen};
-ghost use Rattle.pawn_condition.specs.ConditionMachine.{value_of};
+ghost use Rattle.pawn_pre.specs.ConditionMachine.{value_of};
 ghost use Rattle.pawn_pre.specs.Answers.{Answers};
 ghost use Rattle.pawn_pre.specs.Bounds.{IsBounded};
 ghost use Rattle.pawn_pre.specs.Page.{HasOneOutcome};

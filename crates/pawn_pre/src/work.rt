@@ -1,17 +1,19 @@
 ghost use Rattle.std.specs.Prelude.{◌≡◌, OnOk, IfOk};
 ghost use Rattle.pawn_pre.specs.Work as acts;
 ghost use Rattle.pawn_pre.specs.Acted.{Acted};
-ghost use Rattle.pawn_macro.specs.Expansion.{Tells};
-ghost use Rattle.pawn_condition.specs.ConditionMachine.{value_of};
+ghost use Rattle.pawn_pre.specs.Expansion.{Tells};
+ghost use Rattle.pawn_pre.specs.ConditionMachine.{value_of};
 
+use super::blanks::past_blanks;
+use super::define::{read_definition, undefined};
 use super::directive::{Setting, Word, pragma, quoted_byte};
 use super::level::Level;
 use super::line::{Line, MOST_BYTES};
+use super::refusal::Refusal;
 use super::state::{Conditional, Part, Settings};
+use super::table::Table;
 use pawn_base::{Bytes, List, Memory};
 use pawn_cells::Place;
-use pawn_lines::past_blanks;
-use pawn_macro::{Refusal, Table, read_definition, undefined};
 use std::alloc::Global;
 
 /// What the lines of the innermost open file work on.

@@ -9,7 +9,7 @@ use Rattle.std.specs.Str.{bytes_eq}
 use Rattle.std.specs.Cmp.Lexicographic.{bytes_decides}
 use Rattle.std.proofs.lemmas.Grind.{flat_map-append}
 use Rattle.std.proofs.lemmas.List.Folds.{list_any-append}
-use Rattle.name_table.specs.Among.{is_among}
+use Rattle.pawn_base.specs.Among.{is_among}
 use Rattle.pawn_states.specs.Classifier.{is_fallback, states_of, has_twice, fault_at, first_fault}
 use Rattle.pawn_states.specs.Dispatch.{cases_from, dispatch_of, picked}
 use Rattle.pawn_states.specs.declared.clause.Clause.{Clause}

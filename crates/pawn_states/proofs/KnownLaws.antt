@@ -9,7 +9,7 @@ use Rattle.std.specs.Str.{bytes_eq}
 use Rattle.std.specs.Cmp.Lexicographic.{bytes_decides}
 use Rattle.std.proofs.lemmas.List.Elements.{filter-append}
 use Rattle.std.proofs.lemmas.List.Folds.{list_any-append}
-use Rattle.name_table.specs.Among.{is_among}
+use Rattle.pawn_base.specs.Among.{is_among}
 use Rattle.pawn_states.specs.Classified.{classified, unless_fault}
 use Rattle.pawn_states.specs.Classifier.{is_fallback, naming, states_of, has_twice, fault_at}
 use Rattle.pawn_states.specs.Classifier.{first_fault, mixes, is_second_fallback, repeats, are_none}

@@ -5,7 +5,7 @@ use Rattle.std.specs.Prelude.{None, Some, filter, length, if◌then◌else◌}
 use Rattle.std.specs.List.{list_any, flat_map}
 use Rattle.std.specs.Option.{option_or}
 use Rattle.std.specs.Str.{bytes_eq}
-use Rattle.name_table.specs.Among.{is_among}
+use Rattle.pawn_base.specs.Among.{is_among}
 use Rattle.pawn_states.specs.declared.clause.Clause.{Clause}
 use Rattle.pawn_states.specs.declared.fault.StateFault.{StateFault}
 use Rattle.pawn_states.specs.declared.fault.StateFault.TheVariants.{Twice, FallbackTwice, Mixed}

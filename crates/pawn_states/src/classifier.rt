@@ -5,8 +5,7 @@ ghost use Rattle.pawn_states.specs.Known as known;
 use super::clause::Clause;
 use super::dispatch::Dispatch;
 use super::fault::StateFault;
-use name_table::Names;
-use pawn_base::{Bytes, List};
+use pawn_base::{Bytes, List, Names};
 use std::alloc::Global;
 
 /// What is known of the clauses read so far, none of which breaks a rule.

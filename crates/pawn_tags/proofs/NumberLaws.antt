@@ -6,7 +6,7 @@ use Rattle.std.specs.Str.{bytes_eq}
 use Rattle.std.specs.Cmp.Lexicographic.{bytes_decides}
 use Rattle.std.proofs.lemmas.Bool.Decides.{nat_tests}
 use Rattle.std.proofs.lemmas.List.Folds.{list_any-append}
-use Rattle.name_table.specs.Among.{is_among, with_name}
+use Rattle.pawn_base.specs.Among.{is_among, with_name}
 use Rattle.pawn_tags.specs.Tags.{number_of}
 
 -- a name that is among others has a place there

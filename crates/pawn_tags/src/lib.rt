@@ -9,4 +9,4 @@ mod table;
 pub use op::{Op, Signature};
 pub use operators::{Choice, Operators};
 pub use pawn_base::Memory;
-pub use table::{TagTable, matches};
+pub use table::{TRUTH_TAG, TagTable, UNTAGGED, matches};

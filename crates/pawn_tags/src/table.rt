@@ -1,17 +1,19 @@
 ghost use Rattle.std.specs.Prelude.{◌≡◌, ◌-◌, ◌^◌, ◌<◌, Some, length, option_map, slice_get, IfOk};
 ghost use Rattle.std.specs.Prelude.{OnOk, OnErr};
-ghost use Rattle.name_table.specs.Among.{with_name};
+ghost use Rattle.pawn_base.specs.Among.{with_name};
 ghost use Rattle.pawn_tags.specs.Matching as matching;
 ghost use Rattle.pawn_tags.specs.Tags.{first_names, number_of, is_strong};
 ghost use Rattle.pawn_tags.specs.Tags as tags;
 
-use name_table::Names;
-use pawn_base::Memory;
+use pawn_base::{Memory, Names};
 use std::alloc::Global;
 use std::marker::Model;
 
 /// The number of `_`, which is no tag.
-const UNTAGGED: u32 = 0;
+pub const UNTAGGED: u32 = 0;
+
+/// The number of `bool`, the tag of truth values.
+pub const TRUTH_TAG: u32 = 1;
 
 /// The names of tags, numbered in the order in which they were first mentioned (Language Guide,
 /// "Tag names"). Contracts see the list of names: `_` first, `bool` next, then the others.

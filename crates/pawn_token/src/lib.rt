@@ -13,11 +13,9 @@ mod sign;
 mod table;
 
 pub use class::{Class, is_in, split};
-pub use fault::{
-    BAD_BYTE, BAD_ESCAPE, BAD_NUMBER, NAME_TOO_LONG, NUMBER_TOO_WIDE, OPEN_TEXT, TokenFault,
-};
-pub use key::{KEYS, Key};
+pub use fault::TokenFault;
+pub use key::Key;
 pub use kind::TokenKind;
-pub use reader::{NAME_LIMIT, read_token};
-pub use sign::{SIGNS, Sign};
+pub use reader::read_token;
+pub use sign::Sign;
 pub use table::key_of;

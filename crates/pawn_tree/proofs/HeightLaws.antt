@@ -70,27 +70,30 @@ highest_ends height view xs i h p l =
     zero_more ∙ sym (ap (λ ys. max h (highest height (map view ys))) (drop_all i xs l)) ∙ p.same
 
 pub call_height : (at : At) (name : List ℕ) (xs : List held_arg.Arg) (bare : Bool)
-    → expr_height (expr_view (held.Call at name xs bare))
-    ≡ suc (highest arg_height (map arg_view xs))
-call_height at name xs bare =
-    ap expr_height (call_view at name xs bare) ∙ ap (λ h. suc h) (args_highest (map arg_view xs))
+    (node : held.Expr) → node ≡ held.Call at name xs bare
+    → expr_height (expr_view node) ≡ suc (highest arg_height (map arg_view xs))
+call_height at name xs bare node e =
+    ap (λ y. expr_height (expr_view y)) e ∙ ap expr_height (call_view at name xs bare)
+    ∙ ap (λ h. suc h) (args_highest (map arg_view xs))
 
 pub chain_height : (at : At) (x : Box held.Expr Global) (xs : List held_link.Link)
-    → expr_height (expr_view (held.Chain at x xs))
+    (node : held.Expr) → node ≡ held.Chain at x xs
+    → expr_height (expr_view node)
     ≡ suc (max (expr_height (expr_view x.value)) (highest link_height (map link_view xs)))
-chain_height at x xs =
-    ap expr_height (chain_view at x xs)
+chain_height at x xs node e =
+    ap (λ y. expr_height (expr_view y)) e ∙ ap expr_height (chain_view at x xs)
     ∙ ap (λ h. suc (max (expr_height (expr_view x.value)) h)) (links_highest (map link_view xs))
 
 inits_highest : (xs : List Init) → inits_height (inits xs) ≡ highest init_height xs
 inits_highest [] = refl
 inits_highest (x ∷ xs) = ap (λ h. max (init_height x) h) (inits_highest xs)
 
-pub braces_height : (at : At) (xs : List held_init.Init) (rest : Bool)
-    → init_height (init_view (held_init.Braces at xs rest))
-    ≡ suc (highest init_height (map init_view xs))
-braces_height at xs rest =
-    ap init_height (braces_view at xs rest) ∙ ap (λ h. suc h) (inits_highest (map init_view xs))
+pub braces_height : (at : At) (xs : List held_init.Init) (rest : Bool) (node : held_init.Init)
+    → node ≡ held_init.Braces at xs rest
+    → init_height (init_view node) ≡ suc (highest init_height (map init_view xs))
+braces_height at xs rest node e =
+    ap (λ y. init_height (init_view y)) e ∙ ap init_height (braces_view at xs rest)
+    ∙ ap (λ h. suc h) (inits_highest (map init_view xs))
 
 stmts_highest : (xs : List Stmt) → stmts_height (stmts xs) ≡ highest stmt_height xs
 stmts_highest [] = refl
@@ -106,28 +109,34 @@ other_highest : (x : Option (Box held_stmt.Stmt Global))
 other_highest None = refl
 other_highest (Some b) = refl
 
-pub block_height : (at : At) (ss : List held_stmt.Stmt)
-    → stmt_height (stmt_view (held_stmt.Block at ss)) ≡ suc (highest stmt_height (map stmt_view ss))
-block_height at ss =
-    ap stmt_height (block_view at ss) ∙ ap (λ h. suc h) (stmts_highest (map stmt_view ss))
+pub block_height : (at : At) (ss : List held_stmt.Stmt) (node : held_stmt.Stmt)
+    → node ≡ held_stmt.Block at ss
+    → stmt_height (stmt_view node) ≡ suc (highest stmt_height (map stmt_view ss))
+block_height at ss node e =
+    ap (λ y. stmt_height (stmt_view y)) e ∙ ap stmt_height (block_view at ss)
+    ∙ ap (λ h. suc h) (stmts_highest (map stmt_view ss))
 
 pub if_height : (at : At) (x : held.Expr) (s : Box held_stmt.Stmt Global)
-    (other : Option (Box held_stmt.Stmt Global))
-    → stmt_height (stmt_view (held_stmt.If at x s other))
+    (other : Option (Box held_stmt.Stmt Global)) (node : held_stmt.Stmt)
+    → node ≡ held_stmt.If at x s other
+    → stmt_height (stmt_view node)
     ≡ suc (max (expr_height (expr_view x))
     (max (stmt_height (stmt_view s.value))
     (height_of (λ b. stmt_height (stmt_view b.value)) other)))
-if_height at x s other = ap stmt_height (if_view at x s other)
+if_height at x s other node e =
+    ap (λ y. stmt_height (stmt_view y)) e ∙ ap stmt_height (if_view at x s other)
     ∙ ap (λ h. suc (max (expr_height (expr_view x)) (max (stmt_height (stmt_view s.value)) h)))
     (other_highest other)
 
 pub switch_height : (at : At) (x : held.Expr) (xs : List held_case.Case)
-    (other : Option (Box held_stmt.Stmt Global))
-    → stmt_height (stmt_view (held_stmt.Switch at x xs other))
+    (other : Option (Box held_stmt.Stmt Global)) (node : held_stmt.Stmt)
+    → node ≡ held_stmt.Switch at x xs other
+    → stmt_height (stmt_view node)
     ≡ suc (max (expr_height (expr_view x))
     (max (highest case_height (map case_view xs))
     (height_of (λ b. stmt_height (stmt_view b.value)) other)))
-switch_height at x xs other = ap stmt_height (switch_view at x xs other)
+switch_height at x xs other node e =
+    ap (λ y. stmt_height (stmt_view y)) e ∙ ap stmt_height (switch_view at x xs other)
     ∙ ap (λ h. suc (max (expr_height (expr_view x))
     (max (cases_height (cases (map case_view xs))) h))) (other_highest other)
     ∙ ap (λ h. suc (max (expr_height (expr_view x))

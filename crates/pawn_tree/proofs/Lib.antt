@@ -1,2 +1,2 @@
-pub mod ViewLaws
 pub mod HeightLaws
+pub mod ViewLaws

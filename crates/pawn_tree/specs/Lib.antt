@@ -1,6 +1,6 @@
-pub mod Expressions
-pub mod Variables
-pub mod Statements
 pub mod Declarations
-pub mod View
+pub mod Expressions
 pub mod Height
+pub mod Statements
+pub mod Variables
+pub mod View

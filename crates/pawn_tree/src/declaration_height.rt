@@ -8,6 +8,15 @@ use super::statement_height::stmt_height;
 use super::variable_height::{dims_height, vars_height};
 use pawn_base::List;
 
+/// The height of the highest node of a tree of at most 1,024 levels, a leaf being 1, and 0 for a
+/// tree without declarations.
+pub fn depth(tree: &Tree) -> u32
+    requires { spec.depth (tree_view tree.now) ≤ 1024 }
+    ensures { result ≡ spec.depth (tree_view tree.now) }
+{
+    decls_height(&tree.decls) as u32
+}
+
 fn item_height(x: &Item) -> usize
     requires { spec.item_height (item_view x.now) ≤ 1024 }
     ensures { result ≡ spec.item_height (item_view x.now) }
@@ -79,13 +88,4 @@ fn decls_height(list: &List<Decl>) -> usize
         height = height.max(decl_height(&items[i]));
     }
     height
-}
-
-/// The height of the highest node of a tree of at most 1,024 levels, a leaf being 1, and 0 for a
-/// tree without declarations.
-pub fn depth(tree: &Tree) -> u32
-    requires { spec.depth (tree_view tree.now) ≤ 1024 }
-    ensures { result ≡ spec.depth (tree_view tree.now) }
-{
-    decls_height(&tree.decls) as u32
 }

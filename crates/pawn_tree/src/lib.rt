@@ -1,5 +1,5 @@
 //! Trees: what the parser gives, and what names and types are looked up in. Every definition speaks
-//! of their plain view (`specs/Tree.antt`), in which no pointer and no capacity is seen, so that
+//! of their plain view (`specs/View.antt`), in which no pointer and no capacity is seen, so that
 //! two trees with the same parts are equal.
 #![tactic(auto)]
 

@@ -1,7 +1,7 @@
 -- How code answers a verdict: with what stands, or with one of its faults. Want of memory is free.
 use Rattle.std.specs.Prelude.{◌≡◌, List, Result, Ok, Err}
 use Rattle.std.specs.List.{Contains}
-use Rattle.pawn_scopes.specs.Verdict.{Verdict, Stands, Fault, faults_of}
+use Rattle.names_rules.specs.Verdict.{Verdict, Stands, Fault, faults_of}
 use Rattle.pawn_verdict.specs.declared.fault.CheckFault.{CheckFault}
 use Rattle.pawn_verdict.specs.declared.fault.CheckFault.TheVariants.{Source, Memory}
 

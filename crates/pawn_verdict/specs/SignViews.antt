@@ -1,5 +1,5 @@
 -- What signs stand for, as code and as the definitions have it.
-use Rattle.pawn_scopes.specs.Signs as plain
+use Rattle.names_rules.specs.Signs as plain
 use Rattle.pawn_verdict.specs.declared.signs.Between.{Between}
 use Rattle.pawn_verdict.specs.declared.signs.Between.TheVariants as between
 use Rattle.pawn_verdict.specs.declared.signs.LinkSign.{LinkSign}

@@ -1,5 +1,5 @@
 ghost use Rattle.std.specs.Prelude.{◌≡◌};
-ghost use Rattle.pawn_scopes.specs.Signs as spec;
+ghost use Rattle.names_rules.specs.Signs as spec;
 ghost use Rattle.pawn_verdict.specs.SignViews.{between_view, link_view};
 
 use pawn_cells::{Comparison, Logical, Operator};

@@ -1,5 +1,5 @@
-pub mod VerdictLaws
-pub mod ItemLaws
 pub mod HoldsLaws
+pub mod ItemLaws
 pub mod NameLaws
 pub mod RangeLaws
+pub mod VerdictLaws

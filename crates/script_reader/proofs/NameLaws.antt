@@ -7,7 +7,7 @@ use Rattle.std.specs.List.{IsDistinct, AllByRecursion, list_all}
 use Rattle.std.specs.Cmp.Lexicographic.{pointwise}
 use Rattle.std.proofs.lemmas.Bool.{leb-true, lt-ltb}
 use Rattle.std.proofs.lemmas.Slice.Eq.{bytes_eq-Decides}
-use Rattle.name_table.specs.Among.{is_among}
+use Rattle.pawn_base.specs.Among.{is_among}
 use Rattle.host_script.specs.declared.script.TheConstants.{NAME_LIMIT}
 use Rattle.host_script.specs.Ranges.{IsName}
 use Rattle.script_reader.specs.Natives.{is_name}

@@ -15,7 +15,7 @@ use Rattle.serde_json.specs.Data.{Data}
 use Rattle.serde_json.specs.Events.{items_len}
 use Rattle.serde_json.specs.Find.{get, as_object, as_str, as_array, as_integer, as_number, as_u64}
 use Rattle.serde_json.specs.Find.{is_float}
-use Rattle.name_table.specs.Among.{is_among}
+use Rattle.pawn_base.specs.Among.{is_among}
 use Rattle.host_script.specs.declared.script.TheConstants.{CELL_LIMIT, FORM_LIMIT, ARGUMENT_LIMIT}
 use Rattle.host_script.specs.declared.script.TheConstants.{ANSWER_LIMIT}
 use Rattle.host_script.specs.declared.script.Script.{Script}

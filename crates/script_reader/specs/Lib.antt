@@ -1,6 +1,6 @@
-pub mod Verdict
-pub mod Rules
 pub mod Forms
 pub mod Natives
-pub mod Replies
 pub mod Reading
+pub mod Replies
+pub mod Rules
+pub mod Verdict

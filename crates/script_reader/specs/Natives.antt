@@ -4,7 +4,7 @@ use Rattle.std.specs.Prelude.{None, nat_le, nat_lt, if◌then◌else◌}
 use Rattle.std.specs.List.{list_all}
 use Rattle.serde_json.specs.Data.{Data}
 use Rattle.serde_json.specs.Find.{get, as_str, as_array, as_object}
-use Rattle.name_table.specs.Among.{is_among}
+use Rattle.pawn_base.specs.Among.{is_among}
 use Rattle.host_script.specs.declared.script.TheConstants.{NAME_LIMIT}
 use Rattle.host_script.specs.declared.script.Native.{Native}
 use Rattle.host_script.specs.declared.script.Form.{Form}

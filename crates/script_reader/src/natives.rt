@@ -12,8 +12,7 @@ use super::fault::{Field, ScriptFault};
 use super::forms::{form, form_list};
 use super::rules::{cell, fields};
 use host_script::{Form, NAME_LIMIT, Native};
-use name_table::Names;
-use pawn_base::{Bytes, List};
+use pawn_base::{Bytes, List, Names};
 use serde_json::Value;
 use std::alloc::Global;
 

@@ -1,5 +1,6 @@
 native p(v);
+new zero;
 main() {
   p(7);
-  exit 3;
+  p(1 / zero);
 }

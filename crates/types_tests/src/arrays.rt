@@ -1,4 +1,4 @@
-use super::judged::{Faulty, Standing, breaks, warns};
+use super::judged_types::{Faulty, Standing, breaks, warns};
 
 /// Cells where arrays are wanted, and arrays where cells are.
 const FORMS: [Faulty; 20] = [

@@ -1,4 +1,4 @@
-use super::judged::{Faulty, Standing, breaks, warns};
+use super::judged_types::{Faulty, Standing, breaks, warns};
 
 /// States and automata that aren't known, or that are named twice.
 const STATES: [Faulty; 13] = [

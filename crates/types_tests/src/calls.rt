@@ -1,4 +1,4 @@
-use super::judged::{Faulty, Standing, breaks, warns};
+use super::judged_types::{Faulty, Standing, breaks, warns};
 
 /// Arguments that don't fit.
 const ARGUMENTS: [Faulty; 18] = [

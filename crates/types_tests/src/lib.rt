@@ -1,4 +1,4 @@
-//! Types, from sources by way of the preprocessor, the lexer and the parser, with ample memory.
+//! Tests of trees, names and types.
 #![tactic(auto)]
 
 #[cfg(test)]
@@ -8,10 +8,29 @@ mod automata;
 #[cfg(test)]
 mod calls;
 #[cfg(test)]
-mod judged;
+mod declared_names;
 #[cfg(test)]
-mod names;
+mod deep_blocks;
 #[cfg(test)]
-mod tags;
+mod judged_names;
 #[cfg(test)]
-mod whole;
+mod judged_types;
+#[cfg(test)]
+mod name_sources;
+#[cfg(test)]
+mod rooms;
+#[cfg(test)]
+mod shown_trees;
+#[cfg(test)]
+mod states;
+#[cfg(test)]
+mod tag_operators;
+#[cfg(test)]
+mod tag_warnings;
+#[cfg(test)]
+mod towers;
+#[cfg(test)]
+mod tree_sources;
+mod trees;
+
+pub use trees::tree_of;

@@ -1,5 +1,5 @@
 use Rattle.std.proofs.Common.{◌<◌, ℕ}
-use Rattle.amx_format.specs.Names.{name_place}
+use Rattle.amx_format.specs.Records.{name_place}
 use Rattle.amx_format.proofs.check.are_closed.Given as goal
 
 abbrev pub invariant-loop-index : goal.invariant-loop-index

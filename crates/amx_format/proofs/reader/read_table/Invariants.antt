@@ -1,5 +1,5 @@
 use Rattle.std.proofs.Common.{◌≡◌, ◌+◌, ◌-◌, ◌*◌, ◌/◌, ◌++◌}
-use Rattle.amx_format.specs.Names.{records_at, table_at}
+use Rattle.amx_format.specs.Records.{records_at, table_at}
 use Rattle.amx_format.proofs.reader.read_table.Given as goal
 
 abbrev pub invariant-loop-index : goal.invariant-loop-index

@@ -1,22 +1,16 @@
-use Rattle.std.proofs.Common.{◌≡◌, ◌++◌, ◌^◌, ◌<◌, rules, length, sym, ap, ◌∙◌, subst, arith}
-use Rattle.pawn_cells.specs.Cells.{bits_of}
-use Rattle.amx_ops.specs.Moves.{live_from}
+use Rattle.std.proofs.Common.{◌++◌, ◌^◌, ◌<◌, rules, length, sym, ap, ◌∙◌, subst, arith}
 use Rattle.amx_format.specs.Layout.{cells}
 use Rattle.amx_image.specs.declared.version.Version.TheVariants.{Live}
 use Rattle.amx_image.specs.Image.{IsImage}
 use Rattle.amx_image.specs.Spelled.{spelled}
-use Rattle.amx_image.proofs.SaveLaws.{stack_is, live_fit, spelled_is_image}
+use Rattle.amx_image.proofs.SaveLaws.{stack_lent, live_fit, spelled_is_image}
 use Rattle.amx_image.proofs.save.save_into.Goals as goal
 
 pub put_cells-requires : goal.put_cells-requires
 put_cells-requires c =
     let m = c.args.machine.now in
     let r = c.registers-registers in
-    let part : c.live_from-stack.result.now ≡ live_from m.state (bits_of r.result.stk) =
-    search rules in
-    let stack =
-    part ∙ ap (λ q. live_from m.state (bits_of q.stk)) r.ensures.value
-    ∙ stack_is m r.ensures.kept in
+    let stack = stack_lent m r.result c.live_from-stack.result.now r.ensures.value r.ensures.kept (search rules) in
     let room = ap (λ b. b.room) c.put_front.ensures.bytes in
     omega (
       arith,
@@ -30,11 +24,7 @@ pub put_cells-requires-2 : goal.put_cells-requires-2
 put_cells-requires-2 c =
     let m = c.args.machine.now in
     let r = c.registers-registers in
-    let part : c.live_from-stack.result.now ≡ live_from m.state (bits_of r.result.stk) =
-    search rules in
-    let stack =
-    part ∙ ap (λ q. live_from m.state (bits_of q.stk)) r.ensures.value
-    ∙ stack_is m r.ensures.kept in
+    let stack = stack_lent m r.result c.live_from-stack.result.now r.ensures.value r.ensures.kept (search rules) in
     let room =
     ap (λ b. b.room) c.put_cells.ensures.bytes
     ∙ ap (λ b. b.room) c.put_front.ensures.bytes in
@@ -53,10 +43,7 @@ returns-clause-image c =
     let r = c.registers-registers in
     let heap = c.heap_of-heap.result.now in
     let stack = c.live_from-stack.result.now in
-    let part : stack ≡ live_from m.state (bits_of r.result.stk) = search rules in
-    let is_stack =
-    part ∙ ap (λ q. live_from m.state (bits_of q.stk)) r.ensures.value
-    ∙ stack_is m r.ensures.kept in
+    let is_stack = stack_lent m r.result stack r.ensures.value r.ensures.kept (search rules) in
     let few : length m.state.cells < 2 ^ 32 = omega (arith, c.cells_of.ensures.few) in
     let is =
     ap (λ b. b.bytes) c.put_cells-2.ensures.bytes

@@ -1,4 +1,4 @@
-use Rattle.pawn_program.proofs.ViewLaws.{expr_view-Call, expr_view-Native}
+use Rattle.pawn_meaning.proofs.ViewLaws.{expr_view-Call, expr_view-Native}
 use Rattle.check_calls.proofs.calls.call_code.Goals as goal
 
 pub returns-then-is_native : goal.returns-then-is_native

@@ -1,6 +1,6 @@
 use Rattle.std.proofs.Common.{length, map}
-use Rattle.pawn_program.specs.View.{object_view}
-use Rattle.pawn_calls.specs.Calls.{offer_literals, offer_warned}
+use Rattle.pawn_meaning.specs.View.{object_view}
+use Rattle.types_rules.specs.Calls.{offer_literals, offer_warned}
 use Rattle.check_calls.specs.FillingView.{offer_view}
 use Rattle.check_calls.proofs.MadeLaws.{Gathered}
 use Rattle.check_calls.proofs.calls.made_in.Given as goal

@@ -1,5 +1,5 @@
-use Rattle.check_types.specs.ContextView.{around_view}
-use Rattle.pawn_program.specs.View.{args_view}
+use Rattle.check_nodes.specs.ContextView.{around_view}
+use Rattle.pawn_meaning.specs.View.{args_view}
 use Rattle.check_calls.proofs.ArgsLaws.{ArgsSoFar}
 use Rattle.check_calls.proofs.defaults.args.Given as goal
 

@@ -2,7 +2,7 @@ use Rattle.std.proofs.Common.{rules, arith}
 use Rattle.std.proofs.lemmas.Result.{err_from_is_err_and}
 use Rattle.std.proofs.lemmas.Iterator.Adapters.{YieldsList-from_vec}
 use Rattle.std.proofs.lemmas.Iterator.Consumers.{YieldsList-turn, YieldsList-end}
-use Rattle.check_types.proofs.ThreadLaws.{thread_begins, thread_fails, thread_all}
+use Rattle.check_nodes.proofs.ThreadLaws.{thread_begins, thread_fails, thread_all}
 use Rattle.check_calls.proofs.FillLaws.{taken_more}
 use Rattle.check_calls.proofs.filling.fill_by.Goals as goal
 

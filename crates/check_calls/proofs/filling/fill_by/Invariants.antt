@@ -1,7 +1,7 @@
 use Rattle.std.proofs.Common.{length}
-use Rattle.pawn_calls.specs.Filling.{nothing_filled, offer_step}
-use Rattle.check_types.specs.ContextView.{around_view, head_view}
-use Rattle.check_types.proofs.ThreadLaws.{Threaded}
+use Rattle.types_rules.specs.Filling.{nothing_filled, offer_step}
+use Rattle.check_nodes.specs.ContextView.{around_view, head_view}
+use Rattle.check_nodes.proofs.ThreadLaws.{Threaded}
 use Rattle.check_calls.specs.FillingView.{filling_view, offer_view}
 use Rattle.check_calls.proofs.filling.fill_by.Given as goal
 

@@ -1,9 +1,9 @@
 use Rattle.std.proofs.Common.{ℕ, Option, subst}
-use Rattle.pawn_typing.specs.Around.{Param}
-use Rattle.pawn_calls.specs.Filling as spec
+use Rattle.types_rules.specs.Around.{Param}
+use Rattle.types_rules.specs.Filling as spec
 use Rattle.pawn_verdict.specs.Answers.{Answers}
-use Rattle.check_types.specs.ContextView.{around_view, head_view}
-use Rattle.check_types.specs.TypedView.{typed_view}
+use Rattle.check_nodes.specs.ContextView.{around_view, head_view}
+use Rattle.check_nodes.specs.TypedView.{typed_view}
 use Rattle.check_calls.specs.FillingView.{filling_view}
 use Rattle.check_calls.proofs.filling.named.Goals as goal
 

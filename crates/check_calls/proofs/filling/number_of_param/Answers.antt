@@ -1,6 +1,6 @@
 use Rattle.std.proofs.Common.{◌∙◌, ℕ, List, position, ap₂}
 use Rattle.std.specs.Str.{bytes_eq}
-use Rattle.check_types.specs.declared.context.Param as held
+use Rattle.check_nodes.specs.declared.context.Param as held
 use Rattle.check_calls.proofs.NameLaws.{place_is}
 use Rattle.check_calls.proofs.filling.number_of_param.Goals as goal
 

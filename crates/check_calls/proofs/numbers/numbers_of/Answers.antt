@@ -1,5 +1,5 @@
 use Rattle.std.proofs.Common.{◌∙◌, ap, sym, arith}
-use Rattle.check_types.specs.declared.context.Param.{Param}
+use Rattle.check_nodes.specs.declared.context.Param.{Param}
 use Rattle.check_calls.proofs.NumberLaws.{no_numbers, number_more, all_numbers}
 use Rattle.check_calls.proofs.numbers.numbers_of.Goals as goal
 

@@ -1,5 +1,5 @@
 use Rattle.std.proofs.Common.{arith}
-use Rattle.check_whole.specs.DoneView.{done_view}
+use Rattle.check_declarations.specs.DoneView.{done_view}
 use Rattle.check_declarations.proofs.DeclLaws.{decls_are, told_begins, told_more, told_fails}
 use Rattle.check_declarations.proofs.DeclLaws.{told_all}
 use Rattle.check_declarations.proofs.ToldLaws.{exit_tells}

@@ -1,10 +1,10 @@
 use Rattle.pawn_tree.specs.View.{decl_view}
-use Rattle.pawn_typed.specs.Declarations.{decl_rule, declarations}
-use Rattle.pawn_typed.specs.Paths.{behind_decl}
-use Rattle.check_types.specs.ContextView.{around_view}
+use Rattle.types_rules.specs.Declarations.{decl_rule, declarations}
+use Rattle.types_rules.specs.Paths.{behind_decl}
+use Rattle.check_nodes.specs.ContextView.{around_view}
 use Rattle.check_locals.specs.PointView.{point_view}
 use Rattle.check_locals.specs.Tells.{told}
-use Rattle.check_whole.specs.DoneView.{done_view}
+use Rattle.check_declarations.specs.DoneView.{done_view}
 use Rattle.check_declarations.specs.KnownView.{source_view}
 use Rattle.check_declarations.proofs.DeclLaws.{Told, behind_decls}
 use Rattle.check_declarations.proofs.decls.all_decls.Given as goal

@@ -1,4 +1,4 @@
-use Rattle.check_types.specs.ContextView.{around_view}
+use Rattle.check_nodes.specs.ContextView.{around_view}
 use Rattle.check_locals.specs.PointView.{point_view}
 use Rattle.check_declarations.proofs.DeclLaws.{Placed}
 use Rattle.check_declarations.proofs.globals.declare_vars.Given as goal

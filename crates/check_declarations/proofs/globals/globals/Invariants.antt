@@ -1,9 +1,9 @@
 use Rattle.std.proofs.Common.{◌≡◌}
 use Rattle.pawn_tree.specs.View.{var_view}
-use Rattle.check_types.specs.ContextView.{around_view}
+use Rattle.check_nodes.specs.ContextView.{around_view}
 use Rattle.check_locals.specs.PointView.{point_view}
 use Rattle.check_locals.specs.Tells.{told}
-use Rattle.check_whole.specs.DoneView.{done_view}
+use Rattle.check_declarations.specs.DoneView.{done_view}
 use Rattle.check_declarations.specs.KnownView.{source_view}
 use Rattle.check_declarations.proofs.DeclLaws.{Told, one_global, past_global, all_globals}
 use Rattle.check_declarations.proofs.DeclLaws.{end_globals}

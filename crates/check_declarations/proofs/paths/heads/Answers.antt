@@ -1,8 +1,8 @@
 use Rattle.std.proofs.Common.{ap, ◌∙◌, arith}
 use Rattle.pawn_tree.specs.View.{decl_view}
-use Rattle.pawn_bodies.specs.Points.{Point}
-use Rattle.pawn_typed.specs.Paths.{behind_decl}
-use Rattle.check_types.specs.ContextView.{around_view}
+use Rattle.types_rules.specs.Points.{Point}
+use Rattle.types_rules.specs.Paths.{behind_decl}
+use Rattle.check_nodes.specs.ContextView.{around_view}
 use Rattle.check_declarations.proofs.DeclLaws.{headed_begins, headed_more, headed_all}
 use Rattle.check_declarations.proofs.paths.heads.Goals as goal
 

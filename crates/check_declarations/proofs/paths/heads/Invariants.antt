@@ -1,5 +1,5 @@
 use Rattle.std.proofs.Common.{map, option_map}
-use Rattle.check_types.specs.ContextView.{around_view, head_view}
+use Rattle.check_nodes.specs.ContextView.{around_view, head_view}
 use Rattle.check_locals.specs.PointView.{point_view}
 use Rattle.check_declarations.proofs.DeclLaws.{Headed}
 use Rattle.check_declarations.proofs.paths.heads.Given as goal

@@ -1,6 +1,6 @@
 use Rattle.std.proofs.Common.{◌≡◌, ◌+◌, drop, map}
 use Rattle.pawn_tree.specs.View.{param_view}
-use Rattle.pawn_typed.specs.Declarations.{param_count}
+use Rattle.types_rules.specs.Declarations.{param_count}
 use Rattle.check_declarations.proofs.slots.param_count.Given as goal
 
 abbrev pub invariant-loop-i : goal.invariant-loop-i

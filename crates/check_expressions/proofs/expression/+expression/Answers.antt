@@ -2,20 +2,20 @@ use Rattle.std.proofs.Common.{◌≡◌, ◌+◌, ℕ, arith, refl, sym, subst, 
 use Rattle.pawn_tree.specs.Expressions as tree
 use Rattle.pawn_tree.specs.Expressions.{links}
 use Rattle.pawn_tree.specs.View.{expr_view, link_view}
-use Rattle.pawn_scopes.specs.Verdict.{Verdict}
-use Rattle.pawn_typing.specs.Chains.{Compared}
-use Rattle.pawn_calls.specs.Expressions.{expr}
-use Rattle.pawn_calls.specs.Literals.{literals}
-use Rattle.part_verdict.specs.PartAnswers.{Judged, PartAnswers}
-use Rattle.check_types.specs.ContextView.{around_view}
-use Rattle.check_types.specs.TypedView.{typed_view}
-use Rattle.check_types.specs.Scopes.{scope_view}
-use Rattle.check_rules.specs.Compared.{compared_view}
+use Rattle.names_rules.specs.Verdict.{Verdict}
+use Rattle.types_rules.specs.Chains.{Compared}
+use Rattle.types_rules.specs.Expressions.{expr}
+use Rattle.types_rules.specs.Literals.{literals}
+use Rattle.check_nodes.specs.PartAnswers.{Judged, PartAnswers}
+use Rattle.check_nodes.specs.ContextView.{around_view}
+use Rattle.check_nodes.specs.TypedView.{typed_view}
+use Rattle.check_nodes.specs.Scopes.{scope_view}
+use Rattle.check_nodes.specs.Compared.{compared_view}
 use Rattle.check_expressions.proofs.CollectLaws.{collects_none, collects_more, collects_all}
 use Rattle.check_expressions.proofs.CollectLaws.{counts_all}
-use Rattle.check_expressions.proofs.CountLaws.{counts_two, counts_three, second_at, third_at}
-use Rattle.check_expressions.proofs.CountLaws.{links_at, chain_is, call_is, linked_is}
-use Rattle.check_expressions.proofs.CountLaws.{link_literals_are}
+use Rattle.check_expressions.proofs.LiteralCountLaws.{counts_two, counts_three, second_at, third_at}
+use Rattle.check_expressions.proofs.LiteralCountLaws.{links_at, chain_is, call_is, linked_is}
+use Rattle.check_expressions.proofs.LiteralCountLaws.{link_literals_are}
 use Rattle.check_expressions.proofs.expression.+expression.Goals as goal
 
 -- ---- lists

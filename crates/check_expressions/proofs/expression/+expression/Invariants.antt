@@ -1,6 +1,6 @@
-use Rattle.check_types.specs.ContextView.{around_view}
-use Rattle.check_types.specs.Scopes.{scope_view}
-use Rattle.check_expressions.proofs.CountLaws.{LinksJudged, OffersJudged}
+use Rattle.check_nodes.specs.ContextView.{around_view}
+use Rattle.check_nodes.specs.Scopes.{scope_view}
+use Rattle.check_expressions.proofs.LiteralCountLaws.{LinksJudged, OffersJudged}
 use Rattle.check_expressions.proofs.expression.+expression.Given as goal
 
 abbrev pub invariant-links_of-loop-i : goal.invariant-links_of-loop-i

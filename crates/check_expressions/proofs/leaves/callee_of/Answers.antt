@@ -1,8 +1,8 @@
 use Rattle.std.proofs.Common.{Option, subst}
-use Rattle.pawn_typing.specs.Scope.{Meaning}
-use Rattle.pawn_calls.specs.Calls.{callee_rule}
-use Rattle.part_verdict.specs.PartAnswers.{PartAnswers}
-use Rattle.check_types.specs.ContextView.{around_view}
+use Rattle.types_rules.specs.Scope.{Meaning}
+use Rattle.types_rules.specs.Calls.{callee_rule}
+use Rattle.check_nodes.specs.PartAnswers.{PartAnswers}
+use Rattle.check_nodes.specs.ContextView.{around_view}
 use Rattle.check_calls.specs.CalleeView.{callee_view}
 use Rattle.check_expressions.proofs.leaves.callee_of.Goals as goal
 

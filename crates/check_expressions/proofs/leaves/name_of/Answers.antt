@@ -1,8 +1,8 @@
 use Rattle.std.proofs.Common.{Option, subst}
-use Rattle.pawn_typing.specs.Names.{name_rule}
-use Rattle.pawn_typing.specs.Scope.{Meaning}
-use Rattle.part_verdict.specs.PartAnswers.{PartAnswers}
-use Rattle.check_types.specs.TypedView.{typed_view}
+use Rattle.types_rules.specs.NamesAndNumbers.{name_rule}
+use Rattle.types_rules.specs.Scope.{Meaning}
+use Rattle.check_nodes.specs.PartAnswers.{PartAnswers}
+use Rattle.check_nodes.specs.TypedView.{typed_view}
 use Rattle.check_expressions.proofs.leaves.name_of.Goals as goal
 
 pub returns : goal.returns

@@ -1,10 +1,10 @@
 use Rattle.std.proofs.Common.{Option, pos, subst}
 use Rattle.pawn_tags.specs.Tags.{untagged}
-use Rattle.pawn_scopes.specs.Verdict.{Stands, after}
-use Rattle.pawn_typing.specs.Names.{size_of, constant_value}
-use Rattle.pawn_typing.specs.Scope.{Meaning}
-use Rattle.part_verdict.specs.PartAnswers.{PartAnswers}
-use Rattle.check_types.specs.TypedView.{typed_view}
+use Rattle.names_rules.specs.Verdict.{Stands, after}
+use Rattle.types_rules.specs.NamesAndNumbers.{size_of, constant_value}
+use Rattle.types_rules.specs.Scope.{Meaning}
+use Rattle.check_nodes.specs.PartAnswers.{PartAnswers}
+use Rattle.check_nodes.specs.TypedView.{typed_view}
 use Rattle.check_expressions.proofs.leaves.size_of_name.Goals as goal
 
 pub returns : goal.returns

@@ -1,10 +1,10 @@
 use Rattle.std.proofs.Common.{ℕ, List, length, pos, subst}
 use Rattle.pawn_tags.specs.Tags.{untagged}
-use Rattle.pawn_scopes.specs.Verdict.{Stands, after}
-use Rattle.pawn_typing.specs.Names.{size_of_text as plain_size, constant_value}
-use Rattle.pawn_typing.specs.Texts.{text_cells}
+use Rattle.names_rules.specs.Verdict.{Stands, after}
+use Rattle.types_rules.specs.NamesAndNumbers.{size_of_text as plain_size, constant_value}
+use Rattle.types_rules.specs.Texts.{text_cells}
 use Rattle.pawn_verdict.specs.Answers.{Answers}
-use Rattle.check_types.specs.TypedView.{typed_view}
+use Rattle.check_nodes.specs.TypedView.{typed_view}
 use Rattle.check_expressions.proofs.leaves.size_of_text.Goals as goal
 
 pub returns : goal.returns

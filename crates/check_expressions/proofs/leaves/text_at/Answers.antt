@@ -1,7 +1,7 @@
 use Rattle.std.proofs.Common.{ℕ, List, subst}
-use Rattle.pawn_typing.specs.Names.{text_rule}
+use Rattle.types_rules.specs.NamesAndNumbers.{text_rule}
 use Rattle.pawn_verdict.specs.Answers.{Answers}
-use Rattle.check_types.specs.TypedView.{typed_view}
+use Rattle.check_nodes.specs.TypedView.{typed_view}
 use Rattle.check_expressions.proofs.leaves.text_at.Goals as goal
 
 pub returns : goal.returns

@@ -1,8 +1,8 @@
 use Rattle.std.proofs.Common.{◌≡◌, Global, Vec}
 use Rattle.std.proofs.lemmas.Result.{err_from_is_err_and}
-use Rattle.check_rules.specs.declared.chains.Compared as held_compared
-use Rattle.check_rules.specs.Compared.{compared_view}
-use Rattle.check_expressions.proofs.CountLaws.{links_seen}
+use Rattle.check_nodes.specs.declared.chains.Compared as held_compared
+use Rattle.check_nodes.specs.Compared.{compared_view}
+use Rattle.check_expressions.proofs.LiteralCountLaws.{links_seen}
 use Rattle.check_expressions.proofs.PairLaws.{judged_fail, judged_stand}
 use Rattle.check_expressions.proofs.SoFarLaws.{list_fails, list_stands, seen_behind}
 use Rattle.check_expressions.proofs.lists.with_link.Goals as goal

@@ -2,7 +2,7 @@ use Rattle.std.proofs.Common.{◌≡◌, Global, Vec}
 use Rattle.std.proofs.lemmas.Result.{err_from_is_err_and}
 use Rattle.check_calls.specs.declared.filling.Offer as held_offer
 use Rattle.check_calls.specs.FillingView.{offer_view}
-use Rattle.check_expressions.proofs.CountLaws.{offers_seen}
+use Rattle.check_expressions.proofs.LiteralCountLaws.{offers_seen}
 use Rattle.check_expressions.proofs.PairLaws.{judged_fail, judged_stand}
 use Rattle.check_expressions.proofs.SoFarLaws.{list_fails, list_stands, seen_behind}
 use Rattle.check_expressions.proofs.lists.with_offer.Goals as goal

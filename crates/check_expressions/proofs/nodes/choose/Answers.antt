@@ -1,6 +1,6 @@
 use Rattle.std.proofs.Common.{◌≡◌}
-use Rattle.pawn_typing.specs.Rule.{pair}
-use Rattle.check_types.specs.TypedView.{typed_view}
+use Rattle.types_rules.specs.Rule.{pair}
+use Rattle.check_nodes.specs.TypedView.{typed_view}
 use Rattle.check_expressions.proofs.PairLaws.{judged_both, judged_map, judged_pair, pair_answers}
 use Rattle.check_expressions.proofs.nodes.choose.Goals as goal
 

@@ -1,9 +1,9 @@
 use Rattle.std.proofs.Common.{◌≡◌, ◌∙◌}
 use Rattle.std.proofs.lemmas.Result.{err_from_is_err_and}
-use Rattle.pawn_typing.specs.Choices.{choice_rule}
-use Rattle.check_types.specs.ContextView.{around_view}
-use Rattle.check_types.specs.TypedView.{typed_view}
-use Rattle.check_types.specs.declared.typed.Typed as held
+use Rattle.types_rules.specs.Choices.{choice_rule}
+use Rattle.check_nodes.specs.ContextView.{around_view}
+use Rattle.check_nodes.specs.TypedView.{typed_view}
+use Rattle.check_nodes.specs.declared.typed.Typed as held
 use Rattle.check_expressions.proofs.PairLaws.{parts_broken, parts_fail, parts_stand}
 use Rattle.check_expressions.proofs.PairLaws.{judged_broken, judged_fail, judged_stand}
 use Rattle.check_expressions.proofs.nodes.chosen.Goals as goal

@@ -1,9 +1,9 @@
 use Rattle.std.proofs.Common.{ℕ, Option, map, sym, subst}
-use Rattle.pawn_typed.specs.Sources.{stated}
+use Rattle.types_rules.specs.Sources.{stated}
 use Rattle.check_source.specs.HeadingView.{heading_view}
 use Rattle.check_source.specs.SourceView.{source_view}
-use Rattle.check_classifiers.specs.Finds.{Finds}
-use Rattle.check_contexts.specs.HeadsView.{heads_view}
+use Rattle.check_functions.specs.Finds.{Finds}
+use Rattle.check_functions.specs.HeadsView.{heads_view}
 use Rattle.check_functions.specs.Differ.{place_faults}
 use Rattle.check_functions.proofs.TellLaws.{compared}
 use Rattle.check_functions.proofs.against.against.Goals as goal

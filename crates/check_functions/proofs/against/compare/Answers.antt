@@ -1,10 +1,10 @@
 use Rattle.std.proofs.Common.{Option, option_map, map, subst}
-use Rattle.pawn_typed.specs.Headings.{Heading}
+use Rattle.types_rules.specs.Headings.{Heading}
 use Rattle.check_source.specs.HeadingView.{heading_view}
 use Rattle.check_source.specs.SourceView.{source_view}
-use Rattle.check_classifiers.specs.Finds.{Finds}
-use Rattle.check_contexts.specs.HeadsView.{heads_view}
-use Rattle.check_contexts.specs.Stated.{head_at}
+use Rattle.check_functions.specs.Finds.{Finds}
+use Rattle.check_functions.specs.HeadsView.{heads_view}
+use Rattle.check_functions.specs.Stated.{head_at}
 use Rattle.check_functions.specs.Differ.{differing_by, stated_at}
 use Rattle.check_functions.proofs.TellLaws.{first_gone}
 use Rattle.check_functions.proofs.against.compare.Goals as goal

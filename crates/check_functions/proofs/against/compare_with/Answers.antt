@@ -1,13 +1,13 @@
 use Rattle.std.proofs.Common.{Option, Some, option_map, map, subst}
-use Rattle.pawn_typing.specs.Around.{Head}
-use Rattle.pawn_typed.specs.Headings.{Heading}
-use Rattle.pawn_typed.specs.Functions as functions
+use Rattle.types_rules.specs.Around.{Head}
+use Rattle.types_rules.specs.Headings.{Heading}
+use Rattle.types_rules.specs.Functions as functions
 use Rattle.check_source.specs.HeadingView.{heading_view}
 use Rattle.check_source.specs.SourceView.{source_view}
-use Rattle.check_types.specs.ContextView.{head_view}
-use Rattle.check_classifiers.specs.Finds.{Finds}
-use Rattle.check_contexts.specs.HeadsView.{heads_view}
-use Rattle.check_contexts.specs.Stated.{head_at}
+use Rattle.check_nodes.specs.ContextView.{head_view}
+use Rattle.check_functions.specs.Finds.{Finds}
+use Rattle.check_functions.specs.HeadsView.{heads_view}
+use Rattle.check_functions.specs.Stated.{head_at}
 use Rattle.check_functions.specs.Differ.{differing_by}
 use Rattle.check_functions.proofs.TellLaws.{other_gone}
 use Rattle.check_functions.proofs.against.compare_with.Goals as goal

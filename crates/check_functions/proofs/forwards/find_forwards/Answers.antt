@@ -1,6 +1,6 @@
 use Rattle.std.proofs.Common.{◌≤◌, length, map, arith}
 use Rattle.check_source.specs.HeadingView.{heading_view}
-use Rattle.check_contexts.proofs.AtLaws.{past}
+use Rattle.check_functions.proofs.AtLaws.{past}
 use Rattle.check_functions.proofs.ForwardLaws.{none_told, told_within}
 use Rattle.check_functions.proofs.forwards.find_forwards.Goals as goal
 

@@ -1,6 +1,6 @@
 use Rattle.check_source.specs.SourceView.{source_view}
-use Rattle.check_contexts.specs.HeadsView.{heads_view}
-use Rattle.check_functions.specs.Forwards.{TellOf}
+use Rattle.check_functions.specs.HeadsView.{heads_view}
+use Rattle.check_functions.specs.EntryForwards.{TellOf}
 use Rattle.check_functions.proofs.forwards.find_forwards.Given as goal
 
 abbrev pub invariant-loop-i : goal.invariant-loop-i

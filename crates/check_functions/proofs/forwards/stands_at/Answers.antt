@@ -1,12 +1,12 @@
 use Rattle.std.proofs.Common.{Option, Some, option_map, ap, ◌∙◌}
-use Rattle.pawn_typing.specs.Around.{Head}
-use Rattle.pawn_typed.specs.Headings.{Heading}
+use Rattle.types_rules.specs.Around.{Head}
+use Rattle.types_rules.specs.Headings.{Heading}
 use Rattle.check_source.specs.HeadingView.{heading_view}
 use Rattle.check_source.specs.SourceView.{source_view}
-use Rattle.check_types.specs.ContextView.{head_view}
-use Rattle.check_contexts.specs.HeadsView.{heads_view}
-use Rattle.check_contexts.specs.Stated.{head_at}
-use Rattle.check_functions.specs.Forwards.{is_forward}
+use Rattle.check_nodes.specs.ContextView.{head_view}
+use Rattle.check_functions.specs.HeadsView.{heads_view}
+use Rattle.check_functions.specs.Stated.{head_at}
+use Rattle.check_functions.specs.EntryForwards.{is_forward}
 use Rattle.check_functions.proofs.forwards.stands_at.Goals as goal
 
 pub returns-in-None : goal.returns-in-None

@@ -1,7 +1,7 @@
 use Rattle.std.proofs.Common.{ℕ, Option, Some, subst}
 use Rattle.check_source.specs.SourceView.{source_view}
-use Rattle.check_contexts.specs.HeadsView.{heads_view}
-use Rattle.check_functions.specs.Forwards.{TellOf}
+use Rattle.check_functions.specs.HeadsView.{heads_view}
+use Rattle.check_functions.specs.EntryForwards.{TellOf}
 use Rattle.check_functions.proofs.ForwardLaws.{told_kept}
 use Rattle.check_functions.proofs.forwards.with_other.Goals as goal
 

@@ -1,7 +1,7 @@
 use Rattle.std.proofs.Common.{sym}
 use Rattle.check_source.specs.GroupsView.{group_view}
 use Rattle.check_source.specs.SourceView.{source_view}
-use Rattle.check_contexts.specs.HeadsView.{heads_view}
+use Rattle.check_functions.specs.HeadsView.{heads_view}
 use Rattle.check_functions.proofs.TellLaws.{group_known, group_other}
 use Rattle.check_functions.proofs.heads.check_group.Goals as goal
 

@@ -2,9 +2,9 @@ use Rattle.std.proofs.Common.{◌≡◌, ◌<◌, ◌≤◌, length, ap, arith, 
 use Rattle.std.proofs.lemmas.Result.{err_from_is_err_and}
 use Rattle.check_source.specs.GroupsView.{groups_view, group_view}
 use Rattle.check_source.specs.SourceView.{source_view}
-use Rattle.check_contexts.specs.HeadsView.{heads_view}
-use Rattle.check_contexts.proofs.AtLaws.{viewed_in, within, past}
-use Rattle.check_contexts.proofs.OwnLaws.{has_number}
+use Rattle.check_functions.specs.HeadsView.{heads_view}
+use Rattle.check_functions.proofs.AtLaws.{seen_at, within, past}
+use Rattle.check_functions.proofs.OwnLaws.{has_number}
 use Rattle.check_functions.proofs.TellLaws.{group_none, group_told}
 use Rattle.check_functions.proofs.heads.check_groups.Goals as goal
 
@@ -12,15 +12,11 @@ pub check_group-requires-clause-known : goal.check_group-requires-clause-known
 check_group-requires-clause-known c =
     has_number (groups_view c.args.source.now.groups) c.loop-n.n
     (group_view c.index-groups-n.result)
-    (viewed_in group_view c.args.source.now.groups c.as_slice-groups.result.now c.loop-n.n
-    c.index-groups-n.result c.as_slice-groups.ensures (omega arith) c.index-groups-n.is)
+    (seen_at group_view c.as_slice-groups.ensures c.index-groups-n.is (omega arith))
 
 pub loop-n-preserved : goal.loop-n-preserved
 loop-n-preserved c =
-    let here =
-    viewed_in group_view c.args.source.now.groups c.as_slice-groups.result.now c.loop-n.n
-    c.index-groups-n.result c.as_slice-groups.ensures
-    (omega arith) c.index-groups-n.is in
+    let here = seen_at group_view c.as_slice-groups.ensures c.index-groups-n.is (omega arith) in
     below_more _ _ c.loop-n.invariant
     (group_none (source_view c.args.source.now)
     (heads_view c.args.heads.now) c.args.place c.loop-n.n
@@ -32,10 +28,7 @@ returns-in_err-check_group c =
     let long : length c.as_slice-groups.result.now ≡ length c.args.source.now.groups =
     ap length c.as_slice-groups.ensures in
     let less : c.loop-n.n < length c.args.source.now.groups = omega arith in
-    let here =
-    viewed_in group_view c.args.source.now.groups c.as_slice-groups.result.now c.loop-n.n
-    c.index-groups-n.result c.as_slice-groups.ensures
-    (omega arith) c.index-groups-n.is in
+    let here = seen_at group_view c.as_slice-groups.ensures c.index-groups-n.is (omega arith) in
     rw (p.1, p.2)
     (group_told (source_view c.args.source.now)
     (heads_view c.args.heads.now) c.args.place c.loop-n.n (group_view c.index-groups-n.result) _

@@ -1,8 +1,8 @@
 use Rattle.std.proofs.Common.{◌≡◌, ◌<◌, ℕ, [], true, map}
-use Rattle.pawn_typed.specs.Sources.{stated}
+use Rattle.types_rules.specs.Sources.{stated}
 use Rattle.check_source.specs.HeadingView.{heading_view}
 use Rattle.check_source.specs.SourceView.{source_view}
-use Rattle.check_contexts.specs.HeadsView.{heads_view}
+use Rattle.check_functions.specs.HeadsView.{heads_view}
 use Rattle.check_functions.specs.Differ as spec
 use Rattle.check_functions.proofs.heads.check_groups.Given as goal
 

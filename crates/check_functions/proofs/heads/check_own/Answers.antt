@@ -1,10 +1,10 @@
 use Rattle.std.proofs.Common.{Option, map, subst}
-use Rattle.pawn_automata.specs.Keys.{Key}
-use Rattle.pawn_typed.specs.Sources.{stated}
-use Rattle.check_classifiers.specs.Finds.{Finds}
+use Rattle.types_rules.specs.Keys.{Key}
+use Rattle.types_rules.specs.Sources.{stated}
+use Rattle.check_functions.specs.Finds.{Finds}
 use Rattle.check_source.specs.HeadingView.{heading_view}
 use Rattle.check_source.specs.SourceView.{source_view}
-use Rattle.check_contexts.specs.HeadsView.{heads_view}
+use Rattle.check_functions.specs.HeadsView.{heads_view}
 use Rattle.check_functions.specs.Differ as spec
 use Rattle.check_functions.proofs.heads.check_own.Goals as goal
 

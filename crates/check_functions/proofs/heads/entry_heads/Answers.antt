@@ -2,8 +2,8 @@ use Rattle.std.proofs.Common.{length, map, refl}
 use Rattle.std.proofs.lemmas.Result.{err_from_is_err_and}
 use Rattle.check_source.specs.HeadingView.{heading_view}
 use Rattle.check_source.specs.SourceView.{source_view}
-use Rattle.check_contexts.specs.HeadsView.{heads_view}
-use Rattle.check_functions.proofs.EntryLaws.{entry_first, entry_both}
+use Rattle.check_functions.specs.HeadsView.{heads_view}
+use Rattle.check_functions.proofs.EntryForwardLaws.{entry_first, entry_both}
 use Rattle.check_functions.proofs.heads.entry_heads.Goals as goal
 
 pub returns-in_err-check_at : goal.returns-in_err-check_at
@@ -18,5 +18,5 @@ pub returns : goal.returns
 returns c =
     entry_both (source_view c.args.source.now) (heads_view c.args.heads.now)
     (length (map heading_view c.args.source.now.headings)) _ _
-    c.find_forwards-forwards.ensures c.in_ok-check_at.field-0 c.check_other.result refl
-    c.in_ok-check_at.ensures c.check_other.ensures
+    c.find_forwards-forwards.ensures c.in_ok-check_at.field-0 c.check_at-2.result refl
+    c.in_ok-check_at.ensures c.check_at-2.ensures

@@ -1,6 +1,6 @@
 use Rattle.std.proofs.lemmas.Result.{err_from_is_err_and}
 use Rattle.check_source.specs.SourceView.{source_view}
-use Rattle.check_contexts.specs.HeadsView.{heads_view}
+use Rattle.check_functions.specs.HeadsView.{heads_view}
 use Rattle.check_functions.proofs.TellLaws.{whole_own, whole_by}
 use Rattle.check_functions.proofs.heads.head_faults.Goals as goal
 

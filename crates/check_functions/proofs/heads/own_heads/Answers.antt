@@ -2,17 +2,14 @@ use Rattle.std.proofs.Common.{◌≡◌, ◌<◌, ◌≤◌, map, length, ap, ar
 use Rattle.std.proofs.lemmas.Result.{err_from_is_err_and}
 use Rattle.check_source.specs.HeadingView.{heading_view}
 use Rattle.check_source.specs.SourceView.{source_view}
-use Rattle.check_contexts.specs.HeadsView.{heads_view}
-use Rattle.check_contexts.proofs.AtLaws.{viewed_in, within, past}
+use Rattle.check_functions.specs.HeadsView.{heads_view}
+use Rattle.check_functions.proofs.AtLaws.{seen_at, within, past}
 use Rattle.check_functions.proofs.TellLaws.{own_none, own_told}
 use Rattle.check_functions.proofs.heads.own_heads.Goals as goal
 
 pub loop-i-preserved : goal.loop-i-preserved
 loop-i-preserved c =
-    let here =
-    viewed_in heading_view c.args.source.now.headings c.as_slice-headings.result.now
-    c.loop-i.i c.index-headings-i.result c.as_slice-headings.ensures
-    (omega arith) c.index-headings-i.is in
+    let here = seen_at heading_view c.as_slice-headings.ensures c.index-headings-i.is (omega arith) in
     below_more _ _ c.loop-i.invariant
     (own_none (source_view c.args.source.now) (heads_view c.args.heads.now) c.loop-i.i
     (heading_view c.index-headings-i.result) _ here c.in_ok-check_own.ensures)
@@ -23,10 +20,7 @@ returns-in_err-check_own c =
     let long : length c.as_slice-headings.result.now ≡ length c.args.source.now.headings =
     ap length c.as_slice-headings.ensures in
     let less : c.loop-i.i < length c.args.source.now.headings = omega arith in
-    let here =
-    viewed_in heading_view c.args.source.now.headings c.as_slice-headings.result.now
-    c.loop-i.i c.index-headings-i.result c.as_slice-headings.ensures
-    (omega arith) c.index-headings-i.is in
+    let here = seen_at heading_view c.as_slice-headings.ensures c.index-headings-i.is (omega arith) in
     rw (p.1, p.2)
     (own_told (source_view c.args.source.now) (heads_view c.args.heads.now) c.loop-i.i
     (heading_view c.index-headings-i.result) _

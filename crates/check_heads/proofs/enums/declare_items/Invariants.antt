@@ -1,6 +1,6 @@
-use Rattle.pawn_typed.specs.Enums.{nothing_counted}
-use Rattle.check_types.specs.ContextView.{around_view}
-use Rattle.check_types.specs.Scopes.{scope_view}
+use Rattle.types_rules.specs.Enums.{nothing_counted}
+use Rattle.check_nodes.specs.ContextView.{around_view}
+use Rattle.check_nodes.specs.Scopes.{scope_view}
 use Rattle.check_heads.specs.Counting.{counted}
 use Rattle.check_heads.proofs.EnumLaws.{Declared}
 use Rattle.check_heads.proofs.enums.declare_items.Given as goal

@@ -1,7 +1,7 @@
 use Rattle.pawn_tree.specs.View.{item_view}
-use Rattle.pawn_typed.specs.Enums.{nothing_counted}
-use Rattle.check_types.specs.ContextView.{around_view}
-use Rattle.check_types.specs.Scopes.{scope_view}
+use Rattle.types_rules.specs.Enums.{nothing_counted}
+use Rattle.check_nodes.specs.ContextView.{around_view}
+use Rattle.check_nodes.specs.Scopes.{scope_view}
 use Rattle.check_heads.proofs.FoldLaws.{Folded}
 use Rattle.check_heads.specs.Counting.{counted, progress_view}
 use Rattle.check_heads.proofs.EnumLaws.{warned_fold}

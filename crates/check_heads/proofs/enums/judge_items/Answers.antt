@@ -1,10 +1,10 @@
 use Rattle.std.proofs.Common.{◌≡◌, ℕ, length, sym, ap, subst, ◌∙◌, refl, Err, arith}
-use Rattle.pawn_scopes.specs.Verdict.{Verdict}
-use Rattle.pawn_values.specs.Parts.{Judged}
-use Rattle.part_verdict.specs.PartAnswers.{PartAnswers}
-use Rattle.check_values.specs.JudgedView.{judged_view}
-use Rattle.check_types.specs.Scopes.{Blocks, without}
-use Rattle.check_types.proofs.IndexLaws.{without_none}
+use Rattle.names_rules.specs.Verdict.{Verdict}
+use Rattle.types_rules.specs.VariableParts.{Judged}
+use Rattle.check_nodes.specs.PartAnswers.{PartAnswers}
+use Rattle.check_expressions.specs.JudgedView.{judged_view}
+use Rattle.check_nodes.specs.Scopes.{Blocks, without}
+use Rattle.check_nodes.proofs.IndexLaws.{without_none}
 use Rattle.check_heads.proofs.FoldLaws.{fold_begins, fold_more, fold_fails, fold_all}
 use Rattle.check_heads.proofs.RuleLaws.{judged_holds, exit_answers, exit_judged}
 use Rattle.check_heads.proofs.EnumLaws.{parts_are, without_again}

@@ -1,11 +1,11 @@
 use Rattle.std.proofs.Common.{◌+◌, ℕ, sym, ap, subst, ◌∙◌, refl, arith}
 use Rattle.pawn_tree.specs.View.{param_view}
-use Rattle.pawn_scopes.specs.Verdict.{Verdict}
-use Rattle.pawn_typing.specs.Scope.{Scope, with_entries}
-use Rattle.pawn_heads.specs.Params.{Headed, param_entries}
-use Rattle.part_verdict.specs.PartAnswers.{PartAnswers}
-use Rattle.check_types.specs.ContextView.{around_view}
-use Rattle.check_types.specs.Scopes.{scope_view}
+use Rattle.names_rules.specs.Verdict.{Verdict}
+use Rattle.types_rules.specs.Scope.{Scope, with_entries}
+use Rattle.types_rules.specs.Params.{Headed, param_entries}
+use Rattle.check_nodes.specs.PartAnswers.{PartAnswers}
+use Rattle.check_nodes.specs.ContextView.{around_view}
+use Rattle.check_nodes.specs.Scopes.{scope_view}
 use Rattle.check_heads.specs.HeadedView.{headed_view}
 use Rattle.check_heads.proofs.FoldLaws.{fold_begins, fold_more, fold_fails, fold_all}
 use Rattle.check_heads.proofs.ParamLaws.{params_are}

@@ -1,7 +1,7 @@
 use Rattle.std.proofs.Common.{◌≡◌}
 use Rattle.pawn_tree.specs.View.{param_view}
-use Rattle.check_types.specs.ContextView.{around_view}
-use Rattle.check_types.specs.Scopes.{scope_view}
+use Rattle.check_nodes.specs.ContextView.{around_view}
+use Rattle.check_nodes.specs.Scopes.{scope_view}
 use Rattle.check_heads.specs.SoFar.{progress_view}
 use Rattle.check_heads.proofs.FoldLaws.{Folded}
 use Rattle.check_heads.proofs.ParamLaws.{params_fold}

@@ -1,7 +1,7 @@
 use Rattle.std.proofs.Common.{◌≡◌, take, map}
 use Rattle.pawn_tree.specs.declared.name.Name.{Name}
-use Rattle.pawn_typing.specs.Around.{tag_number}
-use Rattle.check_types.specs.ContextView.{around_view}
+use Rattle.types_rules.specs.Around.{tag_number}
+use Rattle.check_nodes.specs.ContextView.{around_view}
 use Rattle.check_heads.proofs.tags.numbers_of.Given as goal
 
 abbrev pub invariant-loop-tag : goal.invariant-loop-tag

@@ -2,7 +2,7 @@ use Rattle.std.proofs.Common.{◌≡◌, ◌+◌, map, arith, sym}
 use Rattle.std.proofs.lemmas.Grind.{common_steps}
 use Rattle.std.specs.List.{sum_by}
 use Rattle.pawn_tree.specs.View.{expr_view, arg_view, link_view}
-use Rattle.pawn_calls.specs.Literals.{literals, literals_of_arg, literals_of_link}
+use Rattle.types_rules.specs.Literals.{literals, literals_of_arg, literals_of_link}
 use Rattle.check_locals.proofs.CountLaws.{call_counted, chain_counted, answered}
 use Rattle.check_locals.proofs.counts.+literals.Goals as goal
 

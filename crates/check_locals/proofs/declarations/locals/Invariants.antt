@@ -1,5 +1,5 @@
-use Rattle.check_types.specs.ContextView.{around_view}
-use Rattle.check_statements.specs.StoodView.{stood_view}
+use Rattle.check_nodes.specs.ContextView.{around_view}
+use Rattle.check_locals.specs.StoodView.{stood_view}
 use Rattle.check_locals.specs.PointView.{point_view}
 use Rattle.check_locals.specs.Tells.{told}
 use Rattle.check_locals.proofs.VarLaws.{LocalsSo}

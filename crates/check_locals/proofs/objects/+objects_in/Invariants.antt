@@ -1,5 +1,5 @@
 use Rattle.pawn_tree.specs.View.{stmt_view, case_view}
-use Rattle.pawn_bodies.specs.Counts.{objects_in, objects_in_case}
+use Rattle.types_rules.specs.Counts.{objects_in, objects_in_case}
 use Rattle.check_locals.proofs.SumLaws.{Summed}
 use Rattle.check_locals.proofs.objects.+objects_in.Given as goal
 

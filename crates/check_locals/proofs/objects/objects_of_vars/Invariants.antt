@@ -1,5 +1,5 @@
 use Rattle.pawn_tree.specs.View.{var_view}
-use Rattle.pawn_bodies.specs.Counts.{objects_of_var}
+use Rattle.types_rules.specs.Counts.{objects_of_var}
 use Rattle.check_locals.proofs.SumLaws.{Summed}
 use Rattle.check_locals.proofs.objects.objects_of_vars.Given as goal
 

@@ -1,6 +1,6 @@
 use Rattle.std.proofs.Common.{◌≡◌, [], drop}
-use Rattle.pawn_automata.specs.Automata.{with_items}
-use Rattle.pawn_automata.specs.Clauses.{items_behind}
+use Rattle.types_rules.specs.Automata.{with_items}
+use Rattle.types_rules.specs.Clauses.{items_behind}
 use Rattle.check_source.specs.AutomataView.{automata_view}
 use Rattle.check_source.proofs.classified.add_items.Given as goal
 

@@ -1,5 +1,5 @@
 use Rattle.std.proofs.Common.{◌≡◌, [], map, drop}
-use Rattle.pawn_automata.specs.Automata as spec
+use Rattle.types_rules.specs.Automata as spec
 use Rattle.check_source.specs.AutomataView.{automata_view}
 use Rattle.check_source.specs.WrittenView.{written_view}
 use Rattle.check_source.specs.GroupsView.{groups_view}

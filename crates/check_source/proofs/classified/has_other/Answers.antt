@@ -1,4 +1,4 @@
-use Rattle.pawn_automata.specs.Groups.{body_key}
+use Rattle.types_rules.specs.Groups.{body_key}
 use Rattle.check_source.specs.WrittenView.{written_view}
 use Rattle.check_source.specs.GroupsView.{groups_view}
 use Rattle.check_source.proofs.NamingLaws.{other_at}

@@ -1,5 +1,5 @@
 use Rattle.pawn_tree.specs.View.{arg_view, link_view}
-use Rattle.pawn_calls.specs.Called.{called_by_arg, called_by_link}
+use Rattle.types_rules.specs.Called.{called_by_arg, called_by_link}
 use Rattle.check_source.specs.Adds.{AddsSoFar}
 use Rattle.check_source.proofs.expression.+expression.Given as goal
 

@@ -1,5 +1,5 @@
 use Rattle.std.proofs.Common.{◌≡◌, [], map, drop}
-use Rattle.pawn_automata.specs.Groups as spec
+use Rattle.types_rules.specs.Groups as spec
 use Rattle.check_source.specs.WrittenView.{written_view}
 use Rattle.check_source.specs.GroupsView.{groups_view}
 use Rattle.check_source.proofs.groups.group_bodies.Given as goal

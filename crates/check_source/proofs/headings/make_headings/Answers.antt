@@ -1,6 +1,6 @@
 use Rattle.std.proofs.Common.{map, arith}
 use Rattle.pawn_tree.specs.View.{decl_view}
-use Rattle.pawn_typed.specs.Headings as spec
+use Rattle.types_rules.specs.Headings as spec
 use Rattle.check_source.proofs.GatherLaws.{gathered}
 use Rattle.check_source.specs.HeadingView.{heading_view}
 use Rattle.check_source.proofs.HeadingLaws.{headings_more}

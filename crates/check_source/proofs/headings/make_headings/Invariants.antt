@@ -1,6 +1,6 @@
 use Rattle.std.proofs.Common.{◌≡◌, ◌++◌, map, drop}
 use Rattle.pawn_tree.specs.View.{decl_view}
-use Rattle.pawn_typed.specs.Headings as spec
+use Rattle.types_rules.specs.Headings as spec
 use Rattle.check_source.specs.HeadingView.{heading_view}
 use Rattle.check_source.proofs.headings.make_headings.Given as goal
 

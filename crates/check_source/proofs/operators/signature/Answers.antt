@@ -1,5 +1,5 @@
 use Rattle.std.proofs.Common.{◌≡◌, rules}
-use Rattle.pawn_scopes.specs.Overloads as overloads
+use Rattle.names_rules.specs.Overloads as overloads
 use Rattle.check_source.proofs.KeyLaws.{signature_found}
 use Rattle.check_source.proofs.operators.signature.Goals as goal
 

@@ -1,5 +1,5 @@
 use Rattle.pawn_tree.specs.View.{stmt_view, case_view}
-use Rattle.pawn_bodies.specs.CalledIn.{called_in, called_in_case}
+use Rattle.types_rules.specs.CalledIn.{called_in, called_in_case}
 use Rattle.check_source.specs.Adds.{AddsSoFar}
 use Rattle.check_source.proofs.statement.+statement.Given as goal
 

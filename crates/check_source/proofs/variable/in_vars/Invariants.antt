@@ -1,5 +1,5 @@
 use Rattle.pawn_tree.specs.View.{var_view}
-use Rattle.pawn_bodies.specs.CalledIn.{called_by_init}
+use Rattle.types_rules.specs.CalledIn.{called_by_init}
 use Rattle.check_source.specs.Adds.{AddsSoFar}
 use Rattle.check_source.proofs.variable.in_vars.Given as goal
 

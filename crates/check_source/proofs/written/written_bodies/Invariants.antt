@@ -1,6 +1,6 @@
 use Rattle.std.proofs.Common.{◌≡◌, ◌++◌, map, drop}
 use Rattle.pawn_tree.specs.View.{decl_view}
-use Rattle.pawn_automata.specs.Groups as spec
+use Rattle.types_rules.specs.Groups as spec
 use Rattle.check_source.specs.WrittenView.{written_view}
 use Rattle.check_source.proofs.written.written_bodies.Given as goal
 

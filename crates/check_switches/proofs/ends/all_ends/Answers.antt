@@ -1,10 +1,10 @@
 use Rattle.std.proofs.Common.{arith, ap, ◌∙◌, ◌∷◌, []}
 use Rattle.std.proofs.lemmas.Result.{err_from_is_err_and}
-use Rattle.pawn_scopes.specs.Verdict.{Stands, after}
+use Rattle.names_rules.specs.Verdict.{Stands, after}
 use Rattle.pawn_tree.specs.View.{range_view}
-use Rattle.pawn_bodies.specs.Switches.{ends}
-use Rattle.check_types.specs.ContextView.{around_view}
-use Rattle.check_types.specs.Scopes.{scope_view}
+use Rattle.types_rules.specs.Switches.{ends}
+use Rattle.check_nodes.specs.ContextView.{around_view}
+use Rattle.check_nodes.specs.Scopes.{scope_view}
 use Rattle.pawn_verdict.proofs.VerdictLaws.{fails_after}
 use Rattle.check_switches.proofs.TakenLaws.{taken_begins, taken_more, taken_fails, taken_all}
 use Rattle.check_switches.proofs.RuleLaws.{pushed}

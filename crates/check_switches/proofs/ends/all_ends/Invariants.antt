@@ -1,9 +1,9 @@
 use Rattle.std.proofs.Common.{◌++◌, []}
 use Rattle.pawn_tree.specs.View.{range_view}
-use Rattle.pawn_typing.specs.Rule.{each}
-use Rattle.pawn_bodies.specs.Switches.{ends}
-use Rattle.check_types.specs.ContextView.{around_view}
-use Rattle.check_types.specs.Scopes.{scope_view}
+use Rattle.types_rules.specs.Rule.{each}
+use Rattle.types_rules.specs.Switches.{ends}
+use Rattle.check_nodes.specs.ContextView.{around_view}
+use Rattle.check_nodes.specs.Scopes.{scope_view}
 use Rattle.check_locals.specs.Tells.{told}
 use Rattle.check_switches.specs.CaseView.{all_ends_view}
 use Rattle.check_switches.proofs.TakenLaws.{Taken}

@@ -1,7 +1,7 @@
 use Rattle.std.proofs.Common.{[], length}
-use Rattle.pawn_scopes.specs.Verdict.{Stands}
-use Rattle.pawn_bodies.specs.Switches.{labels}
-use Rattle.check_types.specs.ContextView.{around_view}
+use Rattle.names_rules.specs.Verdict.{Stands}
+use Rattle.types_rules.specs.Switches.{labels}
+use Rattle.check_nodes.specs.ContextView.{around_view}
 use Rattle.check_switches.specs.CaseView.{ends_view, labels_view}
 use Rattle.check_switches.specs.Cased.{label_join}
 use Rattle.check_switches.proofs.TakenLaws.{Taken}

@@ -2,7 +2,7 @@ use Rattle.std.proofs.Common.{rules, arith, ap, sym, ◌∙◌}
 use Rattle.std.proofs.lemmas.Result.{err_from_is_err_and}
 use Rattle.std.proofs.lemmas.Iterator.Adapters.{YieldsList-from_vec}
 use Rattle.std.proofs.lemmas.Iterator.Consumers.{YieldsList-turn, YieldsList-end}
-use Rattle.pawn_scopes.specs.Verdict.{Stands}
+use Rattle.names_rules.specs.Verdict.{Stands}
 use Rattle.check_switches.proofs.TakenLaws.{taken_begins, yielded_more, taken_fails, taken_all}
 use Rattle.check_switches.proofs.switches.cased.Goals as goal
 

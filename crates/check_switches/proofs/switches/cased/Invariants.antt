@@ -1,7 +1,7 @@
 use Rattle.std.proofs.Common.{length}
-use Rattle.pawn_scopes.specs.Verdict.{Stands}
-use Rattle.pawn_bodies.specs.Statements.{no_cased}
-use Rattle.check_types.specs.ContextView.{around_view}
+use Rattle.names_rules.specs.Verdict.{Stands}
+use Rattle.types_rules.specs.Statements.{no_cased}
+use Rattle.check_nodes.specs.ContextView.{around_view}
 use Rattle.check_switches.specs.CaseView.{part_view, cased_view}
 use Rattle.check_switches.specs.Cased.{cased_behind, bare_verdict}
 use Rattle.check_switches.specs.Switching.{case_rule, cased_in}

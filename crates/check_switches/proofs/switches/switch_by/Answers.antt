@@ -1,7 +1,7 @@
 use Rattle.std.proofs.Common.{sym, subst}
-use Rattle.check_statements.specs.StoodView.{other_view, stood_view}
-use Rattle.check_types.specs.ContextView.{around_view}
-use Rattle.check_types.specs.TypedView.{typed_view}
+use Rattle.check_locals.specs.StoodView.{other_view, stood_view}
+use Rattle.check_nodes.specs.ContextView.{around_view}
+use Rattle.check_nodes.specs.TypedView.{typed_view}
 use Rattle.check_switches.specs.CaseView.{parts_view}
 use Rattle.check_switches.specs.Switching.{cased_in, use_in}
 use Rattle.pawn_verdict.specs.Answers.{Answers}

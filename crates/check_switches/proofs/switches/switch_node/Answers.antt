@@ -1,4 +1,4 @@
-use Rattle.pawn_program.proofs.ViewLaws.{stmt_view-Switch}
+use Rattle.pawn_meaning.proofs.ViewLaws.{stmt_view-Switch}
 use Rattle.check_switches.proofs.switches.switch_node.Goals as goal
 
 pub returns : goal.returns

@@ -1,5 +1,5 @@
 use Rattle.std.proofs.Common.{[], ◌∷◌, ap, ◌∙◌}
-use Rattle.check_statements.specs.StoodView.{other_view, stood_of}
+use Rattle.check_locals.specs.StoodView.{other_view, stood_of}
 use Rattle.check_switches.proofs.SwitchLaws.{switch_is}
 use Rattle.check_switches.proofs.switches.switch_rule.Goals as goal
 

@@ -1,6 +1,6 @@
 use Rattle.std.proofs.Common.{refl}
 use Rattle.command_parts.specs.Put.{failed, no_memory}
-use Rattle.command_parts.proofs.CallLaws.{calls_by}
+use Rattle.command_parts.proofs.FaultCountLaws.{calls_by}
 use Rattle.command_parts.proofs.putting.put.Goals as goal
 
 pub returns-in-Kept-clause-calls : goal.returns-in-Kept-clause-calls

@@ -1,8 +1,8 @@
 use Rattle.std.proofs.Common.{rules, ◌≡◌, ◌+◌, ◌*◌, pos, [], ◌∷◌, ◌++◌, length, map, FitsSigned}
 use Rattle.std.proofs.Common.{w32, sym, ap, subst, ◌∙◌, arith}
 use Rattle.std.proofs.lemmas.Int.{to_z-of_z}
-use Rattle.pawn_program.specs.View.{slot_view}
-use Rattle.gen_builder.specs.Built.{with_items}
+use Rattle.pawn_meaning.specs.View.{slot_view}
+use Rattle.gen_expr.specs.Built.{with_items}
 use Rattle.gen_module.specs.Source.{program_of}
 use Rattle.gen_module.proofs.PartLaws.{body_part, bodies_row, bodies_begin}
 use Rattle.gen_module.proofs.RowLaws.{Row, row_none, row_more, row_all}

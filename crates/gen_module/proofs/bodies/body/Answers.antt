@@ -1,6 +1,6 @@
 use Rattle.std.proofs.Common.{map, sym, ap, ◌∙◌}
 use Rattle.std.proofs.lemmas.List.{length-map}
-use Rattle.pawn_program.specs.View.{body_view, slot_view}
+use Rattle.pawn_meaning.specs.View.{body_view, slot_view}
 use Rattle.gen_module.specs.Source.{program_of}
 use Rattle.gen_module.proofs.BodyLaws.{body_made}
 use Rattle.gen_module.proofs.bodies.body.Goals as goal

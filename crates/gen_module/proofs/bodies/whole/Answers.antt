@@ -1,7 +1,7 @@
 use Rattle.std.proofs.Common.{pos, ap, ◌∙◌}
-use Rattle.pawn_program.specs.View.{stmt_view}
-use Rattle.gen_draft.specs.Led.{all_led}
-use Rattle.gen_slots.specs.declared.locals.Mark.{Mark}
+use Rattle.pawn_meaning.specs.View.{stmt_view}
+use Rattle.gen_stmt.specs.Led.{all_led}
+use Rattle.gen_stmt.specs.declared.locals.Mark.{Mark}
 use Rattle.gen_module.proofs.WholeLaws.{whole_done}
 use Rattle.gen_module.proofs.bodies.whole.Goals as goal
 

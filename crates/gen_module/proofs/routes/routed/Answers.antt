@@ -1,13 +1,13 @@
 use Rattle.std.proofs.Common.{rules, ◌≡◌, ◌+◌, ◌-◌, ◌*◌, pos, length, map, FitsSigned, w32, sym, ap}
 use Rattle.std.proofs.Common.{subst, ◌∙◌, arith}
 use Rattle.std.proofs.lemmas.Int.{to_z-of_z}
-use Rattle.pawn_program.specs.View.{body_view, slot_view, function_view, route_view}
-use Rattle.gen_program.specs.RouteCode.{bodies_items, body_begin, route_table, leads_to, fail_at}
-use Rattle.gen_program.specs.RouteCode.{address_of, route_items}
-use Rattle.gen_builder.specs.Built.{Built, with_items}
-use Rattle.gen_emit.specs.Filled.{filled}
-use Rattle.gen_case_tables.specs.Over.{over}
-use Rattle.gen_files.specs.Starts.{Finds}
+use Rattle.pawn_meaning.specs.View.{body_view, slot_view, function_view, route_view}
+use Rattle.gen_laws.specs.RouteCode.{bodies_items, body_begin, route_table, leads_to, fail_at}
+use Rattle.gen_laws.specs.RouteCode.{address_of, route_items}
+use Rattle.gen_expr.specs.Built.{Built, with_items}
+use Rattle.gen_expr.specs.Filled.{filled}
+use Rattle.gen_stmt.specs.Over.{over}
+use Rattle.gen_module.specs.Starts.{Finds}
 use Rattle.gen_module.specs.Source.{program_of}
 use Rattle.gen_module.proofs.RouteLaws.{ok_map, pairs_same, Appended, fails_at, opened_cells}
 use Rattle.gen_module.proofs.RouteLaws.{route_made, starts_found}

@@ -1,7 +1,7 @@
 use Rattle.std.proofs.Common.{◌≡◌, ◌+◌, ◌*◌, ℕ, length, drop}
-use Rattle.gen_program.specs.RouteCode.{route_table}
-use Rattle.gen_case_tables.specs.Over.{over}
-use Rattle.gen_files.specs.Starts.{Finds}
+use Rattle.gen_laws.specs.RouteCode.{route_table}
+use Rattle.gen_stmt.specs.Over.{over}
+use Rattle.gen_module.specs.Starts.{Finds}
 use Rattle.gen_module.proofs.routes.write_pairs.Given as goal
 
 abbrev pub invariant-loop-case : goal.invariant-loop-case

@@ -1,15 +1,13 @@
-use Rattle.std.proofs.Common.{rules, w32, FitsSigned, ◌≡◌, ◌+◌, ◌<◌, ◌≤◌, ◌++◌, pos, suc, length}
-use Rattle.std.proofs.Common.{map, take, drop, take_all, get_or, ap, sym, ◌∙◌, append_assoc, arith}
+use Rattle.std.proofs.Common.{rules, w32, FitsSigned, ◌≡◌, ◌+◌, ◌≤◌, suc, length, map, drop}
+use Rattle.std.proofs.Common.{take_all, ap, ◌∙◌, arith}
 use Rattle.std.proofs.lemmas.Int.{to_z-of_z}
 use Rattle.std.proofs.lemmas.Result.{err_from_is_err_and}
 use Rattle.pawn_outside.proofs.SaidLaws.{said_as, said_then, said_cut}
-use Rattle.host_script.specs.declared.event.Seen.TheVariants as seen
-use Rattle.host_script.specs.Text.{argument_text, arguments_text}
-use Rattle.amx_ops.specs.Moves.{look}
+use Rattle.host_script.specs.Text.{arguments_text}
 use Rattle.host_run.specs.Guest.{form_at}
-use Rattle.host_run.specs.Sights.{arguments_of, sought, sought_in}
-use Rattle.host_run.proofs.SightLaws.{counted_is, sight_at, shown_at, length-shown, length-sought}
-use Rattle.host_run.proofs.SightLaws.{text_more, text_at}
+use Rattle.host_run.specs.Sights.{arguments_of, sought}
+use Rattle.host_run.proofs.SightLaws.{counted_is, sight_at, length-shown, length-sought}
+use Rattle.host_run.proofs.SightLaws.{is_argument, text_next, text_whole}
 use Rattle.host_run.proofs.lines.say_arguments.Goals as goal
 
 pub say_argument-requires : goal.say_argument-requires
@@ -19,68 +17,30 @@ say_argument-requires g c =
     let i = c.loop-index.index in
     let fits : FitsSigned w32 c.native_arg.result = search rules in
     let same : i ≡ 0 + i = omega arith in
-    let within : i < length (arguments_of s) =
-    omega (arith, counted_is s c.args.count c.requires.counted, c.loop-index-test.true) in
+    let within = is_argument s form c.args.count i c.requires.counted c.loop-index-test.true in
     rw (to_z-of_z w32 c.native_arg.result fits, c.native_arg.ensures, c.form.ensures)
     (sight_at s form 0 (arguments_of s) i i same c.requires.visible within)
 
 pub loop-index-preserved : goal.loop-index-preserved
 loop-index-preserved g c =
-    let s = c.args.machine.now.state in
-    let form = form_at c.args.guest.now.forms.now c.args.guest.now.rest in
-    let values = arguments_of s in
-    let all = map (λ it. it.seen) (sought s form 0 values) in
-    let i = c.loop-index.index in
     let fits : FitsSigned w32 c.native_arg.result = search rules in
-    let same : i ≡ 0 + i = omega arith in
-    let within : i < length values =
-    omega (arith, counted_is s c.args.count c.requires.counted, c.loop-index-test.true) in
-    let there : i < length all =
-    omega (
-      arith,
-      within,
-      length-shown (sought s form 0 values),
-      length-sought s form 0 values,
-    ) in
-    let piece =
-    ap (λ v. argument_text (sought_in (look s v c.form.result)).seen)
-    (to_z-of_z w32 c.native_arg.result fits)
-    ∙ ap (λ v. argument_text (sought_in (look s v c.form.result)).seen) c.native_arg.ensures
-    ∙ ap (λ f. argument_text (sought_in (look s (get_or values i (pos 0)) f)).seen) c.form.ensures
-    ∙ ap argument_text (sym (shown_at s form 0 values i i (seen.Cell (pos 0)) same within)) in
-    said_as (ap (λ text. arguments_text (take i all) ++ text) piece
-    ∙ sym (text_more all i (seen.Cell (pos 0)) there))
+    said_as (text_next c.args.machine.now.state
+    (form_at c.args.guest.now.forms.now c.args.guest.now.rest) c.args.count c.loop-index.index
+    c.requires.counted c.loop-index-test.true _ c.form.result
+    (to_z-of_z w32 c.native_arg.result fits ∙ c.native_arg.ensures) c.form.ensures)
     (said_then c.loop-index.invariant c.in_ok-say_argument.ensures)
 
 pub returns-in_err-say_argument : goal.returns-in_err-say_argument
 returns-in_err-say_argument g c =
     let s = c.args.machine.now.state in
     let form = form_at c.args.guest.now.forms.now c.args.guest.now.rest in
-    let values = arguments_of s in
-    let all = map (λ it. it.seen) (sought s form 0 values) in
-    let i = c.loop-index.index in
     let fits : FitsSigned w32 c.native_arg.result = search rules in
-    let same : i ≡ 0 + i = omega arith in
-    let within : i < length values =
-    omega (arith, counted_is s c.args.count c.requires.counted, c.loop-index-test.true) in
-    let there : i < length all =
-    omega (
-      arith,
-      within,
-      length-shown (sought s form 0 values),
-      length-sought s form 0 values,
-    ) in
-    let piece =
-    ap (λ v. argument_text (sought_in (look s v c.form.result)).seen)
-    (to_z-of_z w32 c.native_arg.result fits)
-    ∙ ap (λ v. argument_text (sought_in (look s v c.form.result)).seen) c.native_arg.ensures
-    ∙ ap (λ f. argument_text (sought_in (look s (get_or values i (pos 0)) f)).seen) c.form.ensures
-    ∙ ap argument_text (sym (shown_at s form 0 values i i (seen.Cell (pos 0)) same within)) in
-    let rest = arguments_text (drop (suc i) all) in
+    let all = map (λ it. it.seen) (sought s form 0 (arguments_of s)) in
+    let rest = arguments_text (drop (suc c.loop-index.index) all) in
     let is = err_from_is_err_and c.from_residual.result c.from_residual.ensures.1 in
-    said_as (append_assoc (arguments_text (take i all)) _ rest
-    ∙ ap (λ text. arguments_text (take i all) ++ (text ++ rest)) piece
-    ∙ text_at all i (seen.Cell (pos 0)) there)
+    said_as (text_whole s form c.args.count c.loop-index.index c.requires.counted
+    c.loop-index-test.true _ c.form.result
+    (to_z-of_z w32 c.native_arg.result fits ∙ c.native_arg.ensures) c.form.ensures)
     (said_cut rest c.from_residual.result is.1
     (said_then c.loop-index.invariant c.in_err-say_argument.ensures))
 

@@ -17,20 +17,15 @@ returns-in-Going-clause-advances g c =
 
 pub returns-in-Some-clause-advances : goal.returns-in-Some-clause-advances
 returns-in-Some-clause-advances g c =
-    let code = c.in-Halt.code in
-    let pri = c.in-Halt.pri in
-    let alt = c.in-Halt.alt in
-    let code_fits : FitsSigned w32 code = search rules in
-    let pri_fits : FitsSigned w32 pri = search rules in
-    let alt_fits : FitsSigned w32 alt = search rules in
+    let h = c.in-Halt in
     let s = c.args.machine.now.state in
     let at = c.args.at.now in
     let behind = rw c.in-Halt.is at c.requires.behind in
     let over =
     rw (
-      to_z-of_z w32 code code_fits,
-      to_z-of_z w32 pri pri_fits,
-      to_z-of_z w32 alt alt_fits,
+      to_z-of_z w32 h.code (search rules),
+      to_z-of_z w32 h.pri (search rules),
+      to_z-of_z w32 h.alt (search rules),
     ) at c.in-Some.ensures in
     rw c.in-Halt.is
     (ends c.in-Some.end c.over.result

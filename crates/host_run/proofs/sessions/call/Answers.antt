@@ -1,12 +1,11 @@
-use Rattle.std.proofs.Common.{rules, w32, FitsSigned, All, ◌<◌, None, Some, inl, inr, map}
+use Rattle.std.proofs.Common.{rules, w32, FitsSigned, All, ◌<◌, None, Some, inl, inr}
 use Rattle.std.proofs.Common.{unwrap_or, refl, sym, ap, subst}
 use Rattle.std.proofs.lemmas.Int.{to_z-of_z}
 use Rattle.host_script.specs.declared.event.Event.TheVariants as event
 use Rattle.host_script.specs.declared.event.End.TheVariants as end
 use Rattle.host_run.specs.declared.end.SessionEnd.TheVariants as answer
-use Rattle.host_run.specs.Guest.{form_at}
 use Rattle.host_run.specs.Segments.{Place}
-use Rattle.host_run.specs.Sights.{arguments_of, sought}
+use Rattle.host_run.specs.Sights.{seen_by}
 use Rattle.host_run.proofs.AdvanceLaws.{ends, answers, asked_is}
 use Rattle.host_run.proofs.sessions.call.Goals as goal
 
@@ -40,32 +39,22 @@ returns-in-Err-clause-advances g c =
 
 pub returns-in-Ok-said-clause-advances : goal.returns-in-Ok-said-clause-advances
 returns-in-Ok-said-clause-advances g c =
-    let s = c.args.machine.now.state in
-    let result = c.in-Ok.reply.result in
-    let fits : FitsSigned w32 result = search rules in
     let place : Place = record { machine = c.args.machine.now; position = c.args.at.now } in
-    let name = c.args.name.now in
-    let form = form_at c.args.guest.now.forms.now c.args.guest.now.rest in
-    let called = (c.in-Ok.ensures name).answers in
-    rw (c.answer.ensures, c.write_all.ensures, to_z-of_z w32 result fits)
-    (answers (event.Native name (map (λ it. it.seen) (sought s form 0 (arguments_of s))) result)
-    None (inl refl)
-    (λ before. asked_is c.args.script.now name c.args.guest.now c.requires.guest place before
-    _ called)
-    refl (rw (to_z-of_z w32 result fits) at c.in-Ok-said.ensures))
+    let same = to_z-of_z w32 c.in-Ok.reply.result (search rules) in
+    rw (c.answer.ensures, c.write_all.ensures, same)
+    (answers (event.Native c.args.name.now (seen_by c.args.machine.now.state c.args.guest.now)
+    c.in-Ok.reply.result) None (inl refl)
+    (λ before. asked_is c.args.script.now c.args.name.now c.args.guest.now c.requires.guest place
+    before _ (c.in-Ok.ensures c.args.name.now).answers)
+    refl (rw same at c.in-Ok-said.ensures))
 
 pub returns-in-Err-said-clause-advances : goal.returns-in-Err-said-clause-advances
 returns-in-Err-said-clause-advances g c =
-    let s = c.args.machine.now.state in
-    let result = c.in-Ok.reply.result in
-    let fits : FitsSigned w32 result = search rules in
     let place : Place = record { machine = c.args.machine.now; position = c.args.at.now } in
-    let name = c.args.name.now in
-    let form = form_at c.args.guest.now.forms.now c.args.guest.now.rest in
-    let called = (c.in-Ok.ensures name).answers in
-    rw (c.answer.ensures, c.write_all.ensures, to_z-of_z w32 result fits)
-    (answers (event.Native name (map (λ it. it.seen) (sought s form 0 (arguments_of s))) result)
-    (Some answer.SinkFault) (inr refl)
-    (λ before. asked_is c.args.script.now name c.args.guest.now c.requires.guest place before
-    _ called)
-    refl (rw (to_z-of_z w32 result fits) at c.in-Err-said.ensures))
+    let same = to_z-of_z w32 c.in-Ok.reply.result (search rules) in
+    rw (c.answer.ensures, c.write_all.ensures, same)
+    (answers (event.Native c.args.name.now (seen_by c.args.machine.now.state c.args.guest.now)
+    c.in-Ok.reply.result) (Some answer.SinkFault) (inr refl)
+    (λ before. asked_is c.args.script.now c.args.name.now c.args.guest.now c.requires.guest place
+    before _ (c.in-Ok.ensures c.args.name.now).answers)
+    refl (rw same at c.in-Err-said.ensures))

@@ -1,7 +1,7 @@
 use Rattle.std.proofs.Common.{◌≡◌, rules, ap, ◌∙◌, arith, length, option_map, unwrap_or}
 use Rattle.pawn_cells.specs.Cells.{bits_of}
 use Rattle.amx_ops.specs.Moves.{arguments}
-use Rattle.amx_effects.specs.declared.host.Registers.{Registers}
+use Rattle.amx_step.specs.declared.host_registers.Registers.{Registers}
 use Rattle.host_run.proofs.ApartLaws.{end_back}
 use Rattle.host_run.proofs.writes.arguments_place.Goals as goal
 

@@ -1,6 +1,6 @@
 use Rattle.std.proofs.Common.{◌≡◌, ◌+◌, ◌-◌, ◌<◌, ◌≤◌, ◌∙◌, ◌∷◌, ◌++◌, [], ℤ, List, Option, All}
 use Rattle.std.proofs.Common.{get_or, take, drop, length, option_map, unwrap_or, sym, ap, subst}
-use Rattle.std.proofs.Common.{arith, length-drop}
+use Rattle.std.proofs.Common.{arith}
 use Rattle.std.proofs.lemmas.List.{take_all, take_more, take-append-drop}
 use Rattle.host_script.specs.declared.script.Write.{Write}
 use Rattle.amx_ops.specs.Moves.{arguments}
@@ -8,6 +8,7 @@ use Rattle.amx_machine.specs.Machine.{Machine}
 use Rattle.host_run.specs.Apart.{WritesApart, written}
 use Rattle.host_run.specs.Sights.{arguments_of, IsRoomFor}
 use Rattle.host_run.proofs.ApartLaws.{all_taken, all_left, written_behind, still_room}
+use Rattle.host_run.proofs.ApartLaws.{left_be, rest_taken}
 use Rattle.host_run.proofs.writes.write_all.Goals as goal
 
 pub loop-index-preserved : goal.loop-index-preserved
@@ -58,15 +59,11 @@ write_rest-requires-clause-there c =
     let old = c.args.machine.now in
     let writes = c.args.writes.now in
     let l = c.loop-index in
-    let now = c.write_apart.new.machine in
-    let same : now ≡ l.machine =
-    subst (λ b. WritesApart c.index-writes-index.result l.machine b now)
-    c.if-not-write_apart.true c.write_apart.ensures in
-    let args : arguments now.state ≡ arguments old.state =
+    let same = left_be _ l.machine c.write_apart.new.machine _ c.if-not-write_apart.true
+    c.write_apart.ensures in
+    let args : arguments c.write_apart.new.machine.state ≡ arguments old.state =
     ap (λ (m : Machine). arguments m.state) same ∙ l.invariant.arguments in
-    let rest : take (length writes - l.index) (drop l.index writes) ≡ drop l.index writes =
-    take_all (length writes - l.index) (drop l.index writes)
-    (omega (arith, length-drop l.index writes)) in
+    let rest = rest_taken writes l.index in
     let P : Option (List ℤ) → Write → Type 0 =
     λ o write. write.arg < unwrap_or (option_map length o) 0 in
     subst (λ o. All (P o) (take (length writes - l.index) (drop l.index writes))) (sym args)
@@ -78,14 +75,10 @@ write_rest-requires-clause-room c =
     let old = c.args.machine.now in
     let writes = c.args.writes.now in
     let l = c.loop-index in
-    let now = c.write_apart.new.machine in
-    let same : now ≡ l.machine =
-    subst (λ b. WritesApart c.index-writes-index.result l.machine b now)
-    c.if-not-write_apart.true c.write_apart.ensures in
+    let same = left_be _ l.machine c.write_apart.new.machine _ c.if-not-write_apart.true
+    c.write_apart.ensures in
     let P : Write → Type 0 = IsRoomFor old.state (arguments_of old.state) in
-    let rest : take (length writes - l.index) (drop l.index writes) ≡ drop l.index writes =
-    take_all (length writes - l.index) (drop l.index writes)
-    (omega (arith, length-drop l.index writes)) in
+    let rest = rest_taken writes l.index in
     let less : l.index ≤ length writes = omega (arith, c.loop-index-test.true) in
     let taken = all_taken P writes l.index less c.requires.room in
     let left : All P (take (length writes - l.index) (drop l.index writes)) =
@@ -100,14 +93,11 @@ returns-then-not-write_apart c =
     let old = c.args.machine.now in
     let writes = c.args.writes.now in
     let l = c.loop-index in
-    let now = c.write_apart.new.machine in
-    let same : now ≡ l.machine =
-    subst (λ b. WritesApart c.index-writes-index.result l.machine b now)
-    c.if-not-write_apart.true c.write_apart.ensures in
-    let rest : take (length writes - l.index) (drop l.index writes) ≡ drop l.index writes =
-    take_all (length writes - l.index) (drop l.index writes)
-    (omega (arith, length-drop l.index writes)) in
-    c.write_rest.ensures ∙ ap (λ ws. written ws now) rest ∙ ap (written (drop l.index writes)) same
+    let same = left_be _ l.machine c.write_apart.new.machine _ c.if-not-write_apart.true
+    c.write_apart.ensures in
+    let rest = rest_taken writes l.index in
+    c.write_rest.ensures ∙ ap (λ ws. written ws c.write_apart.new.machine) rest
+    ∙ ap (written (drop l.index writes)) same
     ∙ written_behind old l.machine (take l.index writes)
     (drop l.index writes) l.invariant.done l.invariant.arguments
     ∙ ap (λ ws. written ws old) (take-append-drop l.index writes)

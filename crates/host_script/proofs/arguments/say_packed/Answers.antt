@@ -1,13 +1,12 @@
-use Rattle.std.proofs.Common.{◌≡◌, ◌++◌, ◌∙◌, sym, ap, pos, map, true, false, get_or, take, arith}
-use Rattle.std.proofs.Common.{FitsSigned, w32, rules}
+use Rattle.std.proofs.Common.{◌≡◌, ◌++◌, ◌∙◌, sym, ap, pos, true, false, get_or, take, arith}
+use Rattle.std.proofs.Common.{rules}
 use Rattle.std.specs.List.{flat_map}
-use Rattle.std.proofs.lemmas.Int.{to_z-of_z}
 use Rattle.std.proofs.lemmas.Result.{err_from_is_err_and}
 use Rattle.pawn_outside.proofs.SaidLaws.{said_as, said_then, said_cut, said_nothing}
 use Rattle.host_script.specs.Script.{bytes_of}
 use Rattle.host_script.specs.Characters.{front, has_zero, characters_text}
 use Rattle.host_script.proofs.CharacterLaws.{passed_none, passed_more, text_more, text_last}
-use Rattle.host_script.proofs.CharacterLaws.{text_cut, text_all}
+use Rattle.host_script.proofs.CharacterLaws.{packed_bytes, text_cut, text_all}
 use Rattle.host_script.proofs.arguments.say_packed.Goals as goal
 
 pub loop-cell-init : goal.loop-cell-init
@@ -18,9 +17,8 @@ loop-cell-preserved g c =
     let cells = c.args.cells.now in
     let i = c.loop-cell.cell-index in
     let x = get_or cells i (pos 0) in
-    let fits : FitsSigned w32 x = search rules in
-    let bytes : map pos c.to_be_bytes-bytes.result ≡ bytes_of x =
-    ap (map pos) c.to_be_bytes-bytes.ensures ∙ ap bytes_of (to_z-of_z w32 x fits) in
+    let bytes =
+    packed_bytes x c.to_be_bytes-bytes.result (search rules) c.to_be_bytes-bytes.ensures in
     let none : has_zero (bytes_of x) ≡ false =
     ap has_zero (sym bytes) ∙ sym c.if-has_zero_byte.ensures in (
       said_as (ap (λ cs. characters_text (flat_map bytes_of (take i cells))
@@ -35,9 +33,8 @@ returns-then-has_zero_byte g c =
     let cells = c.args.cells.now in
     let i = c.loop-cell.cell-index in
     let x = get_or cells i (pos 0) in
-    let fits : FitsSigned w32 x = search rules in
-    let bytes : map pos c.to_be_bytes-bytes.result ≡ bytes_of x =
-    ap (map pos) c.to_be_bytes-bytes.ensures ∙ ap bytes_of (to_z-of_z w32 x fits) in
+    let bytes =
+    packed_bytes x c.to_be_bytes-bytes.result (search rules) c.to_be_bytes-bytes.ensures in
     let zero : has_zero (bytes_of x) ≡ true =
     ap has_zero (sym bytes) ∙ sym c.if-has_zero_byte.ensures in
     said_as (ap (λ cs. characters_text (flat_map bytes_of (take i cells))
@@ -50,9 +47,8 @@ returns-in_err-say_bytes g c =
     let cells = c.args.cells.now in
     let i = c.loop-cell.cell-index in
     let x = get_or cells i (pos 0) in
-    let fits : FitsSigned w32 x = search rules in
-    let bytes : map pos c.to_be_bytes-bytes.result ≡ bytes_of x =
-    ap (map pos) c.to_be_bytes-bytes.ensures ∙ ap bytes_of (to_z-of_z w32 x fits) in
+    let bytes =
+    packed_bytes x c.to_be_bytes-bytes.result (search rules) c.to_be_bytes-bytes.ensures in
     let is = err_from_is_err_and c.from_residual.result c.from_residual.ensures.1 in
     said_as (text_cut bytes_of cells i (pos 0) c.loop-cell-test.true c.loop-cell.invariant.1)
     (said_cut _ c.from_residual.result is.1

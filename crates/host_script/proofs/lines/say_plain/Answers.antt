@@ -1,23 +1,17 @@
-use Rattle.std.proofs.Common.{◌++◌, ◌∷◌, ◌∙◌, ◌≡◌, [], pos, FitsSigned, rules, sym, ap}
-use Rattle.std.proofs.Common.{append_assoc, append-nil, take, drop, get_or, suc, w32}
-use Rattle.std.specs.Fmt.{signed_decimal}
-use Rattle.std.proofs.lemmas.Int.{to_z-of_z}
+use Rattle.std.proofs.Common.{◌++◌, ◌∷◌, ◌∙◌, [], pos, rules, sym, ap, append_assoc, take, drop}
+use Rattle.std.proofs.Common.{get_or, suc}
 use Rattle.std.proofs.lemmas.Result.{err_from_is_err_and}
 use Rattle.pawn_outside.proofs.SaidLaws.{said_as, said_then, said_cut}
-use Rattle.host_script.proofs.TextLaws.{cell_text, cells_text, cells_text-more, cells_text-at}
+use Rattle.host_script.proofs.TextLaws.{cell_piece, cells_text, cells_text-more, cells_text-at}
 use Rattle.host_script.proofs.lines.say_plain.Goals as goal
 
 pub loop-cell-preserved : goal.loop-cell-preserved
 loop-cell-preserved g c =
     let cells = c.args.cells.now in
     let i = c.loop-cell.cell-index in
-    let cell = get_or cells i (pos 0) in
-    let fits : FitsSigned w32 cell = search rules in
-    let digits : c.as_bytes.result.now ≡ signed_decimal cell =
-    c.as_bytes.ensures.value ∙ c.format.ensures.text
-    ∙ ap signed_decimal (to_z-of_z w32 cell fits) in
-    let piece : 32 ∷ (c.as_bytes.result.now ++ []) ≡ cell_text cell =
-    ap (λ text. 32 ∷ text) (append-nil c.as_bytes.result.now ∙ digits) in
+    let piece =
+    cell_piece (get_or cells i (pos 0)) c.as_bytes.result.now (search rules)
+    (c.as_bytes.ensures.value ∙ c.format.ensures.text) in
     said_as (ap (λ text. cells_text (take i cells) ++ text) piece
     ∙ sym (cells_text-more cells i (pos 0) c.loop-cell-test.true))
     (said_then c.loop-cell.invariant c.in_ok-say.ensures)
@@ -26,13 +20,9 @@ pub returns-in_err-say : goal.returns-in_err-say
 returns-in_err-say g c =
     let cells = c.args.cells.now in
     let i = c.loop-cell.cell-index in
-    let cell = get_or cells i (pos 0) in
-    let fits : FitsSigned w32 cell = search rules in
-    let digits : c.as_bytes.result.now ≡ signed_decimal cell =
-    c.as_bytes.ensures.value ∙ c.format.ensures.text
-    ∙ ap signed_decimal (to_z-of_z w32 cell fits) in
-    let piece : 32 ∷ (c.as_bytes.result.now ++ []) ≡ cell_text cell =
-    ap (λ text. 32 ∷ text) (append-nil c.as_bytes.result.now ∙ digits) in
+    let piece =
+    cell_piece (get_or cells i (pos 0)) c.as_bytes.result.now (search rules)
+    (c.as_bytes.ensures.value ∙ c.format.ensures.text) in
     let is = err_from_is_err_and c.from_residual.result c.from_residual.ensures.1 in
     said_as (append_assoc (cells_text (take i cells)) (32 ∷ (c.as_bytes.result.now ++ []))
     (cells_text (drop (suc i) cells))

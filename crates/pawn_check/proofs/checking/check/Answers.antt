@@ -1,10 +1,10 @@
 use Rattle.std.proofs.Common.{ℤ, w32, subst}
 use Rattle.std.proofs.lemmas.Int.{to_z-of_z}
 use Rattle.pawn_tree.specs.View.{tree_view}
-use Rattle.pawn_typed.specs.Sources.{Source}
+use Rattle.types_rules.specs.Sources.{Source}
 use Rattle.pawn_verdict.specs.Answers.{Answers}
 use Rattle.check_source.specs.SourceView.{source_view}
-use Rattle.pawn_check.specs.Parts.{typed_by}
+use Rattle.pawn_check.specs.TreeParts.{typed_by}
 use Rattle.pawn_check.specs.View.{checked_view}
 use Rattle.pawn_check.proofs.checking.check.Goals as goal
 

@@ -1,9 +1,9 @@
 use Rattle.std.proofs.Common.{refl, sym, ap, map, ◌∙◌}
 use Rattle.pawn_tree.specs.View.{decl_view, tree_view}
-use Rattle.check_types.specs.ContextView.{around_view}
+use Rattle.check_nodes.specs.ContextView.{around_view}
 use Rattle.check_source.specs.SourceView.{source_view}
 use Rattle.check_locals.specs.PointView.{point_view}
-use Rattle.pawn_check.specs.Parts.{declared}
+use Rattle.pawn_check.specs.TreeParts.{declared}
 use Rattle.pawn_check.proofs.DeclaredLaws.{declared_is, never_fallen, fails_of}
 use Rattle.pawn_check.proofs.declared.declared_around.Goals as goal
 

@@ -1,6 +1,6 @@
 use Rattle.pawn_tree.specs.View.{tree_view}
 use Rattle.check_source.specs.SourceView.{source_view}
-use Rattle.check_contexts.specs.HeadsView.{heads_view}
+use Rattle.check_functions.specs.HeadsView.{heads_view}
 use Rattle.pawn_check.proofs.WholeLaws.{functions_are}
 use Rattle.pawn_check.proofs.together.functions_stand.Goals as goal
 

@@ -1,5 +1,5 @@
 use Rattle.std.proofs.Common.{inr}
-use Rattle.command_parts.proofs.CallLaws.{calls_nothing, stop_no_fault}
+use Rattle.command_parts.proofs.FaultCountLaws.{calls_nothing, stop_no_fault}
 use Rattle.pawn_cli.proofs.AnswerLaws.{answers_unread, words_no_fault}
 use Rattle.pawn_cli.proofs.command.pawn.Goals as goal
 

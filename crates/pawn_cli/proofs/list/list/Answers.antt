@@ -1,7 +1,7 @@
 use Rattle.std.proofs.Common.{refl, ap}
 use Rattle.amx_text.specs.Listing.{listing}
-use Rattle.pawn_words.specs.declared.status.Status.TheVariants as status
-use Rattle.command_parts.proofs.CallLaws.{only_calls, calls_stopped, calls_done}
+use Rattle.command_parts.specs.declared.status.Status.TheVariants as status
+use Rattle.command_parts.proofs.FaultCountLaws.{only_calls, calls_stopped, calls_done}
 use Rattle.pawn_cli.proofs.AnswerLaws.{reads_none, reads_one}
 use Rattle.pawn_cli.proofs.list.list.Goals as goal
 

@@ -1,6 +1,6 @@
 use Rattle.std.proofs.Common.{codes, refl}
-use Rattle.pawn_words.specs.declared.status.Status.TheVariants as status
-use Rattle.command_parts.proofs.CallLaws.{only_calls, calls_stopped, calls_done}
+use Rattle.command_parts.specs.declared.status.Status.TheVariants as status
+use Rattle.command_parts.proofs.FaultCountLaws.{only_calls, calls_stopped, calls_done}
 use Rattle.pawn_cli.proofs.AnswerLaws.{reads_none, reads_one}
 use Rattle.pawn_cli.proofs.verify.verify.Goals as goal
 

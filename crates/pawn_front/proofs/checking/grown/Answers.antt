@@ -1,4 +1,4 @@
-use Rattle.pawn_grammar.specs.Brackets.{IsTooDeep}
+use Rattle.tree_rules.specs.Brackets.{IsTooDeep}
 use Rattle.pawn_front.proofs.CheckLaws.{NoTreeFrom, grows_too_deep, grows_no_tree}
 use Rattle.pawn_front.proofs.checking.grown.Goals as goal
 

@@ -2,9 +2,9 @@ use Rattle.std.proofs.Common.{◌≡◌, ◌+◌, ◌*◌, ◌&&◌, Bool, arith
 use Rattle.std.specs.List.{sum_by}
 use Rattle.std.proofs.lemmas.Grind.{common_steps}
 use Rattle.pawn_cells.specs.Operators.{cell_in}
-use Rattle.pawn_program.specs.Program as plain
-use Rattle.pawn_program.specs.View.{expr_view, arg_view, links_view}
-use Rattle.pawn_program.proofs.ViewLaws.{expr_view-Chain}
+use Rattle.pawn_meaning.specs.Program as plain
+use Rattle.pawn_meaning.specs.View.{expr_view, arg_view, links_view}
+use Rattle.pawn_meaning.proofs.ViewLaws.{expr_view-Chain}
 use Rattle.pawn_meaning.specs.Capped.{capped}
 use Rattle.pawn_meaning.specs.Fold.{is_constant, are_constant, constant_value, links_value}
 use Rattle.pawn_meaning.specs.Fold.{binary_value, and_value, or_value, choice_value}

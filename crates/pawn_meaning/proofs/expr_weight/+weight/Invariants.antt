@@ -1,4 +1,4 @@
-use Rattle.pawn_program.specs.View.{arg_view}
+use Rattle.pawn_meaning.specs.View.{arg_view}
 use Rattle.pawn_meaning.specs.Weight.{arg_weight, alone_in}
 use Rattle.pawn_meaning.proofs.Walks.{IsSum}
 use Rattle.pawn_meaning.proofs.ChainWalk.{IsChained}

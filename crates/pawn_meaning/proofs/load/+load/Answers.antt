@@ -1,7 +1,7 @@
 use Rattle.std.proofs.Common.{◌≡◌, ◌+◌, ◌*◌, length, map, max, arith}
 use Rattle.std.proofs.lemmas.Grind.{common_steps}
 use Rattle.pawn_meaning.specs.Need.{load, arg_load, greatest}
-use Rattle.pawn_program.specs.View.{expr_view, arg_view}
+use Rattle.pawn_meaning.specs.View.{expr_view, arg_view}
 use Rattle.pawn_meaning.proofs.LoadLaws.{chain_load, call_load, native_load}
 use Rattle.pawn_meaning.proofs.load.+load.Goals as goal
 

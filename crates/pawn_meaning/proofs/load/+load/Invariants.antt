@@ -1,5 +1,5 @@
 use Rattle.pawn_meaning.specs.Need.{arg_load, load}
-use Rattle.pawn_program.specs.View.{arg_view, expr_view}
+use Rattle.pawn_meaning.specs.View.{arg_view, expr_view}
 use Rattle.pawn_meaning.proofs.Walks.{IsGreatest}
 use Rattle.pawn_meaning.proofs.load.+load.Given as goal
 

@@ -2,7 +2,7 @@ use Rattle.std.proofs.Common.{◌≡◌, ◌+◌, map, max, arith}
 use Rattle.std.specs.List.{sum_by}
 use Rattle.std.proofs.lemmas.Grind.{common_steps}
 use Rattle.pawn_meaning.specs.Need.{greatest, locals, made_by, else_locals}
-use Rattle.pawn_program.specs.View.{slot_view, stmt_view, else_view}
+use Rattle.pawn_meaning.specs.View.{slot_view, stmt_view, else_view}
 use Rattle.pawn_meaning.proofs.NeedLaws.{block_locals, for_locals, switch_locals}
 use Rattle.pawn_meaning.proofs.locals.+locals.Goals as goal
 

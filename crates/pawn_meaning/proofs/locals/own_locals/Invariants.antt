@@ -1,6 +1,6 @@
 use Rattle.std.proofs.Common.{map}
 use Rattle.pawn_meaning.specs.Need.{made_by}
-use Rattle.pawn_program.specs.View.{slot_view, stmt_view}
+use Rattle.pawn_meaning.specs.View.{slot_view, stmt_view}
 use Rattle.pawn_meaning.proofs.Walks.{IsSum}
 use Rattle.pawn_meaning.proofs.locals.own_locals.Given as goal
 

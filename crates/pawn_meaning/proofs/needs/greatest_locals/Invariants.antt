@@ -1,6 +1,6 @@
 use Rattle.std.proofs.Common.{map}
 use Rattle.pawn_meaning.specs.Need.{locals}
-use Rattle.pawn_program.specs.View.{slot_view, stmt_view}
+use Rattle.pawn_meaning.specs.View.{slot_view, stmt_view}
 use Rattle.pawn_meaning.proofs.Walks.{IsGreatest}
 use Rattle.pawn_meaning.proofs.needs.greatest_locals.Given as goal
 

@@ -1,7 +1,7 @@
 use Rattle.std.proofs.Common.{◌≡◌, map, max, arith}
 use Rattle.std.proofs.lemmas.Grind.{common_steps}
 use Rattle.pawn_meaning.specs.Need.{greatest, load, perhaps_load, stmt_load, else_load}
-use Rattle.pawn_program.specs.View.{expr_view, perhaps_view, stmt_view, else_view}
+use Rattle.pawn_meaning.specs.View.{expr_view, perhaps_view, stmt_view, else_view}
 use Rattle.pawn_meaning.proofs.NeedLaws.{block_load, for_load, switch_load}
 use Rattle.pawn_meaning.proofs.stmt_load.+stmt_load.Goals as goal
 

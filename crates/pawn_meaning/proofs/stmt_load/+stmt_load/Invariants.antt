@@ -1,5 +1,5 @@
 use Rattle.pawn_meaning.specs.Need.{stmt_load}
-use Rattle.pawn_program.specs.View.{stmt_view}
+use Rattle.pawn_meaning.specs.View.{stmt_view}
 use Rattle.pawn_meaning.proofs.Walks.{IsGreatest}
 use Rattle.pawn_meaning.proofs.stmt_load.+stmt_load.Given as goal
 

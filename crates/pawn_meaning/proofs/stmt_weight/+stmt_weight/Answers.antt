@@ -1,7 +1,7 @@
 use Rattle.std.proofs.Common.{◌≡◌, ◌+◌, arith}
 use Rattle.std.specs.List.{sum_by}
 use Rattle.std.proofs.lemmas.Grind.{common_steps}
-use Rattle.pawn_program.specs.View.{expr_view, perhaps_view, stmt_view, else_view}
+use Rattle.pawn_meaning.specs.View.{expr_view, perhaps_view, stmt_view, else_view}
 use Rattle.pawn_meaning.specs.Weight.{expr_weight, perhaps_weight, stmt_weight, else_weight}
 use Rattle.pawn_meaning.specs.Weight.{ranges_weight, alone_in}
 use Rattle.pawn_meaning.proofs.StmtWeightLaws.{block_weight, for_weight, switch_weight}

@@ -1,5 +1,5 @@
 use Rattle.std.proofs.Common.{◌+◌}
-use Rattle.pawn_program.specs.View.{stmt_view}
+use Rattle.pawn_meaning.specs.View.{stmt_view}
 use Rattle.pawn_meaning.specs.Weight.{stmt_weight, ranges_weight, alone_in}
 use Rattle.pawn_meaning.proofs.Walks.{IsSum}
 use Rattle.pawn_meaning.proofs.stmt_weight.+stmt_weight.Given as goal

@@ -1,4 +1,4 @@
-use Rattle.pawn_program.specs.View.{stmt_view}
+use Rattle.pawn_meaning.specs.View.{stmt_view}
 use Rattle.pawn_meaning.specs.Weight.{stmt_weight, alone_in}
 use Rattle.pawn_meaning.proofs.Walks.{IsSum}
 use Rattle.pawn_meaning.proofs.weights.bodies_weight.Given as goal

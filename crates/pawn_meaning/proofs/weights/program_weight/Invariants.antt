@@ -1,4 +1,4 @@
-use Rattle.pawn_program.specs.View.{function_view}
+use Rattle.pawn_meaning.specs.View.{function_view}
 use Rattle.pawn_meaning.specs.Weight.{function_weight, alone_in}
 use Rattle.pawn_meaning.proofs.Walks.{IsSum}
 use Rattle.pawn_meaning.proofs.weights.program_weight.Given as goal

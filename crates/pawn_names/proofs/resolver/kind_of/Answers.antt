@@ -1,7 +1,7 @@
 use Rattle.pawn_tree.specs.View.{expr_view}
-use Rattle.pawn_scopes.specs.Found.{next_after}
-use Rattle.pawn_scopes.specs.Sizes.{constant_size}
-use Rattle.pawn_sight.specs.Means.{around_view, means_view}
+use Rattle.names_rules.specs.Found.{next_after}
+use Rattle.names_rules.specs.Sizes.{constant_size}
+use Rattle.names_sight.specs.Means.{around_view, means_view}
 use Rattle.pawn_names.proofs.resolver.kind_of.Goals as goal
 
 pub returns-in-Constant : goal.returns-in-Constant

@@ -1,6 +1,6 @@
 use Rattle.std.proofs.Common.{◌∙◌, Err, ap}
 use Rattle.pawn_outside.specs.Rose.{risen}
-use Rattle.pawn_condition.specs.ConditionMachine.{value_of}
+use Rattle.pawn_pre.specs.ConditionMachine.{value_of}
 use Rattle.pawn_pre.proofs.WalkLaws.{goes, stops, blames}
 use Rattle.pawn_pre.proofs.source.drive.Goals as goal
 

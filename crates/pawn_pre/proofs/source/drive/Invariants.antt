@@ -1,6 +1,6 @@
 use Rattle.std.proofs.Common.{◌≡◌, Some}
 use Rattle.pawn_outside.specs.Held.{Held}
-use Rattle.pawn_condition.specs.ConditionMachine.{value_of}
+use Rattle.pawn_pre.specs.ConditionMachine.{value_of}
 use Rattle.pawn_pre.specs.Sound.{IsSoundStack}
 use Rattle.pawn_pre.specs.Remaining.{remaining}
 use Rattle.pawn_pre.specs.Outcome.{Outcome}

@@ -1,6 +1,6 @@
 use Rattle.std.proofs.Common.{◌≡◌, ◌∙◌, rules}
-use Rattle.pawn_condition.specs.ConditionMachine.{value_of}
-use Rattle.pawn_condition.proofs.ForCallers.{value_of_is}
+use Rattle.pawn_pre.specs.ConditionMachine.{value_of}
+use Rattle.pawn_pre.proofs.ForCallers.{value_of_is}
 use Rattle.pawn_pre.proofs.MirrorEnds.{read_answers, missing_answers, long_answers}
 use Rattle.pawn_pre.proofs.source.read_lines.Goals as goal
 

@@ -1,6 +1,6 @@
 use Rattle.std.proofs.Common.{◌≡◌, ap, ap₂, ◌∙◌}
 use Rattle.std.proofs.lemmas.Bool.{ne_eqb}
-use Rattle.amx_steps.specs.Runs.{runs}
+use Rattle.amx_step.specs.Runs.{runs}
 use Rattle.amx_machine.specs.declared.mode.Mode.TheVariants as mode
 use Rattle.amx_machine.specs.Machine.{Machine, in_mode}
 use Rattle.amx_machine.specs.Runs.{core_of}

@@ -3,7 +3,7 @@ use Rattle.std.proofs.lemmas.Int.{to_z-of_z}
 use Rattle.pawn_cells.specs.Cells.{bits_of}
 use Rattle.amx_ops.specs.State.{State}
 use Rattle.amx_ops.specs.Moves.{live_from}
-use Rattle.amx_effects.specs.Hosting.{with_live}
+use Rattle.amx_step.specs.Hosting.{with_live}
 use Rattle.amx_machine.specs.Machine.{resting}
 use Rattle.amx_machine.proofs.RestLaws.{live_in}
 use Rattle.amx_machine.proofs.PutLaws.{put_in}

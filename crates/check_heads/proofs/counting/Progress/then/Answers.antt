@@ -1,8 +1,8 @@
 use Rattle.std.proofs.Common.{◌≡◌, List, Result, subst}
 use Rattle.pawn_tree.specs.declared.name.At.{At}
-use Rattle.pawn_scopes.specs.Verdict.{Stands, Verdict}
-use Rattle.part_verdict.specs.declared.fault.PartFault.{PartFault}
-use Rattle.part_verdict.specs.PartAnswers.{PartAnswers}
+use Rattle.names_rules.specs.Verdict.{Stands, Verdict}
+use Rattle.check_nodes.specs.declared.fault.PartFault.{PartFault}
+use Rattle.check_nodes.specs.PartAnswers.{PartAnswers}
 use Rattle.check_heads.proofs.FoldLaws.{stands_behind}
 use Rattle.check_heads.specs.Counting.{warned_behind}
 use Rattle.check_heads.proofs.EnumLaws.{warned_joins}

@@ -1,8 +1,8 @@
 use Rattle.std.proofs.Common.{◌≡◌, Result, subst}
-use Rattle.pawn_scopes.specs.Verdict.{Stands, Verdict}
-use Rattle.pawn_heads.specs.Params as spec
-use Rattle.part_verdict.specs.declared.fault.PartFault.{PartFault}
-use Rattle.part_verdict.specs.PartAnswers.{PartAnswers}
+use Rattle.names_rules.specs.Verdict.{Stands, Verdict}
+use Rattle.types_rules.specs.Params as spec
+use Rattle.check_nodes.specs.declared.fault.PartFault.{PartFault}
+use Rattle.check_nodes.specs.PartAnswers.{PartAnswers}
 use Rattle.check_heads.specs.declared.headed.Headed.{Headed}
 use Rattle.check_heads.specs.HeadedView.{headed_view}
 use Rattle.check_heads.specs.ParamParts.{headed_behind}

@@ -1,6 +1,6 @@
 use Rattle.std.proofs.Common.{◌≡◌, ◌++◌, map}
 use Rattle.std.specs.Vec.Iter.{into_iter_items}
-use Rattle.pawn_program.specs.View.{automaton_view}
+use Rattle.pawn_meaning.specs.View.{automaton_view}
 use Rattle.check_source.specs.AutomataView.{known_view}
 use Rattle.check_source.proofs.automata.Automata.into_list.Given as goal
 

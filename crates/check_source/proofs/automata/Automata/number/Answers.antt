@@ -1,6 +1,6 @@
 use Rattle.std.proofs.Common.{ap, ◌∙◌, position}
 use Rattle.std.specs.Str.{bytes_eq}
-use Rattle.pawn_bodies.specs.States.{automaton_named}
+use Rattle.types_rules.specs.States.{automaton_named}
 use Rattle.check_source.specs.AutomataView.{automata_view}
 use Rattle.check_source.proofs.AutomataLaws.{numbered}
 use Rattle.check_source.proofs.automata.Automata.number.Goals as goal

@@ -1,5 +1,5 @@
 use Rattle.std.proofs.Common.{[], ap, ◌∙◌}
-use Rattle.name_table.specs.Among.{is_among}
+use Rattle.pawn_base.specs.Among.{is_among}
 use Rattle.check_source.specs.Adds.{bytes_of}
 use Rattle.check_source.proofs.CalledLaws.{among_all}
 use Rattle.check_source.proofs.called.Called.contains.Goals as goal

@@ -1,5 +1,5 @@
 use Rattle.std.proofs.Common.{◌≡◌, List, ◌∷◌, ◌++◌, [], length, ap, ◌∙◌, arith}
-use Rattle.pawn_automata.specs.Groups as spec
+use Rattle.types_rules.specs.Groups as spec
 use Rattle.check_source.specs.KeyView.{key_view}
 use Rattle.check_source.specs.declared.groups.Group.{Group}
 use Rattle.check_source.specs.GroupsView.{groups_view}

@@ -1,6 +1,6 @@
 use Rattle.std.proofs.Common.{refl}
 use Rattle.std.proofs.lemmas.Result.{err_from_is_err_and}
-use Rattle.pawn_marks.specs.MarkView.{declaration_view}
+use Rattle.names_sight.specs.MarkView.{declaration_view}
 use Rattle.pawn_names.proofs.BehindLaws.{again_fails, kind_fails, declared_so}
 use Rattle.pawn_names.proofs.resolver.Resolver.declares.Goals as goal
 

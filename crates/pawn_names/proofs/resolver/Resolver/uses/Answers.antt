@@ -1,6 +1,6 @@
 use Rattle.std.proofs.Common.{refl}
 use Rattle.std.proofs.lemmas.Result.{err_from_is_err_and}
-use Rattle.pawn_marks.specs.MarkView.{use_view}
+use Rattle.names_sight.specs.MarkView.{use_view}
 use Rattle.pawn_names.proofs.BehindLaws.{use_done, use_fails}
 use Rattle.pawn_names.proofs.resolver.Resolver.uses.Goals as goal
 

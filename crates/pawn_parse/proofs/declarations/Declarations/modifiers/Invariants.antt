@@ -1,6 +1,6 @@
 use Rattle.std.proofs.Common.{◌≡◌, ◌-◌}
-use Rattle.pawn_grammar.specs.Declarations.{none_yet}
-use Rattle.pawn_grammar.specs.ReadDeclarations.{modifiers}
+use Rattle.tree_rules.specs.Declarations.{none_yet}
+use Rattle.tree_rules.specs.ReadDeclarations.{modifiers}
 use Rattle.pawn_parse.proofs.declarations.Declarations.modifiers.Given as goal
 
 abbrev pub invariant-loop-turn : goal.invariant-loop-turn

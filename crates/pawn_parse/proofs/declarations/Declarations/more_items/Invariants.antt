@@ -1,8 +1,8 @@
 use Rattle.std.proofs.Common.{◌≡◌, ◌-◌, suc, length, [], ◌∷◌, map, not, true, false}
-use Rattle.pawn_grammar.specs.Declarations.{further_item}
+use Rattle.tree_rules.specs.Declarations.{further_item}
 use Rattle.pawn_tree.specs.View.{item_view}
-use Rattle.pawn_grammar.specs.Readers.{many, behind}
-use Rattle.pawn_grammar.specs.ReadDeclarations.{item}
+use Rattle.tree_rules.specs.Readers.{many, behind}
+use Rattle.tree_rules.specs.ReadDeclarations.{item}
 use Rattle.pawn_parse.proofs.declarations.Declarations.more_items.Given as goal
 
 abbrev pub invariant-loop-turn : goal.invariant-loop-turn
@@ -13,4 +13,4 @@ invariant-loop-turn l =
     (item_view l.fn.first.tree ∷ []) l.fn.first.height l.fn.first.stop
     ≡ many (further_item l.self.reader.parser.tokens.now)
     (behind (item l.self.reader.parser.tokens.now l.self.reader.height)) (l._turn-end - l._turn)
-    (map item_view l.items) l.height l.stop
+    (map item_view l.parts.tree) l.parts.height l.parts.stop

@@ -1,8 +1,8 @@
 use Rattle.std.proofs.Common.{◌≡◌, ◌-◌, suc, length, [], ◌∷◌, map, not, true, false}
 use Rattle.pawn_token.specs.declared.sign.Sign.TheVariants as sign
-use Rattle.pawn_grammar.specs.Tokens.{sees}
-use Rattle.pawn_grammar.specs.Readers.{many, behind}
-use Rattle.pawn_grammar.specs.ReadStatements.{state_name}
+use Rattle.tree_rules.specs.Tokens.{sees}
+use Rattle.tree_rules.specs.Readers.{many, behind}
+use Rattle.tree_rules.specs.ReadStatements.{state_name}
 use Rattle.pawn_parse.proofs.declarations.Declarations.more_state_names.Given as goal
 
 abbrev pub invariant-loop-turn : goal.invariant-loop-turn
@@ -13,4 +13,4 @@ invariant-loop-turn l =
     (l.fn.first.tree ∷ []) l.fn.first.height l.fn.first.stop
     ≡ many (sees l.self.reader.parser.tokens.now sign.Comma)
     (behind (state_name l.self.reader.parser.tokens.now))
-    (l._turn-end - l._turn) l.items l.height l.stop
+    (l._turn-end - l._turn) l.parts.tree l.parts.height l.parts.stop

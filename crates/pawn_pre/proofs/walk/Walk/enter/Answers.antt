@@ -1,5 +1,5 @@
 use Rattle.std.proofs.Common.{◌<◌, ◌≤◌, ◌^◌, length, rules, arith}
-use Rattle.pawn_lines.specs.File.{file_of}
+use Rattle.pawn_pre.specs.File.{file_of}
 use Rattle.pawn_pre.proofs.RemainingLaws.{entered_ok}
 use Rattle.pawn_pre.proofs.walk.Walk.enter.Goals as goal
 

@@ -1,5 +1,5 @@
-use Rattle.pawn_condition.specs.ConditionMachine.{value_of}
-use Rattle.pawn_condition.proofs.ForCallers.{value_of_is}
+use Rattle.pawn_pre.specs.ConditionMachine.{value_of}
+use Rattle.pawn_pre.proofs.ForCallers.{value_of_is}
 use Rattle.pawn_pre.proofs.work.Work.condition.Goals as goal
 
 pub returns : goal.returns

@@ -1,0 +1,10 @@
+pub mod ByteLaws
+pub mod CaseLaws
+pub mod Firsts
+pub mod HostLaws
+pub mod LoadLaws
+pub mod PartLaws
+pub mod RowLaws
+pub mod RunLaws
+pub mod StartLaws
+pub mod StepLaws

@@ -1,4 +1,0 @@
-pub mod Firsts
-pub mod RowLaws
-pub mod RunLaws
-pub mod StepLaws

@@ -1,4 +1,0 @@
-pub mod PlaceLaws
-pub mod BlockLaws
-pub mod QuietLaws
-pub mod StmtLaws

@@ -1,4 +1,0 @@
-pub mod BodyLaws
-pub mod ClauseLaws
-pub mod FindsLaws
-pub mod GroupLaws

@@ -1,7 +1,0 @@
-use Rattle.check_source.specs.GroupsView.{groups_view}
-use Rattle.check_classifiers.specs.Group.{bodies_and_params}
-use Rattle.check_classifiers.proofs.FindsLaws.{FindsSoFar}
-use Rattle.check_classifiers.proofs.group.all_groups.Given as goal
-
-abbrev pub invariant-loop-it : goal.invariant-loop-it
-invariant-loop-it l = FindsSoFar bodies_and_params (groups_view l.groups) l.it-index

@@ -1,9 +1,0 @@
--- The names that forwards among headings take.
-use Rattle.std.specs.Prelude.{List, flat_map}
-use Rattle.pawn_typing.specs.Scope.{Entry}
-use Rattle.pawn_typed.specs.Headings.{Heading}
-use Rattle.pawn_typed.specs.Sources.{Source, forward_entry}
-
--- in order
-abbrev pub forwards_in : Source → List Heading → List Entry
-forwards_in source headings = flat_map (λ (it : Heading). forward_entry source it it.role) headings

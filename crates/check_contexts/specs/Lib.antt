@@ -1,6 +1,0 @@
-pub mod Declares
-pub mod Distinct
-pub mod Forwards
-pub mod HeadsView
-pub mod Own
-pub mod Stated

@@ -1,0 +1,12 @@
+use Rattle.check_nodes.specs.ContextView.{around_view}
+use Rattle.check_nodes.specs.Scopes.{scope_view}
+use Rattle.check_expressions.proofs.BracesLaws.{cell_list, fails_here}
+use Rattle.check_expressions.proofs.firsts.cell_of_list.Goals as goal
+
+pub returns-in-Braces : goal.returns-in-Braces
+returns-in-Braces c =
+    rw (
+      c.in-Braces.is,
+      cell_list (around_view c.args.cx.now) (scope_view c.args.scopes.now) c.args.at c.args.tag
+          c.in-Braces.field-0 c.in-Braces.field-1 c.in-Braces.field-2,
+    ) (fails_here _ c.args.at _ c.part_broken.ensures)

@@ -1,0 +1,10 @@
+pub mod ChainLaws
+pub mod ChoiceLaws
+pub mod IndexLaws
+pub mod LinkLaws
+pub mod OperandSignLaws
+pub mod PartLaws
+pub mod SizeLaws
+pub mod TagLaws
+pub mod TextLengthLaws
+pub mod ThreadLaws

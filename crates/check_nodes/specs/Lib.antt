@@ -1,0 +1,12 @@
+pub mod Begun
+pub mod CodeView
+pub mod Compared
+pub mod ContextView
+pub mod ExtentView
+pub mod Indexed
+pub mod MeaningView
+pub mod OperandView
+pub mod PartAnswers
+pub mod Scopes
+pub mod TypedView
+pub mod Values

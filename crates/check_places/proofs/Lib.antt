@@ -1,4 +1,0 @@
-pub mod TextLaws
-pub mod CopyLaws
-pub mod SignLaws
-pub mod UpdateLaws

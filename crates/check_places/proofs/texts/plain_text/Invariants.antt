@@ -1,5 +1,0 @@
-use Rattle.std.proofs.Common.{◌≡◌, take, map, pos}
-use Rattle.check_places.proofs.texts.plain_text.Given as goal
-
-abbrev pub invariant-loop-byte : goal.invariant-loop-byte
-invariant-loop-byte l = l.cells ≡ map pos (take l.byte-index l.fn.bytes)

@@ -1,5 +1,0 @@
-pub mod Held
-pub mod WholeView
-pub mod TargetView
-pub mod Updated
-pub mod Source

@@ -1,4 +1,0 @@
-pub mod LinkLaws
-pub mod TagLaws
-pub mod ChainLaws
-pub mod SignLaws

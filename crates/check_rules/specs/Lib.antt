@@ -1,4 +1,0 @@
-pub mod Compared
-pub mod Begun
-pub mod OperandView
-pub mod Values

@@ -1,2 +1,0 @@
-pub mod PointLaws
-mod MadeLaws

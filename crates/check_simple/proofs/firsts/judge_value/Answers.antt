@@ -1,5 +1,0 @@
-use Rattle.std.proofs.Common.{sym}
-use Rattle.check_simple.proofs.firsts.judge_value.Goals as goal
-
-pub returns-clause-tells : goal.returns-clause-tells
-returns-clause-tells c = rw c.in_ok-it.ensures.tells (sym c.judged_of.ensures)

@@ -1,5 +1,0 @@
-pub mod ThreadLaws
-pub mod ChoiceLaws
-pub mod SizeLaws
-pub mod TextLaws
-pub mod IndexLaws

@@ -1,6 +1,0 @@
-use Rattle.std.proofs.Common.{◌≡◌}
-use Rattle.check_types.specs.Scopes.{without}
-use Rattle.check_types.proofs.scopes.Scopes.forget.Given as goal
-
-abbrev pub invariant-loop-i : goal.invariant-loop-i
-invariant-loop-i l = l.self ≡ without l._i l.initial.self

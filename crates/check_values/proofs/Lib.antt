@@ -1,9 +1,0 @@
-pub mod SizeLaws
-pub mod InnerLaws
-pub mod ElementLaws
-pub mod LiteralLaws
-pub mod GoingOnLaws
-pub mod CountLaws
-pub mod BracesLaws
-pub mod BehindLaws
-pub mod BesideLaws

@@ -1,6 +1,0 @@
--- Code that only judges gives nothing.
-use Rattle.pawn_values.specs.Parts.{Judged, judged}
-
--- a part that stands
-abbrev pub judged_view : Unit {0} → Judged
-judged_view nothing = judged

@@ -1,6 +1,0 @@
-use Rattle.check_statements.specs.StoodView.{returned_view}
-use Rattle.check_whole.proofs.AgreeLaws.{SeenSoFar}
-use Rattle.check_whole.proofs.marks.all_behind.Given as goal
-
-abbrev pub invariant-loop-it : goal.invariant-loop-it
-invariant-loop-it l = SeenSoFar returned_view l.fn.mark l.returns l.last l.it-index

@@ -1,8 +1,0 @@
-use Rattle.std.proofs.Common.{map, drop}
-use Rattle.check_whole.specs.DoneView.{bodied_view}
-use Rattle.check_whole.specs.Marks.{AreMarked}
-use Rattle.check_whole.proofs.returns.returns_stand.Given as goal
-
-abbrev pub invariant-loop-it : goal.invariant-loop-it
-invariant-loop-it l =
-    AreMarked (map bodied_view l.bodies) (map bodied_view (drop l.it-index l.bodies)) l.marks.items

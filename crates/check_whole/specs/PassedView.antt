@@ -1,6 +1,0 @@
--- That no rule is broken, as code answers it: with nothing more.
-use Rattle.pawn_typed.specs.Whole.{Passed, passed}
-
--- nothing, where no rule is broken
-abbrev pub passed_view : Unit {0} → Passed
-passed_view nothing = passed

@@ -1,0 +1,211 @@
+-- Words that are read one after another.
+use Rattle.std.proofs.Common.{◌≡◌, ◌==◌, ℕ, List, [], ◌∷◌, Bool, true, false, not, Option, None}
+use Rattle.std.proofs.Common.{Some, Result, codes, length, map, take, refl, sym, ap, arith}
+use Rattle.std.proofs.Common.{true≢false, true-eqb, false-eqb}
+use Rattle.std.proofs.lemmas.Bool.{false_from_ne_true}
+use Rattle.std.specs.Option.{is_some, option_and_then}
+use Rattle.std.specs.Str.{bytes_eq}
+use Rattle.std.specs.Cmp.Lexicographic.{bytes_decides}
+use Rattle.command_parts.specs.declared.command.Command.{Command}
+use Rattle.command_parts.specs.declared.options.Options.{Options}
+use Rattle.command_parts.specs.declared.command_words.WordsFault.{WordsFault}
+use Rattle.command_parts.specs.declared.command_words.WordsFault.TheVariants.{Bad, Memory}
+use Rattle.command_parts.specs.Command.{is_plain, first_plain, optional_plain, alone, command_of}
+use Rattle.command_parts.specs.Command.{command_by, verify_of, list_of, run_of, resume_of, go_of}
+use Rattle.command_parts.specs.Command.{compile_of, compact_of, compact_word}
+use Rattle.command_parts.specs.Options.{once, options_from, with_option, with_steps, with_sleeps}
+use Rattle.command_parts.specs.Options.{with_entry}
+use Rattle.command_parts.specs.Reading.{IsBad, Reads}
+
+-- behind what isn't read nothing is
+pub none_then : {A B : Type 0} (said : Option A) (f : A → Option B) (fault : WordsFault)
+    → IsBad fault (said ≡ None)
+    → IsBad fault (option_and_then f said ≡ None)
+none_then said f Bad e = rw e refl
+none_then said f Memory e = tt
+
+-- ---- plain words
+
+same_test : (b : Bool) (xs ys : List ℕ) → (b ≡ true → xs ≡ ys) → (xs ≡ ys → b ≡ true)
+    → b ≡ bytes_eq xs ys
+same_test true xs ys f g = sym ((bytes_decides xs ys).1 (f refl))
+same_test false xs ys f g =
+    sym (false_from_ne_true (bytes_eq xs ys)
+    (λ e. true≢false (sym (g ((bytes_decides xs ys).0 e)))))
+
+pub empty_is : (word : List ℕ) → true ≡ (length word == 0) → false ≡ is_plain word
+unfolding is_plain
+empty_is [] e = refl
+empty_is (byte ∷ bytes) e = absurd (omega (arith, true-eqb (length (byte ∷ bytes)) 0 e))
+
+pub other_is : (word : List ℕ) (dashed : Bool) → false ≡ (length word == 0)
+    → (dashed ≡ true → take 2 word ≡ codes "--") → (take 2 word ≡ codes "--" → dashed ≡ true)
+    → not dashed ≡ is_plain word
+unfolding is_plain
+other_is [] dashed e f g = absurd (false-eqb 0 0 e refl)
+other_is (byte ∷ bytes) dashed e f g =
+    ap not (same_test dashed (take 2 (byte ∷ bytes)) (codes "--") f g)
+
+module _ {X : Type 0} (f : X → List ℕ) where
+  pub first_none : (words : List X) → length words ≡ 0 → first_plain (map f words) ≡ None
+  first_none [] e = refl
+  first_none (word ∷ words) e = absurd (omega (arith, e))
+
+  pub first_other : (words rest : List X) (word : X) (name : List ℕ) → words ≡ word ∷ rest
+      → name ≡ f word → false ≡ is_plain name
+      → first_plain (map f words) ≡ None
+  first_other words rest word name e n p = rw (e, ← n, sym p) refl
+
+  pub first_is : (words rest : List X) (word : X) (name copy : List ℕ) → words ≡ word ∷ rest
+      → name ≡ f word → true ≡ is_plain name
+      → copy ≡ name → first_plain (map f words) ≡ Some (copy, map f rest)
+  first_is words rest word name copy e n p c = rw (e, ← n, sym p, c) refl
+
+  pub optional_none : (words : List X) → length words ≡ 0
+      → optional_plain (map f words) ≡ (None, map f words)
+  optional_none [] e = refl
+  optional_none (word ∷ words) e = absurd (omega (arith, e))
+
+  pub optional_other : (words rest : List X) (word : X) (name : List ℕ) → words ≡ word ∷ rest
+      → name ≡ f word → false ≡ is_plain name
+      → optional_plain (map f words) ≡ (None, map f words)
+  optional_other words rest word name e n p = rw (e, ← n, sym p) refl
+
+  pub optional_is : (words rest : List X) (word : X) (name copy : List ℕ) → words ≡ word ∷ rest
+      → name ≡ f word → true ≡ is_plain name
+      → copy ≡ name → optional_plain (map f words) ≡ (Some copy, map f rest)
+  optional_is words rest word name copy e n p c = rw (e, ← n, sym p, c) refl
+
+  pub alone_is : (command : Command) (words : List X) → true ≡ (length words == 0)
+      → alone command (map f words) ≡ Some command
+  alone_is command [] e = refl
+  alone_is command (word ∷ words) e = absurd (omega (arith, true-eqb (length (word ∷ words)) 0 e))
+
+  pub alone_no : (command : Command) (words : List X) → false ≡ (length words == 0)
+      → alone command (map f words) ≡ None
+  alone_no command [] e = absurd (false-eqb 0 0 e refl)
+  alone_no command (word ∷ words) e = refl
+
+  pub compact_none : (words : List X) → length words ≡ 0 → Some false ≡ compact_of (map f words)
+  compact_none [] e = refl
+  compact_none (word ∷ words) e = absurd (omega (arith, e))
+
+  pub compact_one : (words rest : List X) (word : X) (name : List ℕ) (result : Option Bool)
+      → words ≡ word ∷ rest → name ≡ f word
+      → true ≡ (length rest == 0) → result ≡ compact_word name → result ≡ compact_of (map f words)
+  compact_one words [] word name result e n none is = rw (e, ← n) is
+  compact_one words (next ∷ rest) word name result e n none is =
+      absurd (omega (arith, true-eqb (length (next ∷ rest)) 0 none))
+
+  pub compact_more : (words rest : List X) (word : X) → words ≡ word ∷ rest
+      → false ≡ (length rest == 0) → None ≡ compact_of (map f words)
+  compact_more words [] word e more = absurd (false-eqb 0 0 more refl)
+  compact_more words (next ∷ rest) word e more = rw e refl
+
+  pub command_none : (words : List X) → length words ≡ 0 → command_of (map f words) ≡ None
+  command_none [] e = refl
+  command_none (word ∷ words) e = absurd (omega (arith, e))
+
+  pub command_is : (words rest : List X) (word : X) (name : List ℕ)
+      (result : Result Command WordsFault) → words ≡ word ∷ rest
+      → name ≡ f word → Reads (command_by name (map f rest)) result
+      → Reads (command_of (map f words)) result
+  command_is words rest word name result e n reads = rw (e, ← n) reads
+
+  -- ---- options
+
+  pub options_open : (given : Options) (words rest : List X) (flag : X) → words ≡ flag ∷ rest
+      → length rest ≡ 0
+      → options_from given (map f words) ≡ None
+  options_open given words [] flag e none = rw e refl
+  options_open given words (value ∷ rest) flag e none = absurd (omega (arith, none))
+
+  pub options_more : (given more : Options) (words others rest : List X) (flag value : X)
+      (a b : List ℕ) → words ≡ flag ∷ others
+      → others ≡ value ∷ rest → a ≡ f flag → b ≡ f value → with_option a b given ≡ Some more
+      → options_from given (map f words) ≡ options_from more (map f rest)
+  options_more given more words others rest flag value a b e o n v w = rw (e, o, ← n, ← v, w) refl
+
+  pub options_none : (given : Options) (words : List X) → length words ≡ 0
+      → options_from given (map f words) ≡ Some given
+  options_none given [] e = refl
+  options_none given (word ∷ words) e = absurd (omega (arith, e))
+
+pub once_no : {A B : Type 0} (before : Option A) (given : Option B) → true ≡ is_some before
+    → once before given ≡ None
+once_no None given e = absurd (cc e)
+once_no (Some x) given e = refl
+
+pub once_is : {A B : Type 0} (before : Option A) (given : Option B) → false ≡ is_some before
+    → once before given ≡ given
+once_is None given e = refl
+once_is (Some x) given e = absurd (cc e)
+
+module _ (flag value : List ℕ) (given : Options) (result : Result Options WordsFault) where
+  pub option_steps : true ≡ bytes_eq flag (codes "--steps") → Reads (with_steps value given) result
+      → Reads (with_option flag value given) result
+  unfolding with_option
+  option_steps a reads = rw (sym a) reads
+
+  pub option_sleeps : false ≡ bytes_eq flag (codes "--steps")
+      → true ≡ bytes_eq flag (codes "--sleeps")
+      → Reads (with_sleeps value given) result → Reads (with_option flag value given) result
+  unfolding with_option
+  option_sleeps a b reads = rw (sym a, sym b) reads
+
+  pub option_entry : false ≡ bytes_eq flag (codes "--steps")
+      → false ≡ bytes_eq flag (codes "--sleeps")
+      → true ≡ bytes_eq flag (codes "--entry") → Reads (with_entry value given) result
+      → Reads (with_option flag value given) result
+  unfolding with_option
+  option_entry a b c reads = rw (sym a, sym b, sym c) reads
+
+pub option_none : (flag value : List ℕ) (given : Options) → false ≡ bytes_eq flag (codes "--steps")
+    → false ≡ bytes_eq flag (codes "--sleeps")
+    → false ≡ bytes_eq flag (codes "--entry") → with_option flag value given ≡ None
+unfolding with_option
+option_none flag value given a b c = rw (sym a, sym b, sym c) refl
+
+-- ---- a command by its word
+
+module _ (word : List ℕ) (words : List (List ℕ)) (result : Result Command WordsFault) where
+  pub by_verify : true ≡ bytes_eq word (codes "verify") → Reads (verify_of words) result
+      → Reads (command_by word words) result
+  by_verify a reads = rw (sym a) reads
+
+  pub by_list : false ≡ bytes_eq word (codes "verify") → true ≡ bytes_eq word (codes "list")
+      → Reads (list_of words) result
+      → Reads (command_by word words) result
+  by_list a b reads = rw (sym a, sym b) reads
+
+  pub by_run : false ≡ bytes_eq word (codes "verify") → false ≡ bytes_eq word (codes "list")
+      → true ≡ bytes_eq word (codes "run")
+      → Reads (run_of words) result → Reads (command_by word words) result
+  by_run a b c reads = rw (sym a, sym b, sym c) reads
+
+  pub by_resume : false ≡ bytes_eq word (codes "verify") → false ≡ bytes_eq word (codes "list")
+      → false ≡ bytes_eq word (codes "run")
+      → true ≡ bytes_eq word (codes "resume") → Reads (resume_of words) result
+      → Reads (command_by word words) result
+  by_resume a b c d reads = rw (sym a, sym b, sym c, sym d) reads
+
+  pub by_go : false ≡ bytes_eq word (codes "verify") → false ≡ bytes_eq word (codes "list")
+      → false ≡ bytes_eq word (codes "run")
+      → false ≡ bytes_eq word (codes "resume") → true ≡ bytes_eq word (codes "go")
+      → Reads (go_of words) result
+      → Reads (command_by word words) result
+  by_go a b c d e reads = rw (sym a, sym b, sym c, sym d, sym e) reads
+
+  pub by_compile : false ≡ bytes_eq word (codes "verify") → false ≡ bytes_eq word (codes "list")
+      → false ≡ bytes_eq word (codes "run")
+      → false ≡ bytes_eq word (codes "resume") → false ≡ bytes_eq word (codes "go")
+      → true ≡ bytes_eq word (codes "compile")
+      → Reads (compile_of words) result → Reads (command_by word words) result
+  by_compile a b c d e h reads = rw (sym a, sym b, sym c, sym d, sym e, sym h) reads
+
+pub by_none : (word : List ℕ) (words : List (List ℕ)) → false ≡ bytes_eq word (codes "verify")
+    → false ≡ bytes_eq word (codes "list")
+    → false ≡ bytes_eq word (codes "run") → false ≡ bytes_eq word (codes "resume")
+    → false ≡ bytes_eq word (codes "go")
+    → false ≡ bytes_eq word (codes "compile") → command_by word words ≡ None
+by_none word words a b c d e h = rw (sym a, sym b, sym c, sym d, sym e, sym h) refl

@@ -1,0 +1,294 @@
+ghost use Rattle.std.specs.Prelude.{◌≡◌, ◌↔◌, codes, map, take, unwrap_or, Some, None, IfOk, IfErr};
+ghost use Rattle.std.specs.Prelude.{IsTrue};
+ghost use Rattle.std.specs.String.{string_bytes};
+ghost use Rattle.command_parts.specs.Reading.{Reads, IsBad};
+ghost use Rattle.command_parts.specs.Command.{command_of, command_by, compile_of, compact_of};
+ghost use Rattle.command_parts.specs.Command.{compact_word, verify_of, list_of, run_of, go_of};
+ghost use Rattle.command_parts.specs.Command.{resume_of};
+ghost use Rattle.command_parts.specs.Command.{alone, run_with, resume_with, go_with};
+ghost use Rattle.command_parts.specs.Command.{is_plain, first_plain, optional_plain};
+
+use super::command::Command;
+use super::name::Name;
+use super::options::{DEFAULT_SLEEPS, DEFAULT_STEPS, MAIN, Options, read_options};
+use pawn_base::{Bytes, Memory};
+use std::alloc::Global;
+use thiserror::Error;
+
+/// Why words are no command.
+#[derive(Clone, Copy, Debug, PartialEq, Eq, Error)]
+pub enum WordsFault {
+    #[error("bad words")]
+    Bad,
+    #[error("no memory")]
+    Memory,
+}
+
+impl From<Memory> for WordsFault {
+    ghost use Rattle.std.specs.Prelude.{◌≡◌};
+    ghost use Rattle.command_parts.specs.declared.command_words.WordsFault.TheVariants as variants;
+
+    ghost from_gives = { λ _ fault. fault ≡ variants.Memory };
+
+    fn from(_: Memory) -> WordsFault {
+        WordsFault::Memory
+    }
+}
+
+/// Reads the words behind the program's name: a command's word, its plain words in order, then
+/// options in any order.
+pub fn read_words(alloc: Global, words: &[String]) -> Result<Command, WordsFault>
+    ensures { Reads (command_of (map string_bytes words.now)) result }
+{
+    let Some((word, rest)) = words.split_first() else {
+        return Err(WordsFault::Bad);
+    };
+    read_command(alloc, word.as_str(), rest)
+}
+
+/// Reads a command by its word and the words behind it.
+fn read_command(alloc: Global, word: &str, rest: &[String]) -> Result<Command, WordsFault>
+    ensures { Reads (command_by word.now (map string_bytes rest.now)) result }
+{
+    if word == "verify" {
+        read_verify(alloc, rest)
+    } else if word == "list" {
+        read_list(alloc, rest)
+    } else if word == "run" {
+        read_run(alloc, rest)
+    } else if word == "resume" {
+        read_resume(alloc, rest)
+    } else if word == "go" {
+        read_go(alloc, rest)
+    } else if word == "compile" {
+        read_compile(alloc, rest)
+    } else {
+        Err(WordsFault::Bad)
+    }
+}
+
+fn read_verify(alloc: Global, words: &[String]) -> Result<Command, WordsFault>
+    ensures { Reads (verify_of (map string_bytes words.now)) result }
+{
+    let (amx, rest) = read_name(alloc, words)?;
+    alone(Command::Verify { amx }, rest)
+}
+
+fn read_list(alloc: Global, words: &[String]) -> Result<Command, WordsFault>
+    ensures { Reads (list_of (map string_bytes words.now)) result }
+{
+    let (amx, rest) = read_name(alloc, words)?;
+    alone(Command::List { amx }, rest)
+}
+
+fn read_run(alloc: Global, words: &[String]) -> Result<Command, WordsFault>
+    ensures { Reads (run_of (map string_bytes words.now)) result }
+{
+    let (amx, words) = read_name(alloc, words)?;
+    let (script, words) = read_name(alloc, words)?;
+    let (image, words) = read_name(alloc, words)?;
+    let options = read_options(alloc, words)?;
+    run_with(alloc, amx, script, image, options)
+}
+
+fn read_resume(alloc: Global, words: &[String]) -> Result<Command, WordsFault>
+    ensures { Reads (resume_of (map string_bytes words.now)) result }
+{
+    let (amx, words) = read_name(alloc, words)?;
+    let (script, words) = read_name(alloc, words)?;
+    let (image, words) = read_name(alloc, words)?;
+    let options = read_options(alloc, words)?;
+    resume_with(amx, script, image, options)
+}
+
+fn read_go(alloc: Global, words: &[String]) -> Result<Command, WordsFault>
+    ensures { Reads (go_of (map string_bytes words.now)) result }
+{
+    let (src, words) = read_name(alloc, words)?;
+    let (amx, words) = read_name(alloc, words)?;
+    let (script, words) = read_optional_name(alloc, words)?;
+    let options = read_options(alloc, words)?;
+    go_with(src, amx, script, options)
+}
+
+fn read_compile(alloc: Global, words: &[String]) -> Result<Command, WordsFault>
+    ensures { Reads (compile_of (map string_bytes words.now)) result }
+{
+    let (src, words) = read_name(alloc, words)?;
+    let (amx, words) = read_name(alloc, words)?;
+    match read_compact(words) {
+        Some(compact) => Ok(Command::Compile { src, amx, compact }),
+        None => Err(WordsFault::Bad),
+    }
+}
+
+/// Whether compact cells are asked for, by the words behind the plain ones.
+fn read_compact(words: &[String]) -> Option<bool>
+    ensures { result ≡ compact_of (map string_bytes words.now) }
+{
+    let Some((word, rest)) = words.split_first() else {
+        return Some(false);
+    };
+    if rest.is_empty() {
+        return compact_word(word.as_str());
+    }
+    None
+}
+
+/// That compact cells are asked for, by the one word that says so.
+fn compact_word(word: &str) -> Option<bool>
+    ensures { result ≡ compact_word word.now }
+{
+    if word == "--compact" {
+        Some(true)
+    } else {
+        None
+    }
+}
+
+/// A command with no words behind it.
+fn alone(command: Command, words: &[String]) -> Result<Command, WordsFault>
+    ensures { Reads (alone command (map string_bytes words.now)) result }
+{
+    if words.is_empty() {
+        Ok(command)
+    } else {
+        Err(WordsFault::Bad)
+    }
+}
+
+/// `run` with its options.
+fn run_with(
+    alloc: Global,
+    amx: Name,
+    script: Name,
+    image: Name,
+    options: Options,
+) -> Result<Command, WordsFault>
+    ensures { Reads (run_with amx script image options) result }
+{
+    let Options {
+        steps,
+        sleeps,
+        entry,
+    } = options;
+    if sleeps.is_some() {
+        return Err(WordsFault::Bad);
+    }
+    let entry = entry_or_main(alloc, entry)?;
+    Ok(Command::Run {
+        amx,
+        script,
+        image,
+        steps: steps.unwrap_or(DEFAULT_STEPS),
+        entry,
+    })
+}
+
+/// `resume` with its options.
+fn resume_with(
+    amx: Name,
+    script: Name,
+    image: Name,
+    options: Options,
+) -> Result<Command, WordsFault>
+    ensures { Reads (resume_with amx script image options) result }
+{
+    if options.sleeps.is_some() {
+        return Err(WordsFault::Bad);
+    }
+    if options.entry.is_some() {
+        return Err(WordsFault::Bad);
+    }
+    Ok(Command::Resume {
+        amx,
+        script,
+        image,
+        steps: options.steps.unwrap_or(DEFAULT_STEPS),
+    })
+}
+
+/// `go` with its options.
+fn go_with(
+    src: Name,
+    amx: Name,
+    script: Option<Name>,
+    options: Options,
+) -> Result<Command, WordsFault>
+    ensures { Reads (go_with src amx script options) result }
+{
+    if options.entry.is_some() {
+        return Err(WordsFault::Bad);
+    }
+    Ok(Command::Go {
+        src,
+        amx,
+        script,
+        steps: options.steps.unwrap_or(DEFAULT_STEPS),
+        sleeps: options.sleeps.unwrap_or(DEFAULT_SLEEPS),
+    })
+}
+
+/// The entry that is given, or else main.
+fn entry_or_main(alloc: Global, entry: Option<Bytes>) -> Result<Bytes, WordsFault>
+    ensures given { IfOk result (λ name. name ≡ unwrap_or entry MAIN) }
+    ensures free { IfErr result (λ fault. fault ≡ WordsFault.Memory) }
+{
+    match entry {
+        Some(name) => Ok(name),
+        None => Ok(Bytes::from_slice(alloc, &MAIN)?),
+    }
+}
+
+/// Reads a plain word, and gives the words behind it.
+fn read_name(alloc: Global, words: &[String]) -> Result<(Name, &[String]), WordsFault>
+    ensures plain { IfOk result (λ it. first_plain (map string_bytes words.now)
+        ≡ Some (it.0, map string_bytes it.1.now)) }
+    ensures bad { IfErr result (λ fault.
+        IsBad fault (first_plain (map string_bytes words.now) ≡ None)) }
+{
+    let Some((word, rest)) = words.split_first() else {
+        return Err(WordsFault::Bad);
+    };
+    if is_plain(word.as_str()) {
+        let name = Name::from_str(alloc, word.as_str())?;
+        return Ok((name, rest));
+    }
+    Err(WordsFault::Bad)
+}
+
+/// Reads a plain word that may be left out.
+fn read_optional_name(
+    alloc: Global,
+    words: &[String],
+) -> Result<(Option<Name>, &[String]), WordsFault>
+    ensures taken { IfOk result (λ it. optional_plain (map string_bytes words.now)
+        ≡ (it.0, map string_bytes it.1.now)) }
+    ensures free { IfErr result (λ fault. fault ≡ WordsFault.Memory) }
+{
+    let Some((word, rest)) = words.split_first() else {
+        return Ok((None, words));
+    };
+    if is_plain(word.as_str()) {
+        let name = Name::from_str(alloc, word.as_str())?;
+        return Ok((Some(name), rest));
+    }
+    Ok((None, words))
+}
+
+/// Whether a word isn't empty and isn't an option.
+fn is_plain(word: &str) -> bool
+    ensures { result ≡ is_plain word.now }
+{
+    if word.is_empty() {
+        return false;
+    }
+    !is_option(word)
+}
+
+/// Whether a word begins with two hyphens.
+fn is_option(word: &str) -> bool
+    ensures { IsTrue result ↔ (take 2 word.now ≡ codes "--") }
+{
+    word.starts_with("--")
+}

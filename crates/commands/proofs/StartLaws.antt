@@ -1,0 +1,205 @@
+-- A start, and the trace from there.
+use Rattle.std.proofs.Common.{◌≡◌, ◌≢◌, ◌∙◌, ℕ, ℤ, pos, List, [], Option, None, Some, Ok, Err}
+use Rattle.std.proofs.Common.{Result, option_and_then, refl, sym, ap, subst, IsTrue, is_some}
+use Rattle.pawn_outside.specs.Held.{Held}
+use Rattle.host_script.specs.declared.event.End.{End}
+use Rattle.host_script.specs.declared.event.End.TheVariants as end
+use Rattle.host_script.specs.Text.{end_text}
+use Rattle.amx_ops.specs.declared.amx.Amx.{Amx}
+use Rattle.amx_ops.specs.State.{State}
+use Rattle.amx_ops.specs.Moves.{Config, move}
+use Rattle.amx_ops.specs.Runs.{Stop, Segmented, Traced, Over_by, segment}
+use Rattle.amx_ops.specs.Trace.{start_at, loaded, begun, trace_by}
+use Rattle.amx_machine.specs.Machine.{Machine}
+use Rattle.amx_machine.specs.Starts.{StartsSo, address_by, started, error_of}
+use Rattle.amx_machine.specs.declared.start.StartFault.{StartFault}
+use Rattle.amx_machine.specs.declared.start.StartFault.TheVariants as fault
+use Rattle.command_parts.specs.declared.status.Status.{Status}
+use Rattle.command_parts.specs.declared.status.Status.TheVariants as status
+use Rattle.command_parts.specs.declared.program.Program.{Program}
+use Rattle.host_script.specs.Ranges.{IsScript}
+use Rattle.host_run.specs.Segments.{segment_of}
+use Rattle.commands.specs.declared.ready_segment.Ready.{Ready}
+use Rattle.commands.specs.declared.run_words.RunWords.{RunWords}
+use Rattle.commands.specs.Entry.{IsEntryOf}
+use Rattle.commands.specs.Finishes.{Finishes, ended, cut_off}
+use Rattle.commands.specs.Prepared.{CanRun, IsPrepared}
+use Rattle.commands.specs.ReadySegment.{IsReady}
+use Rattle.commands.specs.Runs.{RunsFile, trace_of}
+use Rattle.command_parts.specs.Told.{Told, Writes, status_told}
+use Rattle.commands.proofs.EntryLaws.{started_is}
+use Rattle.commands.proofs.SegmentReadyLaws.{is_ready}
+
+module _ (m : Machine) (number : ℤ) (address : ℤ)
+    (at : address_by m.amx number ≡ Some address) where
+  at_address : started m number [] ≡ start_at m.amx address [] m.state
+  at_address = ap (option_and_then (λ a. start_at m.amx a [] m.state)) at
+
+  pub starts_there : (T : Type 0) (t : T) (new : Machine) → StartsSo m number [] (Ok t) new
+      → start_at m.amx address [] m.state ≡ Some new.state
+  starts_there T t new it = sym at_address ∙ it.0
+
+  -- an entry that is there finds no room
+  pub no_room : (T : Type 0) (f : StartFault) (new : Machine)
+      → StartsSo {T = T} m number [] (Err f) new
+      → (start_at m.amx address [] m.state ≡ None) × (error_of f ≡ pos 3)
+  no_room T fault.Index new it = absurd (cc (at, it.0))
+  no_room T fault.Stack new it = (sym at_address ∙ it.1, refl)
+
+module _ {S : Type 0} (writes : Writes S) (held : Option Held) (image : List ℕ) (program : Program)
+    (address : ℤ) (bound : ℕ) (old new : S) where
+  abbrev idle : State
+  idle = loaded program.file program.file.room
+
+  abbrev traced_by : Option State → Traced Config End
+  traced_by o = trace_by program.file program.script idle o bound []
+
+  abbrev IsFinish : Option Held → Stop End → Config → Status → Type 0
+  IsFinish after stop c answer =
+      Finishes writes held after image program.digest stop c old new answer
+
+  -- it ends in error 3, where nothing was shown
+  ends_by : (o : Option State) (told : Told) (answer : Status) → o ≡ None
+      → writes old new (end_text (end.Error (pos 3))) told
+      → answer ≡ status_told status.Ended told
+      → IsFinish held (traced_by o).stop (traced_by o).config answer
+  ends_by None (Ok done) answer e line is =
+      let P : Status → Type 0 = IsFinish held (Over_by (end.Error (pos 3))) (begun idle) in
+      subst P (sym is) (ended (λ f. absurd (cc f)) line refl)
+  ends_by None (Err fault) answer e line is =
+      let P : Status → Type 0 = IsFinish held (Over_by (end.Error (pos 3))) (begun idle) in
+      subst P (sym is) (cut_off fault line refl)
+  ends_by (Some s) told answer e line is = absurd (cc e)
+
+  pub ends_at_once : (told : Told) (answer : Status) → start_at program.file address [] idle ≡ None
+      → writes old new (end_text (end.Error (pos 3))) told → answer ≡ status_told status.Ended told
+      → (let trace = trace_of program address bound in IsFinish held trace.stop trace.config answer)
+  ends_at_once told answer e line is =
+      ends_by (start_at program.file address [] idle) told answer e line is
+
+  -- or as its segment does
+  abbrev made : State → Segmented Config End
+  made s = segment (move program.file program.script) bound 0 (begun s)
+
+  segment_by : (o : Option State) (after : Option Held) (answer : Status) (s : State) → o ≡ Some s
+      → IsFinish after (made s).stop (made s).config answer
+      → IsFinish after (traced_by o).stop (traced_by o).config answer
+  segment_by None after answer s e it = absurd (cc e)
+  segment_by (Some t) after answer s e it =
+      let same : t ≡ s = cc e in
+      let P : State → Type 0 = λ u. IsFinish after (made u).stop (made u).config answer in
+      subst P (sym same) it
+
+  pub ends_so : (after : Option Held) (answer : Status) (s : State)
+      → start_at program.file address [] idle ≡ Some s
+      → IsFinish after (made s).stop (made s).config answer
+      → (let trace = trace_of program address bound in IsFinish after trace.stop
+      trace.config answer)
+  ends_so after answer s e it =
+      segment_by (start_at program.file address [] idle) after answer s e it
+
+-- ---- a machine of a program
+
+module _ (program : Program) (ready : Ready) (name : List ℕ) (number : ℤ)
+    (prepared : IsPrepared program ready)
+    (there : IsEntryOf program.file name (Some number)) where
+  at_there : address_by ready.machine.amx number ≡ Some there.0
+  at_there = ap (λ (m : Machine). address_by m.amx number) prepared.machine ∙ there.2
+
+  idle_there : (o : Option State) → start_at ready.machine.amx there.0 [] ready.machine.state ≡ o
+      → start_at program.file there.0 [] (loaded program.file program.file.room) ≡ o
+  idle_there o e =
+      sym (ap (λ (m : Machine). start_at m.amx there.0 [] m.state) prepared.machine) ∙ e
+
+  module _ (m : Machine) (begins : StartsSo {T = Unit {0}} ready.machine number [] (Ok tt) m) where
+    from_there : start_at ready.machine.amx there.0 [] ready.machine.state ≡ Some m.state
+    from_there = starts_there ready.machine number there.0 at_there (Unit {0}) tt m begins
+
+    pub ready_at : CanRun program.file → IsScript program.script
+        → IsReady program (record ready { machine = m })
+    ready_at can script =
+        let state =
+        started_is program.file (loaded program.file program.file.room) m.state there.0
+        can.runnable can.first (idle_there (Some m.state) from_there) number there.2 in
+        is_ready program ready prepared can script m begins.1 begins.2 there.0 from_there state
+
+    -- its segment is the program's
+    pub segment_is : (bound : ℕ) → segment_of program.script
+        (record { machine = m; position = ready.at }) bound
+        ≡ segment (move program.file program.script) bound 0 (begun m.state)
+    segment_is bound =
+        let file : m.amx ≡ program.file =
+        begins.1 ∙ ap (λ (it : Machine). it.amx) prepared.machine in
+        let from : ℕ → Config = λ p. record { state = m.state; position = p; events = [] } in
+        ap (λ amx. segment (move amx program.script) bound 0 (from ready.at)) file
+        ∙ ap (λ p. segment (move program.file program.script) bound 0 (from p)) prepared.position
+
+    pub start_is : start_at program.file there.0 [] (loaded program.file program.file.room)
+        ≡ Some m.state
+    start_is = idle_there (Some m.state) from_there
+
+pub ready_there : (program : Program) (ready : Ready) (name : List ℕ) (number : ℤ)
+    → IsPrepared program ready → CanRun program.file
+    → IsScript program.script → IsEntryOf program.file name (Some number) → (m : Machine)
+    → StartsSo {T = Unit {0}} ready.machine number [] (Ok tt) m
+    → IsReady program (record ready { machine = m })
+ready_there program ready name number prepared can script there m begins =
+    ready_at program ready name number prepared there m begins can script
+
+pub finishes_there : {S : Type 0} (writes : Writes S) (program : Program) (ready : Ready)
+    (words : RunWords) (number : ℤ)
+    (prepared : IsPrepared program ready)
+    (there : IsEntryOf program.file words.entry.now (Some number)) (m : Machine)
+    → StartsSo {T = Unit {0}} ready.machine number [] (Ok tt) m → (image : List ℕ)
+    → image ≡ words.image.now → (held after : Option Held) (old new : S) (answer : Status)
+    →
+    (let made = segment_of program.script (record { machine = m; position = ready.at }) words.steps in
+    Finishes writes held after image program.digest made.stop made.config old new answer)
+    → RunsFile writes program words held after old new answer
+finishes_there writes program ready words number prepared there m begins image named held after old
+    new answer it =
+    let P : Segmented Config End → Type 0 =
+    λ made. Finishes writes held after words.image.now program.digest made.stop made.config
+    old new answer in
+    let Q : List ℕ → Type 0 = λ i.
+    (let made = segment_of program.script (record { machine = m; position = ready.at }) words.steps in
+    Finishes writes held after i program.digest made.stop made.config old new answer) in
+    let same =
+    segment_is program ready words.entry.now number prepared there m begins words.steps in
+    record {
+      address = there.0;
+      entry = there.1;
+      served = prepared.served;
+      finishes =
+          ends_so writes held words.image.now program there.0 words.steps old new after
+          answer m.state
+          (start_is program ready words.entry.now number prepared there m begins)
+          (subst P same (subst Q named it));
+    }
+
+pub finishes_at_once : {S : Type 0} (writes : Writes S) (program : Program) (ready : Ready)
+    (words : RunWords) (number : ℤ)
+    (prepared : IsPrepared program ready)
+    (there : IsEntryOf program.file words.entry.now (Some number)) (f : StartFault)
+    (m : Machine)
+    → StartsSo {T = Unit {0}} ready.machine number [] (Err f) m → (code : ℤ) → code ≡ error_of f
+    → (held : Option Held) (old new : S) (told : Told)
+    (answer : Status) → writes old new (end_text (end.Error code)) told
+    → answer ≡ status_told status.Ended told
+    → RunsFile writes program words held held old new answer
+finishes_at_once {S} writes program ready words number prepared there f m failed code e held old new
+    told answer line is =
+    let none =
+    no_room ready.machine number there.0
+    (at_there program ready words.entry.now number prepared there)
+    (Unit {0}) f m failed in
+    let P : ℤ → Type 0 = λ z. writes old new (end_text (end.Error z)) told in
+    record {
+      address = there.0;
+      entry = there.1;
+      served = prepared.served;
+      finishes =
+          ends_at_once writes held words.image.now program there.0 words.steps old new told answer
+          (idle_there program ready words.entry.now number prepared there None none.0)
+          (subst P (e ∙ none.1) line) is;
+    }

@@ -1,0 +1,23 @@
+use Rattle.std.proofs.Common.{refl}
+use Rattle.command_parts.proofs.FaultCountLaws.{calls_stopped, calls_other}
+use Rattle.commands.proofs.GoFileLaws.{makes_none, makes_put}
+use Rattle.commands.proofs.goes.make.Goals as goal
+
+pub returns-in-Ok-clause-answer : goal.returns-in-Ok-clause-answer
+returns-in-Ok-clause-answer g c =
+    makes_put c.args.words c.args.prepared.now _ _ _ _ c.tell_and_run.result c.as_str.ensures
+    c.as_slice.ensures c.in-Ok.ensures.answer
+    c.tell_and_run.ensures.answer
+
+pub returns-in-Ok-clause-calls : goal.returns-in-Ok-clause-calls
+returns-in-Ok-clause-calls g c = calls_other c.tell_and_run.ensures.fault c.in-Ok.ensures.calls
+
+pub returns-in-Err-clause-answer : goal.returns-in-Err-clause-answer
+returns-in-Err-clause-answer g c =
+    makes_none c.args.words c.args.prepared.now _ _ _ c.in-Err.stop c.tell_stop.result
+    c.as_str.ensures c.in-Err.ensures.answer
+    c.tell_stop.ensures
+
+pub returns-in-Err-clause-calls : goal.returns-in-Err-clause-calls
+returns-in-Err-clause-calls g c =
+    calls_stopped c.in-Err.stop c.tell_stop.result c.in-Err.ensures.calls refl c.tell_stop.ensures

@@ -1,0 +1,29 @@
+use Rattle.command_parts.proofs.FaultCountLaws.{stop_no_fault}
+use Rattle.commands.proofs.GoFileLaws.{natives_fit, reads_none, reads_same, run_no_fault}
+use Rattle.commands.proofs.MadeLaws.{file_no_fault}
+use Rattle.commands.proofs.goes.run_bytes.Goals as goal
+
+pub run_file-requires-clause-natives : goal.run_file-requires-clause-natives
+run_file-requires-clause-natives g c =
+    natives_fit c.as_slice.result.now c.in-Ok.file c.in-Ok.ensures
+
+pub returns-in-Ok-clause-answer : goal.returns-in-Ok-clause-answer
+returns-in-Ok-clause-answer g c =
+    reads_same c.args.prepared.now.compiled.bytes c.as_slice.result.now c.args.prepared.now.script
+    c.args.words.steps c.args.words.sleeps c.in-Ok.file
+    c.run_file.result c.as_slice.ensures c.in-Ok.ensures c.run_file.ensures
+
+pub returns-in-Ok-clause-fault : goal.returns-in-Ok-clause-fault
+returns-in-Ok-clause-fault g c =
+    run_no_fault c.in-Ok.file _ _ _ c.run_file.result c.run_file.ensures
+
+pub returns-in-Err-clause-answer : goal.returns-in-Err-clause-answer
+returns-in-Err-clause-answer g c =
+    reads_none c.args.prepared.now.compiled.bytes c.as_slice.result.now c.args.prepared.now.script
+    c.args.words.steps c.args.words.sleeps c.in-Err.stop
+    c.tell_stop.result c.as_slice.ensures c.in-Err.ensures c.tell_stop.ensures
+
+pub returns-in-Err-clause-fault : goal.returns-in-Err-clause-fault
+returns-in-Err-clause-fault g c =
+    stop_no_fault c.in-Err.stop c.tell_stop.result
+    (file_no_fault c.as_slice.result.now c.in-Err.stop c.in-Err.ensures) c.tell_stop.ensures

@@ -1,0 +1,28 @@
+use Rattle.std.proofs.Common.{refl}
+use Rattle.command_parts.proofs.FaultCountLaws.{only_calls, calls_then, calls_stopped}
+use Rattle.commands.proofs.RunLaws.{within, stops_unread, runs_good}
+use Rattle.commands.proofs.runs.run.Goals as goal
+
+pub run_program-requires-clause-limits : goal.run_program-requires-clause-limits
+run_program-requires-clause-limits g c = within _ _ _ c.in-Ok.program c.in-Ok.ensures.answer
+
+pub returns-in-Ok-clause-answer : goal.returns-in-Ok-clause-answer
+returns-in-Ok-clause-answer g c =
+    runs_good c.args.words _ _ _ _ _ c.in-Ok.program c.run_program.result c.as_str.ensures
+    c.as_str-2.ensures c.in-Ok.ensures.answer
+    c.in-Ok.ensures.calls.same c.run_program.ensures.answer
+
+pub returns-in-Ok-clause-calls : goal.returns-in-Ok-clause-calls
+returns-in-Ok-clause-calls g c =
+    calls_then (only_calls c.in-Ok.ensures.calls) c.run_program.ensures.calls
+
+pub returns-in-Err-clause-answer : goal.returns-in-Err-clause-answer
+returns-in-Err-clause-answer g c =
+    stops_unread c.args.words _ _ _ _ c.in-Err.stop c.tell_stop.result c.as_str.ensures
+    c.as_str-2.ensures c.in-Err.ensures.answer
+    c.in-Err.ensures.calls.same c.tell_stop.ensures
+
+pub returns-in-Err-clause-calls : goal.returns-in-Err-clause-calls
+returns-in-Err-clause-calls g c =
+    calls_stopped c.in-Err.stop c.tell_stop.result
+    (only_calls c.in-Err.ensures.calls) refl c.tell_stop.ensures

@@ -1,0 +1,52 @@
+use Rattle.std.proofs.Common.{◌≡◌, ◌∙◌, rules, w32, FitsSigned, refl, sym, ap, subst, List, [], ℕ}
+use Rattle.std.proofs.Common.{ℤ, Ok, Err}
+use Rattle.std.proofs.lemmas.Int.{to_z-of_z}
+use Rattle.command_parts.specs.declared.status.Status.TheVariants as status
+use Rattle.amx_machine.specs.Machine.{Machine, IsIdle}
+use Rattle.amx_machine.specs.Starts.{StartsSo}
+use Rattle.command_parts.proofs.FaultCountLaws.{calls_nothing, told_other}
+use Rattle.commands.proofs.StartLaws.{ready_there, finishes_there, finishes_at_once}
+use Rattle.commands.proofs.runs.start.Goals as goal
+
+pub start-requires : goal.start-requires
+start-requires g c = subst (λ (m : Machine). IsIdle m.mode) (sym c.requires.prepared.machine) tt
+
+pub run_on-requires : goal.run_on-requires
+run_on-requires g c =
+    let fits : FitsSigned w32 c.args.entry = search rules in
+    let started = rw (to_z-of_z w32 c.args.entry fits) at c.in-Ok.ensures in
+    ready_there c.args.program.now c.args.ready c.args.words.entry.now c.args.entry
+    c.requires.prepared c.requires.can c.requires.script
+    c.requires.there c.start.new.self started
+
+pub returns-in-Ok-clause-answer : goal.returns-in-Ok-clause-answer
+returns-in-Ok-clause-answer g c =
+    let fits : FitsSigned w32 c.args.entry = search rules in
+    let started = rw (to_z-of_z w32 c.args.entry fits) at c.in-Ok.ensures in
+    finishes_there _ c.args.program.now c.args.ready c.args.words c.args.entry c.requires.prepared
+    c.requires.there c.start.new.self started
+    c.as_str.result.now c.as_str.ensures _ _ c.args.out.now c.run_on.new.out c.run_on.result
+    c.run_on.ensures.answer
+
+pub returns-in-Ok-clause-calls : goal.returns-in-Ok-clause-calls
+returns-in-Ok-clause-calls g c = c.run_on.ensures.calls
+
+pub returns-in-Err-clause-answer : goal.returns-in-Err-clause-answer
+returns-in-Err-clause-answer g c =
+    let fits : FitsSigned w32 c.args.entry = search rules in
+    let P : ℤ → Type 0 =
+    λ z. StartsSo {T = Unit {0}} c.args.ready.machine z []
+    (Err c.in-Err.fault) c.start.new.self in
+    let failed = subst P (to_z-of_z w32 c.args.entry fits) c.in-Err.ensures in
+    let code_fits : FitsSigned w32 c.code.result = search rules in
+    finishes_at_once _ c.args.program.now c.args.ready c.args.words c.args.entry c.requires.prepared
+    c.requires.there c.in-Err.fault
+    c.start.new.self failed c.code.result c.code.ensures _ c.args.out.now c.say_end.new.out
+    c.say_end.result c.told.result
+    (rw (to_z-of_z w32 c.code.result code_fits) at c.say_end.ensures) c.told.ensures
+
+pub returns-in-Err-clause-calls : goal.returns-in-Err-clause-calls
+returns-in-Err-clause-calls g c =
+    calls_nothing c.args.files.now
+    (λ e. told_other status.Ended c.say_end.result (λ f. absurd (cc f))
+    (sym c.told.ensures ∙ e))

@@ -1,0 +1,24 @@
+pub mod Compiles
+pub mod Done
+pub mod Entry
+pub mod Finishes
+pub mod Goes
+pub mod Good
+pub mod GoodCompile
+pub mod GoodGo
+pub mod GoodImage
+pub mod GoodSource
+pub mod ImageLine
+pub mod Lines
+pub mod Made
+pub mod Meant
+pub mod Natives
+pub mod Played
+pub mod Prepared
+pub mod ReadyFile
+pub mod ReadySegment
+pub mod Restored
+pub mod Resumes
+pub mod Runs
+pub mod RunsFile
+pub use Rattle.pawn_front.specs as PawnFront

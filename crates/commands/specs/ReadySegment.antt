@@ -1,0 +1,24 @@
+-- A machine of a program that a segment can be run of.
+use Rattle.std.specs.Prelude.{◌≡◌, ◌+◌, ◌*◌, ◌≤◌, length}
+use Rattle.host_script.specs.Ranges.{IsScript}
+use Rattle.amx_ops.specs.Keeps.{IsRunnable}
+use Rattle.amx_ops.specs.States.{IsState}
+use Rattle.host_run.specs.Bound.{bound_of}
+use Rattle.host_run.specs.Segments.{Place}
+use Rattle.host_run.specs.Stands.{IsAwake}
+use Rattle.amx_image.specs.declared.place.TheConstants.{CELLS}
+use Rattle.command_parts.specs.declared.program.Program.{Program}
+use Rattle.commands.specs.declared.ready_segment.Ready.{Ready}
+
+-- where its segment begins
+abbrev pub place_of : Ready → Place
+place_of ready = record { machine = ready.machine; position = ready.at }
+
+-- it is running or at a sleep, natives are bound to the script, and there is room for an image
+pub record IsReady (program : Program) (ready : Ready) : Type 0 where
+  pub awake : IsAwake ready.machine.mode
+  pub script : IsScript program.script
+  pub bound : ready.bound ≡ bound_of program.script ready.machine.amx.natives
+  pub runnable : IsRunnable ready.machine.amx
+  pub state : IsState ready.machine.amx ready.machine.state
+  pub room : CELLS + 4 * length ready.machine.state.cells ≤ ready.buffer.room

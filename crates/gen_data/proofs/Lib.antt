@@ -1,2 +1,0 @@
-pub mod AddressLaws
-pub mod DataLaws

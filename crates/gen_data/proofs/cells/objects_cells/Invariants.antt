@@ -1,9 +1,0 @@
-use Rattle.std.proofs.Common.{◌≡◌, ◌++◌, map, drop}
-use Rattle.pawn_program.specs.View.{object_view}
-use Rattle.gen_data.specs.Data.{objects_data}
-use Rattle.gen_data.proofs.cells.objects_cells.Given as goal
-
-abbrev pub invariant-loop-object : goal.invariant-loop-object
-invariant-loop-object l =
-    l.all ++ objects_data (map object_view (drop l.object-index l.objects))
-    ≡ objects_data (map object_view l.objects)

@@ -1,4 +1,0 @@
-pub mod ChoiceLaws
-pub mod GrownLaws
-pub mod LedLaws
-pub mod LoopLaws

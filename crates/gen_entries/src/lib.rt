@@ -1,6 +1,0 @@
-//! Which function a switch to a state calls.
-#![tactic(auto)]
-
-mod entries;
-
-pub use entries::entry;

@@ -1,4 +1,0 @@
-pub mod FewLaws
-pub mod FileLaws
-pub mod LinkLaws
-pub mod WritableLaws

@@ -1,4 +1,0 @@
-pub mod Few
-pub mod Linked
-pub mod Records
-pub mod Starts

@@ -1,0 +1,234 @@
+-- The calls in the code of a valid expression.
+use Rattle.std.proofs.Common.{◌+◌, ◌*◌, ℕ, pos, List, [], ◌∷◌, ◌++◌, Option, None, Some}
+use Rattle.std.specs.Prelude.{IfSome}
+use Rattle.pawn_meaning.specs.Program.{Scalar, Global, Own, Through, Element, Char, Array, Object}
+use Rattle.pawn_meaning.specs.Program.{SlotArray, ParamArray, Row, From, Expr, Const, Read, Unary}
+use Rattle.pawn_meaning.specs.Program.{Binary, Chain, And, Or, Cond, Assign, Update, UpdateBy, Step}
+use Rattle.pawn_meaning.specs.Program.{StepBy, Copy, Operate, OperateOne, Call, Native, Seq, Links}
+use Rattle.pawn_meaning.specs.Program.{no_links, then_link, Arg, Value, Ref, Whole, Temp, Args}
+use Rattle.pawn_meaning.specs.Program.{no_args, then_arg, Slot}
+use Rattle.pawn_meaning.specs.Scope.{Scope, extent}
+use Rattle.pawn_meaning.specs.ValidExprs.{Takes, IsOperator, IsValidScalar, IsValidArray}
+use Rattle.pawn_meaning.specs.ValidExprs.{IsValidExpr, AreValidLinks, IsValidArg, AreValidArgs}
+use Rattle.pawn_meaning.specs.Need.{count_of}
+use Rattle.amx_ops.specs.declared.op.Op.TheVariants as op
+use Rattle.gen_sim.specs.Items.{Item, CallOf, past}
+use Rattle.gen_sim.specs.Results.{temporaries_in}
+use Rattle.gen_sim.specs.SimpleCode.{alone, taking, operator_code, const_code, prefix_op}
+use Rattle.gen_sim.specs.SimpleCode.{waiting_code}
+use Rattle.gen_sim.specs.AccessCode.{load_code, store_code, changed_code, stepped_code, turned_code}
+use Rattle.gen_sim.specs.JumpCode.{other_at, choice_code, truth_code}
+use Rattle.gen_sim.specs.IndexCode.{bounds_code, in_characters}
+use Rattle.gen_sim.specs.CallCode.{one_code, two_code, convert_code, give_back_code}
+use Rattle.gen_sim.specs.ChainCode.{link_code, fail_at}
+use Rattle.gen_laws.specs.ExprCode.{known_size, others_at, linked_with, place_items, array_items}
+use Rattle.gen_laws.specs.ExprCode.{value_items, links_items, arg_items, args_items}
+use Rattle.gen_laws.specs.Called.{AreCalled}
+use Rattle.gen_laws.proofs.CalledItems.{both_called, waiting_called, choice_called}
+use Rattle.gen_laws.proofs.CalledItems.{operator_called, load_called, store_called}
+use Rattle.gen_laws.proofs.CalledItems.{bounds_called, give_back_called, changed_called}
+use Rattle.gen_laws.proofs.CalledItems.{stepped_called, turned_called, two_called}
+use Rattle.gen_laws.proofs.CalledItems.{convert_called, link_called, link_with_called}
+use Rattle.gen_laws.proofs.CalledItems.{linked_called}
+
+module _ (C : ℕ → Type 0) (scope : Scope)
+    (known : (f : ℕ) (params : List Slot) → Takes scope.program f params → C f) where
+  if_known : (count : ℕ) (f : Option ℕ) → IfSome f (IsOperator scope count) → IfSome f C
+  if_known count None h = tt
+  if_known count (Some f) h = known f _ h
+
+  -- an array, an index, the check of its bounds, and what is done with both
+  indexed_called : (array index : List Item) (size : Option ℕ) (last : List Item)
+      → AreCalled C array → AreCalled C index → AreCalled C last
+      → AreCalled C (waiting_code array index (bounds_code size ++ last))
+  indexed_called array index size last a i l =
+      waiting_called C array index (bounds_code size ++ last) a i
+      (both_called C (bounds_code size) last (bounds_called C size) l)
+
+  mutual
+    pub place_called : (p : Scalar) → IsValidScalar scope p → (begin : ℕ)
+        → AreCalled C (place_items scope begin p)
+    place_called (Global o) h begin = tt
+    place_called (Own s) h begin = tt
+    place_called (Through s) h begin = tt
+    place_called (Element a e) h begin =
+        let array = array_items scope begin a in
+        let q = past begin array + 4 in
+        indexed_called array (value_items scope q e) (known_size (extent scope a))
+        (alone op.PopAlt ∷ alone op.Idxaddr ∷ []) (array_called a h.1 begin) (value_called e h.2 q) tt
+    place_called (Char a e) h begin =
+        let array = array_items scope begin a in
+        let q = past begin array + 4 in
+        let size = in_characters (known_size (extent scope a)) in
+        let last = taking op.AlignPri (pos 1) ∷ alone op.PopAlt ∷ alone op.Add ∷ [] in
+        indexed_called array (value_items scope q e) size last (array_called a h.1 begin)
+        (value_called e h.2 q) tt
+
+    pub array_called : (a : Array) → IsValidArray scope a → (begin : ℕ)
+        → AreCalled C (array_items scope begin a)
+    array_called (Object o) h begin = tt
+    array_called (SlotArray s) h begin = tt
+    array_called (ParamArray s known_here) h begin = tt
+    array_called (Row a e) h begin =
+        let array = array_items scope begin a in
+        let q = past begin array + 4 in
+        let last =
+        alone op.PopAlt ∷ alone op.Idxaddr ∷ alone op.MoveAlt ∷ alone op.LoadI
+        ∷ alone op.Add ∷ [] in
+        indexed_called array (value_items scope q e) (known_size (extent scope a)) last
+        (array_called a h.1 begin) (value_called e h.2 q) tt
+    array_called (From a e) h begin =
+        let array = array_items scope begin a in
+        let q = past begin array + 4 in
+        indexed_called array (value_items scope q e) (known_size (extent scope a))
+        (alone op.PopAlt ∷ alone op.Idxaddr ∷ []) (array_called a h.1 begin) (value_called e h.2 q) tt
+
+    pub value_called : (e : Expr) → IsValidExpr scope e → (begin : ℕ)
+        → AreCalled C (value_items scope begin e)
+    value_called (Const v) h begin = tt
+    value_called (Read p) h begin =
+        both_called C (place_items scope begin p) (load_code p) (place_called p h begin)
+        (load_called C p)
+    value_called (Unary o e) h begin =
+        both_called C (value_items scope begin e) (alone (prefix_op o) ∷ [])
+        (value_called e h begin) tt
+    value_called (Binary o l r) h begin =
+        let left = value_items scope begin l in
+        let q = past begin left + 4 in
+        waiting_called C left (value_items scope q r) (alone op.PopAlt ∷ operator_code o)
+        (value_called l h.0 begin) (value_called r h.1 q) (operator_called C o)
+    value_called (Chain e links) h begin =
+        let first = value_items scope begin e in
+        let p = past begin first in
+        let q = past p (links_items scope p 0 links) in
+        let items = links_items scope p (fail_at q) links in
+        both_called C first (linked_with q links items) (value_called e h.1 begin)
+        (linked_called C q links items (links_called links h.2 (fail_at q) p))
+    value_called (And l r) h begin =
+        let left = value_items scope begin l in
+        let p = past begin left in
+        let right = value_items scope (p + 8) r in
+        both_called C left (choice_code p (right ++ truth_code) (const_code (pos 0)))
+        (value_called l h.0 begin)
+        (choice_called C p (right ++ truth_code) (const_code (pos 0))
+        (both_called C right truth_code (value_called r h.1 (p + 8)) tt) tt)
+    value_called (Or l r) h begin =
+        let left = value_items scope begin l in
+        let p = past begin left in
+        let q = other_at p (const_code (pos 1)) in
+        let right = value_items scope q r in
+        both_called C left (choice_code p (const_code (pos 1)) (right ++ truth_code))
+        (value_called l h.0 begin)
+        (choice_called C p (const_code (pos 1)) (right ++ truth_code) tt
+        (both_called C right truth_code (value_called r h.1 q) tt))
+    value_called (Cond c a b) h begin =
+        let condition = value_items scope begin c in
+        let p = past begin condition in
+        let first = value_items scope (p + 8) a in
+        let q = other_at p first in
+        both_called C condition (choice_code p first (value_items scope q b))
+        (value_called c h.0 begin)
+        (choice_called C p first (value_items scope q b) (value_called a h.1 (p + 8))
+        (value_called b h.2 q))
+    value_called (Assign p e) h begin =
+        let place = place_items scope begin p in
+        let q = past begin place + 4 in
+        waiting_called C place (value_items scope q e) (alone op.PopAlt ∷ store_code p)
+        (place_called p h.0 begin) (value_called e h.1 q) (store_called C p)
+    value_called (Update p o e) h begin =
+        let place = place_items scope begin p in
+        let q = past begin place + 4 in
+        waiting_called C place (value_items scope q e)
+        (alone op.PopAlt ∷ changed_code p (operator_code o)) (place_called p h.0 begin)
+        (value_called e h.1 q)
+        (changed_called C p (operator_code o) (operator_called C o))
+    value_called (UpdateBy p f swapped e convert) h begin =
+        let place = place_items scope begin p in
+        let q = past begin place + 4 in
+        let change = two_code f swapped ++ convert_code convert in
+        waiting_called C place (value_items scope q e) (alone op.PopAlt ∷ changed_code p change)
+        (place_called p h.2 begin) (value_called e h.3 q)
+        (changed_called C p change (both_called C (two_code f swapped) (convert_code convert)
+        (two_called C f swapped (known f _ h.0))
+        (convert_called C convert (if_known 1 convert h.1))))
+    value_called (Step p delta prefix) h begin =
+        let last = load_code p ++ stepped_code p delta prefix in
+        both_called C (place_items scope begin p) (alone op.MoveAlt ∷ last)
+        (place_called p h.1 begin)
+        (both_called C (load_code p) (stepped_code p delta prefix) (load_called C p)
+        (stepped_called C p delta prefix))
+    value_called (StepBy p f prefix) h begin =
+        let last = turned_code p (one_code f) prefix in
+        both_called C (place_items scope begin p) (alone op.MoveAlt ∷ (load_code p ++ last))
+        (place_called p h.1 begin)
+        (both_called C (load_code p) last (load_called C p)
+        (turned_called C p (one_code f) prefix (known f _ h.0, tt)))
+    value_called (Copy to from n) h begin =
+        let first = array_items scope begin to in
+        let q = past begin first + 4 in
+        waiting_called C first (array_items scope q from)
+        (alone op.PopAlt ∷ taking op.Movs (pos (4 * n)) ∷ alone op.ZeroPri ∷ [])
+        (array_called to h.2 begin)
+        (array_called from h.3 q) tt
+    value_called (Operate f l r swapped) h begin =
+        let left = value_items scope begin l in
+        let q = past begin left + 4 in
+        waiting_called C left (value_items scope q r) (alone op.PopAlt ∷ two_code f swapped)
+        (value_called l h.1 begin) (value_called r h.2 q)
+        (two_called C f swapped (known f _ h.0))
+    value_called (OperateOne f e) h begin =
+        both_called C (value_items scope begin e) (one_code f) (value_called e h.1 begin)
+        (known f _ h.0, tt)
+    value_called (Call f args) h begin =
+        let items = args_items scope begin args in
+        let call = taking op.PushC (pos (4 * count_of args)) ∷ CallOf f ∷ [] in
+        both_called C (items ++ call) (give_back_code (temporaries_in args))
+        (both_called C items call (args_called args h.3 begin) (known f h.0 h.1, tt))
+        (give_back_called C (temporaries_in args))
+    value_called (Native n args) h begin =
+        let items = args_items scope begin args in
+        let call =
+        taking op.PushC (pos (4 * count_of args)) ∷ taking op.SysreqC (pos n)
+        ∷ taking op.Stack (pos (4 * (count_of args + 1))) ∷ [] in
+        both_called C (items ++ call) (give_back_code (temporaries_in args))
+        (both_called C items call (args_called args h.1 begin) tt)
+        (give_back_called C (temporaries_in args))
+    value_called (Seq a b) h begin =
+        let first = value_items scope begin a in
+        both_called C first (value_items scope (past begin first) b) (value_called a h.0 begin)
+        (value_called b h.1 (past begin first))
+
+    pub links_called : (links : Links) → AreValidLinks scope links → (fail begin : ℕ)
+        → AreCalled C (links_items scope begin fail links)
+    links_called no_links h fail begin = tt
+    links_called (then_link o e f swapped links) h fail begin =
+        let operand = value_items scope (begin + 4) e in
+        let link = link_code o f swapped in
+        let p = others_at begin operand link in
+        link_with_called C fail operand link links (links_items scope p fail links)
+        (value_called e h.1 (begin + 4)) (link_called C o f swapped (if_known 2 f h.0))
+        (links_called links h.2 fail p)
+
+    pub arg_called : (a : Arg) → IsValidArg scope a → (begin : ℕ)
+        → AreCalled C (arg_items scope begin a)
+    arg_called (Value e) h begin =
+        both_called C (value_items scope begin e) (alone op.PushPri ∷ [])
+        (value_called e h begin) tt
+    arg_called (Ref p) h begin =
+        both_called C (place_items scope begin p) (alone op.PushPri ∷ [])
+        (place_called p h.1 begin) tt
+    arg_called (Whole a) h begin =
+        both_called C (array_items scope begin a) (alone op.PushPri ∷ [])
+        (array_called a h begin) tt
+    arg_called (Temp e) h begin =
+        both_called C (value_items scope begin e)
+        (taking op.Heap (pos 4) ∷ alone op.StorI ∷ alone op.PushAlt ∷ [])
+        (value_called e h begin) tt
+
+    pub args_called : (args : Args) → AreValidArgs scope args → (begin : ℕ)
+        → AreCalled C (args_items scope begin args)
+    args_called no_args h begin = tt
+    args_called (then_arg a args) h begin =
+        let others = args_items scope begin args in
+        both_called C others (arg_items scope (past begin others) a) (args_called args h.1 begin)
+        (arg_called a h.0 (past begin others))

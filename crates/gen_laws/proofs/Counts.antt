@@ -1,0 +1,152 @@
+-- How many cells a node's own items take.
+use Rattle.std.proofs.Common.{◌≡◌, ◌+◌, ◌≤◌, ℕ, zero, suc, ℤ, List, [], ◌∷◌, ◌++◌, Option, None}
+use Rattle.std.proofs.Common.{Some, Bool, true, false, length, arith}
+use Rattle.pawn_cells.specs.declared.operator.Prefix.{Prefix}
+use Rattle.pawn_cells.specs.declared.operator.Prefix.TheVariants as before
+use Rattle.pawn_cells.specs.declared.operator.Operator.{Operator}
+use Rattle.pawn_cells.specs.declared.operator.Operator.TheVariants as between
+use Rattle.pawn_cells.specs.declared.operator.Comparison.{Comparison}
+use Rattle.pawn_cells.specs.declared.operator.Comparison.TheVariants as comparison
+use Rattle.pawn_meaning.specs.Program.{Scalar, Global, Own, Through, Element, Char}
+use Rattle.amx_ops.specs.declared.op.Op.TheVariants as op
+use Rattle.gen_sim.specs.Items.{Item, item_cells}
+use Rattle.gen_sim.proofs.ItemLaws.{count-append}
+use Rattle.gen_sim.specs.SimpleCode.{alone, prefix_op, operator_code, waiting_code, both_code}
+use Rattle.gen_sim.specs.AccessCode.{load_code, store_code, changed_code, stepped_code, turned_code}
+use Rattle.gen_sim.specs.JumpCode.{jump_to, end_at, choice_code}
+use Rattle.gen_sim.specs.IndexCode.{bounds_code}
+use Rattle.gen_sim.specs.CallCode.{two_code, convert_code, give_back_code}
+use Rattle.gen_sim.specs.ChainCode.{link_code, last_link_code, middle_link_code}
+
+abbrev pub count : List Item → ℕ
+count items = length (item_cells items)
+
+-- ---- own items
+
+pub prefix_count : (o : Prefix) → count (alone (prefix_op o) ∷ []) ≤ 1
+prefix_count before.Not = omega arith
+prefix_count before.Invert = omega arith
+prefix_count before.Negate = omega arith
+
+pub operator_count : (o : Operator) → count (operator_code o) ≤ 2
+operator_count between.Multiply = omega arith
+operator_count between.Divide = omega arith
+operator_count between.Remainder = omega arith
+operator_count between.Add = omega arith
+operator_count between.Subtract = omega arith
+operator_count between.ShiftLeft = omega arith
+operator_count between.ShiftRight = omega arith
+operator_count between.ShiftUnsigned = omega arith
+operator_count between.And = omega arith
+operator_count between.Xor = omega arith
+operator_count between.Or = omega arith
+operator_count between.Equal = omega arith
+operator_count between.NotEqual = omega arith
+
+pub load_count : (s : Scalar) → count (load_code s) ≤ 2
+load_count (Global o) = omega arith
+load_count (Own s) = omega arith
+load_count (Through s) = omega arith
+load_count (Element a e) = omega arith
+load_count (Char a e) = omega arith
+
+pub store_count : (s : Scalar) → count (store_code s) ≤ 2
+store_count (Global o) = omega arith
+store_count (Own s) = omega arith
+store_count (Through s) = omega arith
+store_count (Element a e) = omega arith
+store_count (Char a e) = omega arith
+
+pub changed_count : (s : Scalar) (change : List Item)
+    → count (changed_code s change) ≤ count change + 8
+changed_count s change =
+    let last = alone op.PopAlt ∷ store_code s in
+    omega (
+      arith,
+      count-append (load_code s) (alone op.Xchg ∷ (change ++ last)),
+      count-append change last,
+      load_count s,
+      store_count s,
+    )
+
+pub stepped_count : (s : Scalar) (delta : ℤ) (prefix : Bool)
+    → count (stepped_code s delta prefix) ≤ 6
+stepped_count s delta true = omega (arith, store_count s)
+stepped_count s delta false =
+    omega (arith, store_count s, count-append (store_code s) (alone op.PopPri ∷ []))
+
+pub turned_count : (s : Scalar) (change : List Item) (prefix : Bool)
+    → count (turned_code s change prefix) ≤ count change + 6
+turned_count s change true =
+    omega (arith, store_count s, count-append change (alone op.PopAlt ∷ store_code s))
+turned_count s change false =
+    let last = store_code s ++ alone op.PopPri ∷ [] in
+    omega (
+      arith,
+      store_count s,
+      count-append change (alone op.PopAlt ∷ last),
+      count-append (store_code s) (alone op.PopPri ∷ []),
+    )
+
+pub bounds_count : (size : Option ℕ) → count (bounds_code size) ≤ 4
+bounds_count None = omega arith
+bounds_count (Some zero) = omega arith
+bounds_count (Some (suc n)) = omega arith
+
+pub two_count : (f : ℕ) (swapped : Bool) → count (two_code f swapped) ≤ 6
+two_count f true = omega arith
+two_count f false = omega arith
+
+pub convert_count : (f : Option ℕ) → count (convert_code f) ≤ 5
+convert_count None = omega arith
+convert_count (Some f) = omega arith
+
+pub give_back_count : (n : ℕ) → count (give_back_code n) ≤ 2
+give_back_count zero = omega arith
+give_back_count (suc n) = omega arith
+
+pub link_count : (o : Comparison) (f : Option ℕ) (swapped : Bool)
+    → count (link_code o f swapped) ≤ 6
+link_count comparison.Less None swapped = omega arith
+link_count comparison.LessEqual None swapped = omega arith
+link_count comparison.Greater None swapped = omega arith
+link_count comparison.GreaterEqual None swapped = omega arith
+link_count comparison.Less (Some f) swapped = two_count f swapped
+link_count comparison.LessEqual (Some f) swapped = two_count f swapped
+link_count comparison.Greater (Some f) swapped = two_count f swapped
+link_count comparison.GreaterEqual (Some f) swapped = two_count f swapped
+
+-- ---- shapes
+
+pub waiting_count : (first second tail : List Item)
+    → count (waiting_code first second tail) ≡ count first + 1 + count second + count tail
+waiting_count first second tail =
+    omega (
+      arith,
+      count-append first (alone op.PushPri ∷ (second ++ tail)),
+      count-append second tail,
+    )
+
+pub both_count : (first second last : List Item)
+    → count (both_code first second last) ≡ count first + count second + count last + 2
+both_count first second last = omega (arith, waiting_count first second (alone op.PopAlt ∷ last))
+
+pub choice_count : (p : ℕ) (first second : List Item)
+    → count (choice_code p first second) ≡ count first + count second + 4
+choice_count p first second =
+    omega (arith, count-append first (jump_to op.Jump (end_at p first second) ∷ second))
+
+pub last_link_count : (operand link : List Item)
+    → count (last_link_code operand link) ≡ count operand + count link + 2
+last_link_count operand link = omega (arith, count-append operand (alone op.PopAlt ∷ link))
+
+pub middle_link_count : (fail : ℕ) (operand link others : List Item)
+    → count (middle_link_code fail operand link others)
+    ≡ count operand + count link + count others + 6
+middle_link_count fail operand link others =
+    let tested = jump_to op.Jzer fail ∷ alone op.PopPri ∷ others in
+    omega (
+      arith,
+      count-append operand (alone op.PopAlt ∷ alone op.PushPri ∷ (link ++ tested)),
+      count-append link tested,
+    )

@@ -1,0 +1,304 @@
+-- The code of each valid place, array, expression and argument does what it means.
+use Rattle.std.proofs.Common.{◌≡◌, ◌+◌, ℕ, pos, List, [], ◌∷◌, ◌++◌, Bool, Option, inl, refl, sym}
+use Rattle.std.proofs.Common.{subst, ◌∙◌}
+use Rattle.std.specs.Prelude.{IfSome}
+use Rattle.pawn_cells.specs.declared.operator.Comparison.{Comparison}
+use Rattle.pawn_meaning.specs.Program.{Slot, ScalarSlot, ReferenceSlot, ArraySlot, OpenSlot, Scalar}
+use Rattle.pawn_meaning.specs.Program.{Global, Own, Through, Element, Char, Array, Object}
+use Rattle.pawn_meaning.specs.Program.{SlotArray, ParamArray, Row, From, Expr, Const, Read, Unary}
+use Rattle.pawn_meaning.specs.Program.{Binary, Chain, And, Or, Cond, Assign, Update, UpdateBy, Step}
+use Rattle.pawn_meaning.specs.Program.{StepBy, Copy, Operate, OperateOne, Call, Native, Seq, Links}
+use Rattle.pawn_meaning.specs.Program.{no_links, then_link, Arg, Value, Ref, Whole, Temp, Args}
+use Rattle.pawn_meaning.specs.Program.{no_args, then_arg}
+use Rattle.pawn_meaning.specs.Scope.{Scope, extent}
+use Rattle.pawn_meaning.specs.ValidExprs.{IsOperator, IsValidScalar, IsValidArray, IsValidExpr}
+use Rattle.pawn_meaning.specs.ValidExprs.{AreValidLinks, IsValidArg, AreValidArgs, ArgAgrees}
+use Rattle.pawn_meaning.specs.ValidExprs.{ArgsAgree}
+use Rattle.gen_sim.specs.Items.{Item, past}
+use Rattle.gen_sim.specs.Contract.{ValueCode, PlaceCode, ArrayCode, ArgumentsCode}
+use Rattle.gen_sim.proofs.ItemLaws.{past-append}
+use Rattle.gen_sim.proofs.StepLaws.{given}
+use Rattle.gen_sim.proofs.ConstantNodes as constants
+use Rattle.gen_sim.specs.SimpleCode.{const_code}
+use Rattle.gen_sim.specs.JumpCode.{other_at}
+use Rattle.gen_sim.proofs.SimpleNodes.{unary_does, binary_does, comma_does}
+use Rattle.gen_sim.proofs.AccessNodes.{read_does, assign_does, update_does}
+use Rattle.gen_sim.proofs.StepNodes.{step_does}
+use Rattle.gen_sim.proofs.JumpNodes.{cond_does, and_does, or_does}
+use Rattle.gen_sim.proofs.PlaceNodes.{global_does, own_does, through_does}
+use Rattle.gen_sim.proofs.ArrayNodes.{object_does, slot_array_does, param_array_does}
+use Rattle.gen_sim.specs.IndexCode.{element_code, character_code, row_code}
+use Rattle.gen_sim.proofs.ElementNodes.{element_does, character_does, rest_does, row_does}
+use Rattle.gen_sim.proofs.CopyNodes.{copy_does}
+use Rattle.gen_sim.specs.ArgumentCode.{ArgumentCode, kinds_of}
+use Rattle.gen_sim.proofs.OperatorNodes.{operate_one_does, operate_does, update_by_does}
+use Rattle.gen_sim.proofs.OperatorNodes.{step_by_does}
+use Rattle.gen_sim.proofs.TemporaryViews.{agree_count}
+use Rattle.gen_sim.proofs.ArgumentNodes.{value_argument, ref_argument, whole_argument}
+use Rattle.gen_sim.proofs.ArgumentNodes.{temporary_argument, no_arguments, then_argument}
+use Rattle.gen_sim.proofs.CallNodes.{call_node_does, native_node_does}
+use Rattle.gen_sim.specs.ChainCode.{link_code, fail_at, chain_end_code, middle_link_code}
+use Rattle.gen_sim.specs.LinksCode.{LinksCode}
+use Rattle.gen_sim.proofs.LinkLaws.{last_link_does, middle_link_does}
+use Rattle.gen_sim.proofs.ChainNodes.{short_chain_does, chain_does}
+use Rattle.gen_laws.specs.ExprCode.{known_size, link_with, others_at, linked_with, place_items}
+use Rattle.gen_laws.specs.ExprCode.{array_items, value_items, links_items, arg_items, args_items}
+use Rattle.gen_laws.proofs.Extents.{of_line, of_rows, reaching, kinds_agree}
+
+-- ---- where links end
+
+-- wherever those that don't hold lead
+middle_end : (begin fail : ℕ) (operand link others : List Item)
+    → past begin (middle_link_code fail operand link others)
+    ≡ past (others_at begin operand link) others
+middle_end begin fail operand link others =
+    past-append (begin + 4) operand _ ∙ past-append (past (begin + 4) operand + 4 + 4) link _
+
+pub links_end : (scope : Scope) (links : Links) (begin fail other : ℕ)
+    → past begin (links_items scope begin fail links)
+    ≡ past begin (links_items scope begin other links)
+links_end scope no_links begin fail other = refl
+links_end scope (then_link o e f swapped links) begin fail other =
+    by_links links (value_items scope (begin + 4) e) (link_code o f swapped)
+    (λ p. links_end scope links p fail other)
+  where
+    by_links : (links : Links) (operand link : List Item)
+        → ((p : ℕ) → past p (links_items scope p fail links)
+        ≡ past p (links_items scope p other links))
+        → past begin (link_with fail operand link links
+        (links_items scope (others_at begin operand link) fail links))
+        ≡ past begin (link_with other operand link links
+        (links_items scope (others_at begin operand link) other links))
+    by_links no_links operand link h = refl
+    by_links (then_link o2 e2 f2 swapped2 more) operand link h =
+        let rest = then_link o2 e2 f2 swapped2 more in
+        let p = others_at begin operand link in
+        middle_end begin fail operand link (links_items scope p fail rest) ∙ h p
+        ∙ sym (middle_end begin other operand link (links_items scope p other rest))
+
+-- ---- chains by their links
+
+module _ (scope : Scope) where
+  -- the operand of a first link
+  abbrev FirstPart : ℕ → Links → Type 0
+  FirstPart begin no_links = Unit {0}
+  FirstPart begin (then_link o e f swapped links) =
+      ValueCode scope e (begin + 4) (value_items scope (begin + 4) e)
+
+  link_by : (begin fail : ℕ) (o : Comparison) (e : Expr) (f : Option ℕ) (swapped : Bool)
+      → IfSome f (IsOperator scope 2)
+      → ValueCode scope e (begin + 4) (value_items scope (begin + 4) e) → (links : Links)
+      → ((p : ℕ) → LinksCode scope links p fail (links_items scope p fail links))
+      → LinksCode scope (then_link o e f swapped links) begin fail
+      (links_items scope begin fail (then_link o e f swapped links))
+  link_by begin fail o e f swapped takes part no_links rest =
+      last_link_does scope begin fail o e f swapped takes (value_items scope (begin + 4) e) part
+  link_by begin fail o e f swapped takes part (then_link o2 e2 f2 swapped2 links) rest =
+      let operand = value_items scope (begin + 4) e in
+      let p = others_at begin operand (link_code o f swapped) in
+      middle_link_does scope begin fail o e f swapped takes operand part o2 e2 f2 swapped2 links
+      (links_items scope p fail (then_link o2 e2 f2 swapped2 links)) (rest p)
+
+  no_links_do : (begin fail : ℕ) → LinksCode scope no_links begin fail []
+  no_links_do begin fail =
+      record {
+        does = λ x site same turns calls v fits l low pending deep y w c a. given x a.stands
+            (inl a);
+      }
+
+  chain_by : (begin : ℕ) (e : Expr) (first : List Item) → ValueCode scope e begin first
+      → (links : Links) → ¬ (links ≡ no_links) → AreValidLinks scope links
+      → FirstPart (past begin first) links
+      → ((fail : ℕ) → LinksCode scope links (past begin first) fail
+      (links_items scope (past begin first) fail links))
+      → ValueCode scope (Chain e links) begin
+      (first ++ linked_with (past (past begin first) (links_items scope (past begin first) 0 links))
+      links
+      (links_items scope (past begin first)
+      (fail_at (past (past begin first) (links_items scope (past begin first) 0 links))) links))
+  chain_by begin e first one no_links some valid part all = absurd (some refl)
+  chain_by begin e first one (then_link o e2 f swapped no_links) some valid part all =
+      short_chain_does scope begin first e one o e2 f swapped
+      (value_items scope (past begin first + 4) e2) valid.0 part
+  chain_by begin e first one (then_link o e2 f swapped (then_link o3 e3 f3 swapped3 links)) some
+      valid part all =
+      let rest = then_link o e2 f swapped (then_link o3 e3 f3 swapped3 links) in
+      let p = past begin first in
+      let q = past p (links_items scope p 0 rest) in
+      let items = links_items scope p (fail_at q) rest in
+      let same : past p items ≡ q = links_end scope rest p (fail_at q) 0 in
+      subst (λ z. ValueCode scope (Chain e rest) begin (first ++ (items ++ chain_end_code z))) same
+      (chain_does scope begin first e one o e2 f swapped o3 e3 f3 swapped3 links items
+      (subst (λ z. LinksCode scope rest p (fail_at z) items) (sym same) (all (fail_at q))))
+
+  -- ---- each node
+
+  mutual
+    pub place_does : (p : Scalar) → IsValidScalar scope p → (begin : ℕ)
+        → PlaceCode scope p begin (place_items scope begin p)
+    place_does (Global o) h begin = global_does scope begin o h
+    place_does (Own s) h begin = own_does scope begin s h.0 h.1
+    place_does (Through s) h begin = through_does scope begin s h.0 h.1
+    place_does (Element a e) h begin =
+        let array = array_items scope begin a in
+        let index = value_items scope (past begin array + 4) e in
+        let r = of_line (extent scope a) h.0 in
+        subst (λ o. PlaceCode scope (Element a e) begin (element_code (known_size o) array index))
+        (sym r.is)
+        (element_does scope begin a e r.whole array index r.is (array_does a h.1 begin)
+        (value_does e h.2 (past begin array + 4)) r.line)
+    place_does (Char a e) h begin =
+        let array = array_items scope begin a in
+        let index = value_items scope (past begin array + 4) e in
+        let r = of_line (extent scope a) h.0 in
+        subst (λ o. PlaceCode scope (Char a e) begin (character_code (known_size o) array index))
+        (sym r.is)
+        (character_does scope begin a e r.whole array index r.is (array_does a h.1 begin)
+        (value_does e h.2 (past begin array + 4)) r.line)
+
+    pub array_does : (a : Array) → IsValidArray scope a → (begin : ℕ)
+        → ArrayCode scope a begin (array_items scope begin a)
+    array_does (Object o) h begin = object_does scope begin o
+    array_does (SlotArray s) h begin = slot_array_does scope begin s h.1
+    array_does (ParamArray s known) h begin = param_array_does scope begin s known h.1
+    array_does (Row a e) h begin =
+        let array = array_items scope begin a in
+        let index = value_items scope (past begin array + 4) e in
+        let r = of_rows (extent scope a) h.0 in
+        subst (λ o. ArrayCode scope (Row a e) begin (row_code (known_size o) array index))
+        (sym r.is)
+        (row_does scope begin a e r.whole array index r.is (array_does a h.1 begin)
+        (value_does e h.2 (past begin array + 4)) r.next r.inner r.rows)
+    array_does (From a e) h begin =
+        let array = array_items scope begin a in
+        let index = value_items scope (past begin array + 4) e in
+        let r = of_line (extent scope a) h.0 in
+        subst (λ o. ArrayCode scope (From a e) begin (element_code (known_size o) array index))
+        (sym r.is)
+        (rest_does scope begin a e r.whole array index r.is (array_does a h.1 begin)
+        (value_does e h.2 (past begin array + 4)) r.line)
+
+    pub value_does : (e : Expr) → IsValidExpr scope e → (begin : ℕ)
+        → ValueCode scope e begin (value_items scope begin e)
+    value_does (Const v) h begin = constants.const_code scope v h begin
+    value_does (Read p) h begin =
+        read_does scope begin p (place_items scope begin p) (place_does p h begin)
+    value_does (Unary o e) h begin =
+        unary_does scope begin o e (value_items scope begin e) (value_does e h begin)
+    value_does (Binary o l r) h begin =
+        let left = value_items scope begin l in
+        let p = past begin left + 4 in
+        binary_does scope begin o l r left (value_items scope p r) (value_does l h.0 begin)
+        (value_does r h.1 p)
+    value_does (Chain e links) h begin =
+        let first = value_items scope begin e in
+        chain_by begin e first (value_does e h.1 begin) links h.0 h.2
+        (first_does links h.2 (past begin first))
+        (λ fail. links_do links h.2 fail (past begin first))
+    value_does (And l r) h begin =
+        let left = value_items scope begin l in
+        let p = past begin left + 8 in
+        and_does scope begin l r left (value_items scope p r) (value_does l h.0 begin)
+        (value_does r h.1 p)
+    value_does (Or l r) h begin =
+        let left = value_items scope begin l in
+        let p = other_at (past begin left) (const_code (pos 1)) in
+        or_does scope begin l r left (value_items scope p r) (value_does l h.0 begin)
+        (value_does r h.1 p)
+    value_does (Cond c a b) h begin =
+        let condition = value_items scope begin c in
+        let p = past begin condition + 8 in
+        let first = value_items scope p a in
+        let q = other_at (past begin condition) first in
+        cond_does scope begin c a b condition first (value_items scope q b) (value_does c h.0 begin)
+        (value_does a h.1 p) (value_does b h.2 q)
+    value_does (Assign p e) h begin =
+        let place = place_items scope begin p in
+        let q = past begin place + 4 in
+        assign_does scope begin p e place (value_items scope q e) (place_does p h.0 begin)
+        (value_does e h.1 q)
+    value_does (Update p o e) h begin =
+        let place = place_items scope begin p in
+        let q = past begin place + 4 in
+        update_does scope begin p o e place (value_items scope q e) (place_does p h.0 begin)
+        (value_does e h.1 q)
+    value_does (UpdateBy p f swapped e convert) h begin =
+        let place = place_items scope begin p in
+        let q = past begin place + 4 in
+        update_by_does scope begin p f swapped e convert place (value_items scope q e) h.0 h.1
+        (place_does p h.2 begin) (value_does e h.3 q)
+    value_does (Step p delta prefix) h begin =
+        step_does scope begin p delta prefix (place_items scope begin p) (place_does p h.1 begin)
+    value_does (StepBy p f prefix) h begin =
+        step_by_does scope begin p f prefix (place_items scope begin p) h.0 (place_does p h.1 begin)
+    value_does (Copy to from n) h begin =
+        let first = array_items scope begin to in
+        let q = past begin first + 4 in
+        copy_does scope begin to from n first (array_items scope q from) h.0 h.1
+        (array_does to h.2 begin) (array_does from h.3 q)
+    value_does (Operate f l r swapped) h begin =
+        let left = value_items scope begin l in
+        let p = past begin left + 4 in
+        operate_does scope begin f l r swapped left (value_items scope p r) h.0
+        (value_does l h.1 begin) (value_does r h.2 p)
+    value_does (OperateOne f e) h begin =
+        operate_one_does scope begin f e (value_items scope begin e) h.0 (value_does e h.1 begin)
+    value_does (Call f args) h begin =
+        call_node_does scope begin f h.0 args (args_items scope begin args) h.1
+        (agree_count scope h.0 args h.2) (args_do args h.3 h.0 h.2 begin)
+    value_does (Native n args) h begin =
+        let agree = kinds_agree scope args h.1 in
+        native_node_does scope begin n (kinds_of scope args) args (args_items scope begin args) h.0
+        (agree_count scope (kinds_of scope args) args agree)
+        (args_do args h.1 (kinds_of scope args) agree begin)
+    value_does (Seq a b) h begin =
+        let first = value_items scope begin a in
+        let p = past begin first in
+        comma_does scope begin a b first (value_items scope p b) (value_does a h.0 begin)
+        (value_does b h.1 p)
+
+    first_does : (links : Links) → AreValidLinks scope links → (begin : ℕ) → FirstPart begin links
+    first_does no_links h begin = tt
+    first_does (then_link o e f swapped links) h begin = value_does e h.1 (begin + 4)
+
+    pub links_do : (links : Links) → AreValidLinks scope links → (fail begin : ℕ)
+        → LinksCode scope links begin fail (links_items scope begin fail links)
+    links_do no_links h fail begin = no_links_do begin fail
+    links_do (then_link o e f swapped links) h fail begin =
+        link_by begin fail o e f swapped h.0 (value_does e h.1 (begin + 4)) links
+        (λ p. links_do links h.2 fail p)
+
+    pub arg_does : (a : Arg) → IsValidArg scope a → (kind : Slot) → ArgAgrees scope kind a
+        → (begin : ℕ) → ArgumentCode scope kind a begin (arg_items scope begin a)
+    arg_does (Value e) h ScalarSlot k begin =
+        value_argument scope begin e (value_items scope begin e) (value_does e h begin)
+    arg_does (Value e) h ReferenceSlot k begin = elim k [ ]
+    arg_does (Value e) h (ArraySlot sizes) k begin = elim k [ ]
+    arg_does (Value e) h (OpenSlot inner) k begin = elim k [ ]
+    arg_does (Ref p) h ScalarSlot k begin = elim k [ ]
+    arg_does (Ref p) h ReferenceSlot k begin =
+        ref_argument scope begin p (place_items scope begin p) h.0 (place_does p h.1 begin)
+    arg_does (Ref p) h (ArraySlot sizes) k begin = elim k [ ]
+    arg_does (Ref p) h (OpenSlot inner) k begin = elim k [ ]
+    arg_does (Whole a) h kind k begin =
+        let r = reaching scope a h in
+        whole_argument scope begin kind a r.whole (array_items scope begin a) k r.is
+        (array_does a h begin)
+    arg_does (Temp e) h ScalarSlot k begin = elim k [ ]
+    arg_does (Temp e) h ReferenceSlot k begin =
+        temporary_argument scope begin e (value_items scope begin e) (value_does e h begin)
+    arg_does (Temp e) h (ArraySlot sizes) k begin = elim k [ ]
+    arg_does (Temp e) h (OpenSlot inner) k begin = elim k [ ]
+
+    pub args_do : (args : Args) → AreValidArgs scope args → (kinds : List Slot)
+        → ArgsAgree scope kinds args → (begin : ℕ)
+        → ArgumentsCode scope kinds args begin (args_items scope begin args)
+    args_do no_args h [] k begin = no_arguments scope begin
+    args_do no_args h (kind ∷ kinds) k begin = elim k [ ]
+    args_do (then_arg a args) h [] k begin = elim k [ ]
+    args_do (then_arg a args) h (kind ∷ kinds) k begin =
+        let others = args_items scope begin args in
+        let p = past begin others in
+        then_argument scope begin kind kinds a args others (arg_items scope p a)
+        (agree_count scope kinds args k.1) (args_do args h.1 kinds k.1 begin)
+        (arg_does a h.0 kind k.0 p)

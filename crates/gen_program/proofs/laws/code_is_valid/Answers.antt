@@ -1,5 +1,0 @@
-use Rattle.gen_program.proofs.ValidLaws.{program_valid}
-use Rattle.gen_program.proofs.laws.code_is_valid.Goals as goal
-
-pub returns : goal.returns
-returns c = λ program valid few. program_valid program valid few

@@ -1,7 +1,0 @@
-use Rattle.gen_program.proofs.FileOfLaws.{file_agrees_with}
-use Rattle.gen_program.proofs.laws.programs_have_files.Goals as goal
-
-pub returns : goal.returns
-returns c =
-    λ program valid limits few numbered writable. file_agrees_with program valid limits few numbered
-    writable

@@ -1,9 +1,0 @@
-pub mod ArmLaws
-pub mod CaseLaws
-pub mod LeftLaws
-pub mod ListLaws
-pub mod OkLaws
-pub mod PlainLaws
-pub mod StandLaws
-pub mod StmtLaws
-pub mod SwitchNodes

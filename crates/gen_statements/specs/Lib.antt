@@ -1,4 +1,0 @@
-pub mod Cased
-pub mod Closed
-pub mod Left
-pub mod Standing

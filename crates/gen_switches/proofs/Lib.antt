@@ -1,2 +1,0 @@
-pub mod EndedLaws
-pub mod SwitchLaws

@@ -1,0 +1,30 @@
+-- A run between two segments: what was shown so far is written, and the trace goes on from there.
+use Rattle.std.specs.Prelude.{◌≡◌, ℕ, List, replicate}
+use Rattle.host_script.specs.declared.script.Script.{Script}
+use Rattle.host_script.specs.declared.event.Event.{Event}
+use Rattle.host_script.specs.declared.event.End.{End}
+use Rattle.amx_ops.specs.Moves.{Config, move}
+use Rattle.amx_ops.specs.Runs.{Traced, joined}
+use Rattle.amx_machine.specs.Machine.{Machine}
+use Rattle.host_run.specs.Reached.{placed}
+use Rattle.host_run.specs.Segments.{Place, lines_of}
+use Rattle.host_run.specs.Stands.{IsAwake}
+use Rattle.host_run.specs.Trace.{trace_on}
+
+-- the trace from a place on, with some events shown before, behind so many sleeps more
+abbrev pub rest_of : Script → Machine → ℕ → ℕ → Place → List Event → Traced Config End
+rest_of script old steps left now shown =
+    joined (move old.amx script) steps (replicate left steps)
+    (placed now.machine.state now.position shown)
+
+-- of a machine that stood so at first
+pub record Going (script : Script) (old : Machine) (steps sleeps left : ℕ) (now : Place)
+    (say : List ℕ → Type 0) : Type 0 where
+  pub file : now.machine.amx ≡ old.amx
+  pub awake : IsAwake now.machine.mode
+  pub shown : List Event
+  pub said : say (lines_of shown)
+  pub stop : (trace_on script old steps sleeps).stop
+      ≡ (rest_of script old steps left now shown).stop
+  pub config : (trace_on script old steps sleeps).config
+      ≡ (rest_of script old steps left now shown).config

@@ -1,0 +1,3 @@
+pub mod PlacedLaws
+pub mod UpLaws
+pub mod WritableLaws

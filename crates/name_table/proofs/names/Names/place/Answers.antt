@@ -1,9 +1,0 @@
-use Rattle.std.proofs.Common.{ap, ◌∙◌, position}
-use Rattle.std.specs.Str.{bytes_eq}
-use Rattle.name_table.proofs.KeyLaws.{place_map}
-use Rattle.name_table.proofs.names.Names.place.Goals as goal
-
-pub returns : goal.returns
-returns c =
-    c.get_index_of.ensures.index ∙ place_map (λ key. key.items) c.args.name.now _
-    ∙ ap (position (bytes_eq c.args.name.now)) c.self.view_is

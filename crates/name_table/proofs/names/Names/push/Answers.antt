@@ -1,7 +1,0 @@
-use Rattle.name_table.proofs.KeyLaws.{pushed}
-use Rattle.name_table.proofs.names.Names.push.Goals as goal
-
-pub returns-clause-ok : goal.returns-clause-ok
-returns-clause-ok c =
-    pushed (λ key. key.items) _ _ c.in_ok-key.key _ _ c.in_ok-key.ensures.items c.self.view_is
-    c.requires c.in-Ok.ensures.keys

@@ -1,0 +1,15 @@
+pub mod Changes
+pub mod Chosen
+pub mod Counted
+pub mod FileTable
+pub mod Indexed
+pub mod Links
+pub mod MarkView
+pub mod Means
+pub mod Narrower
+pub mod Operators
+pub mod Scopes
+pub mod SignViews
+pub mod Steps
+pub mod ValuedView
+pub mod Views

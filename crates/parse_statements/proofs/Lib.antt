@@ -1,0 +1,5 @@
+pub mod ArgumentLaws
+pub mod ExpressionKnotLaws
+pub mod StatementKnotLaws
+pub mod Turns
+pub mod WordLaws

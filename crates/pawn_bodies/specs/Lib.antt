@@ -1,9 +1,0 @@
-pub mod Counts
-pub mod Points
-pub mod Stood
-pub mod Locals
-pub mod Switches
-pub mod States
-pub mod Statements
-pub mod CalledIn
-pub mod CountedStatements

@@ -1,6 +1,0 @@
-ghost use Rattle.pawn_bodies.specs.CountedStatements.{StatementsAreCounted};
-
-/// A statement that stands makes as many slots and objects as are counted in its tree.
-pub fn statements_are_counted()
-    ensures { StatementsAreCounted }
-{}

@@ -1,3 +1,0 @@
-mod Examples
-pub mod LiteralLaws
-pub mod Samples

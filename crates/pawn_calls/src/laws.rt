@@ -1,6 +1,0 @@
-ghost use Rattle.pawn_calls.specs.CountedLiterals.{LiteralsAreCounted};
-
-/// An expression that stands has as many literals as are counted in its tree.
-pub fn literals_are_counted()
-    ensures { LiteralsAreCounted }
-{}

@@ -1,7 +1,0 @@
-use Rattle.std.proofs.Common.{◌≡◌, [], drop}
-use Rattle.pawn_condition.specs.ConditionMachine.{from, operand}
-use Rattle.pawn_condition.proofs.evaluate.evaluate.Given as goal
-
-abbrev pub invariant-loop-part : goal.invariant-loop-part
-invariant-loop-part l =
-    from l.held (drop l.part-index l.parts) l.waits.items ≡ operand l.fn.parts []

@@ -1,3 +1,0 @@
-mod LinkLaws
-mod SizeLaws
-mod ConstantLaws

@@ -1,9 +1,0 @@
-use Rattle.pawn_sight.specs.Means.{around_view, means_view}
-use Rattle.pawn_constants.specs.ValuedView.{valued_view}
-use Rattle.pawn_constants.proofs.LinkLaws.{SoFar}
-use Rattle.pawn_constants.proofs.expression.+worth.Given as goal
-
-abbrev pub invariant-links_hold-loop-i : goal.invariant-links_hold-loop-i
-invariant-links_hold-loop-i l =
-    SoFar (around_view l.cx) l.place (means_view l.cx) (valued_view l.fn.first) l.links l.i
-    (valued_view l.left) l.holds

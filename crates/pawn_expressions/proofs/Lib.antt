@@ -1,3 +1,0 @@
-pub mod WordLaws
-pub mod Turns
-pub mod KnotLaws

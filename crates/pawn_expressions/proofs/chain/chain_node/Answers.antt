@@ -1,5 +1,0 @@
-use Rattle.pawn_tree.proofs.ViewLaws.{chain_view}
-use Rattle.pawn_expressions.proofs.chain.chain_node.Goals as goal
-
-pub returns : goal.returns
-returns c = chain_view c.args.at c.args.first c.args.links

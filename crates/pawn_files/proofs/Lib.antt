@@ -1,2 +1,0 @@
-mod CallLaws
-mod ValidLaws

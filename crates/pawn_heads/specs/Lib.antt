@@ -1,3 +1,0 @@
-pub mod ParamDefaults
-pub mod Params
-pub mod SameHeads

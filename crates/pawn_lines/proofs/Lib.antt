@@ -1,4 +1,0 @@
-pub mod CommentLaws
-pub mod FileLaws
-pub mod JoinedLaws
-pub mod RowLaws

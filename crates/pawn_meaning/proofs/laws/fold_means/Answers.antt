@@ -1,5 +1,0 @@
-use Rattle.pawn_meaning.proofs.FoldLaws.{fold_means_lem}
-use Rattle.pawn_meaning.proofs.laws.fold_means.Goals as goal
-
-pub returns : goal.returns
-returns c = fold_means_lem

@@ -1,5 +1,0 @@
-use Rattle.pawn_meaning.proofs.RunLaws.{runs_extend_lem}
-use Rattle.pawn_meaning.proofs.laws.runs_extend.Goals as goal
-
-pub returns : goal.returns
-returns c = runs_extend_lem

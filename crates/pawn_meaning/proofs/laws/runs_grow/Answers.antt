@@ -1,5 +1,0 @@
-use Rattle.pawn_meaning.proofs.RunLaws.{runs_grow_lem}
-use Rattle.pawn_meaning.proofs.laws.runs_grow.Goals as goal
-
-pub returns : goal.returns
-returns c = runs_grow_lem

@@ -1,8 +1,0 @@
-use Rattle.pawn_scopes.proofs.ExtendLaws as extend
-use Rattle.pawn_scopes.proofs.laws.faults_stay.Goals as goal
-
-pub returns-clause-nodes : goal.returns-clause-nodes
-returns-clause-nodes c = extend.nodes_extend
-
-pub returns-clause-stay : goal.returns-clause-stay
-returns-clause-stay c = extend.faults_stay

@@ -1,4 +1,0 @@
-mod IndexLaws
-pub mod FileLaws
-mod AddLaws
-mod OperatorLaws

@@ -1,8 +1,0 @@
-use Rattle.std.proofs.Common.{[]}
-use Rattle.pawn_tree.specs.View.{decl_view}
-use Rattle.pawn_scopes.specs.FileNames.{decls_names}
-use Rattle.pawn_sight.proofs.AddLaws.{AddedSoFar}
-use Rattle.pawn_sight.proofs.outside.file_names.Given as goal
-
-abbrev pub invariant-loop-i : goal.invariant-loop-i
-invariant-loop-i l = AddedSoFar decl_view decls_names l.tags l.items [] l.i l.names

@@ -1,4 +1,0 @@
-use Rattle.pawn_statements.proofs.inits.+init.Given as goal
-
-abbrev pub decreases-init : goal.decreases-init
-decreases-init l = l.height

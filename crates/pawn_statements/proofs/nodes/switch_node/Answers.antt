@@ -1,5 +1,0 @@
-use Rattle.pawn_tree.proofs.ViewLaws.{switch_view}
-use Rattle.pawn_statements.proofs.nodes.switch_node.Goals as goal
-
-pub returns : goal.returns
-returns c = switch_view c.args.at c.args.value c.args.cases c.args.other

@@ -1,3 +1,0 @@
-pub mod Block
-pub mod Boxed
-pub mod Nests

@@ -1,4 +1,0 @@
-mod Spellings
-mod Examples
-mod DeclarationExamples
-mod WholeLaws

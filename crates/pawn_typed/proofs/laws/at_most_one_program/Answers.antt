@@ -1,8 +1,0 @@
-use Rattle.pawn_typed.proofs.WholeLaws as whole
-use Rattle.pawn_typed.proofs.laws.at_most_one_program.Goals as goal
-
-pub returns-clause-one : goal.returns-clause-one
-returns-clause-one c = whole.one_program
-
-pub returns-clause-none : goal.returns-clause-none
-returns-clause-none c = whole.no_fault

@@ -1,6 +1,0 @@
-pub mod Constants
-pub mod Sizes
-pub mod FirstValues
-pub mod Arrays
-pub mod Cells
-pub mod Parts

@@ -1,2 +1,0 @@
-//! The sizes and first values of variables, and constants, as definitions. There is no code here.
-#![tactic(auto)]

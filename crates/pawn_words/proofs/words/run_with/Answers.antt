@@ -1,7 +1,0 @@
-use Rattle.std.proofs.lemmas.Result.{err_from_is_err_and}
-use Rattle.pawn_words.proofs.words.run_with.Goals as goal
-
-pub returns-in_err-entry : goal.returns-in_err-entry
-returns-in_err-entry c =
-    let p = err_from_is_err_and c.from_residual.result c.from_residual.ensures.1 in
-    rw (p.1, p.2, c.in_err-entry.ensures.free) tt

@@ -1,5 +1,0 @@
-pub mod Command
-pub mod Options
-pub mod Reading
-pub mod Status
-pub mod Stop

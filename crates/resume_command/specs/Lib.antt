@@ -1,3 +1,0 @@
-pub mod ImageLine
-pub mod Restored
-pub mod Resumes

@@ -1,9 +1,0 @@
-pub mod EntryLaws
-pub mod FinishLaws
-pub mod NativeSizes
-pub mod PreparedLaws
-pub mod ReadyLaws
-pub mod RunLaws
-pub mod SizeLaws
-pub mod StartLaws
-pub mod StepSizes

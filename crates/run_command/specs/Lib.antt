@@ -1,5 +1,0 @@
-pub mod Entry
-pub mod Finishes
-pub mod Prepared
-pub mod Ready
-pub mod Runs

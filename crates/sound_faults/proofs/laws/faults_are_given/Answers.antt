@@ -1,8 +1,0 @@
-use Rattle.sound_faults.proofs.WholeFaults as whole
-use Rattle.sound_faults.proofs.laws.faults_are_given.Goals as goal
-
-pub returns-clause-whole : goal.returns-clause-whole
-returns-clause-whole c = whole.faults_given
-
-pub returns-clause-declarations : goal.returns-clause-declarations
-returns-clause-declarations c = whole.have_faults

@@ -1,7 +1,0 @@
-use Rattle.sound_programs.proofs.LimitLaws as limits
-use Rattle.sound_programs.proofs.laws.programs_are_within_limits.Goals as goal
-
-pub returns : goal.returns
-returns c =
-    limits.programs_within c.bodies_are_valid.ensures c.files_are_sites.ensures
-    c.stands_within_sums.ensures

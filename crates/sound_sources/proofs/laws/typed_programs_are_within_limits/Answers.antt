@@ -1,6 +1,0 @@
-use Rattle.sound_sources.proofs.AroundLaws as known
-use Rattle.sound_sources.proofs.laws.typed_programs_are_within_limits.Goals as goal
-
-pub returns : goal.returns
-returns c =
-    known.typed_within c.arounds_are_known.ensures c.programs_are_within_limits.ensures

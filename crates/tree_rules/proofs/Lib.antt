@@ -1,0 +1,14 @@
+pub mod Base
+pub mod Complete
+pub mod CompleteDeclarations
+pub mod CompleteStatements
+pub mod CompleteVariables
+pub mod Height
+pub mod ListLaws
+pub mod Moves
+pub mod Sound
+pub mod SoundDeclarations
+pub mod SoundStatements
+pub mod SoundVariables
+pub mod Steps
+pub mod Trees

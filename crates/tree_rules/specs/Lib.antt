@@ -1,0 +1,17 @@
+pub mod Brackets
+pub mod Declarations
+pub mod Ends
+pub mod Expressions
+pub mod Levels
+pub mod Lists
+pub mod OneTree
+pub mod ReadDeclarations
+pub mod ReadExpressions
+pub mod ReadStatements
+pub mod ReadVariables
+pub mod Readers
+pub mod Spells
+pub mod Statements
+pub mod Tokens
+pub mod UnitGives
+pub mod Variables

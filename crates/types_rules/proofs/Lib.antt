@@ -1,0 +1,13 @@
+mod AutomatonExamples
+mod CallExamples
+mod DeclarationExamples
+mod HeadExamples
+pub mod LiteralLaws
+pub mod Samples
+mod SourceExamples
+mod Spellings
+mod StatementExamples
+pub mod StatementLaws
+mod ValueExamples
+pub mod VerdictLaws
+mod ProgramLaws
