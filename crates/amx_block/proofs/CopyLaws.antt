@@ -8,7 +8,8 @@ use Rattle.std.proofs.lemmas.List.{get_or-take, take-set-le}
 use Rattle.std.proofs.lemmas.Bool.{le-leb, lt-ltb}
 use Rattle.std.proofs.lemmas.Bool.Decides.{leb_tells}
 use Rattle.pawn_cells.specs.Cells.{char_at}
-use Rattle.amx_block.specs.Contents.{Contents, cell_at, with_cell, byte_at, with_byte}
+use Rattle.amx_block.specs.Contents.{Contents, cell_at, with_cell, with_byte}
+use Rattle.amx_ops.specs.Access.{byte_at}
 use Rattle.amx_block.specs.Copied.{copied_byte, IsCopied, IsRun}
 
 same_or_not : (a b : ℕ) → (a ≡ b) ⊎ (a ≢ b)

@@ -4,6 +4,7 @@ use Rattle.std.specs.Prelude.{◌++◌, ◌+◌, ◌/◌, ◌%◌, ◌-◌, ◌�
 use Rattle.std.specs.Prelude.{replicate, slice_set}
 use Rattle.std.specs.List.{slice_index_or}
 use Rattle.pawn_cells.specs.Cells.{char_at, with_char}
+use Rattle.amx_ops.specs.Writable.{cells_limit}
 
 -- all cells of a block
 pub record Contents : Type 0 where
@@ -20,10 +21,6 @@ cell_at cells at = slice_index_or cells (at / 4) (pos 0)
 -- another cell in its place
 abbrev pub with_cell : List ℤ → ℕ → ℤ → List ℤ
 with_cell cells at value = slice_set cells (at / 4) value
-
--- the byte at an address: the least one of a cell comes first
-abbrev pub byte_at : List ℤ → ℕ → ℕ
-byte_at cells at = char_at (cell_at cells at) (3 - at % 4)
 
 -- another byte in its place; the rest of its cell stays
 abbrev pub with_byte : List ℤ → ℕ → ℕ → List ℤ
@@ -49,4 +46,4 @@ zeros code store room =
 -- what is always so of a block's cells: code and data are among them, and each address fits
 pub record AreWithin (code store : ℕ) (cells : List ℤ) : Type 0 where
   pub within : code + store ≤ length cells
-  pub small : length cells ≤ 33554432
+  pub small : length cells ≤ cells_limit

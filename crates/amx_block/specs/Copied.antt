@@ -3,7 +3,8 @@ use Rattle.std.specs.Prelude.{◌≡◌, ◌≢◌, ◌+◌, ◌-◌, ◌/◌, �
 use Rattle.std.specs.Prelude.{length, take, ◌&&◌, nat_le, nat_lt, if◌then◌else◌}
 use Rattle.std.specs.Int.{w32}
 use Rattle.std.specs.List.{slice_index_or}
-use Rattle.amx_block.specs.Contents.{Contents, cell_at, byte_at}
+use Rattle.amx_block.specs.Contents.{Contents, cell_at}
+use Rattle.amx_ops.specs.Access.{byte_at}
 
 -- byte k once the copy's bytes from number `low` to before number `high` are done
 abbrev pub copied_byte : List ℤ → (from to low high k : ℕ) → ℕ

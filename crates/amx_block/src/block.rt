@@ -3,8 +3,10 @@ ghost use Rattle.std.specs.Prelude.{ℕ, IfOk, FitsSigned, length, take, drop, r
 ghost use Rattle.std.specs.Int.{w32};
 ghost use Rattle.std.specs.Borrow.{sem};
 ghost use Rattle.amx_block.specs.Lending.{LendsPart};
-ghost use Rattle.amx_block.specs.Contents.{cell_at, with_cell, byte_at, with_byte};
+ghost use Rattle.amx_block.specs.Contents.{cell_at, with_cell, with_byte};
+ghost use Rattle.amx_ops.specs.Access.{byte_at};
 ghost use Rattle.amx_block.specs.Contents.{part_at, with_part, zeros};
+ghost use Rattle.amx_ops.specs.Writable.{cells_limit, memory_limit};
 
 use pawn_base::Memory;
 use pawn_cells::Cell;
@@ -43,7 +45,7 @@ impl Model for Block {
 impl Block {
     /// A block of so many cells of code, of data, and of room for heap and stack. All are 0.
     pub fn new(alloc: Global, code: u32, store: u32, room: u32) -> Result<Block, Memory>
-        requires { code + store + room ≤ 33554432 }
+        requires { code + store + room ≤ cells_limit }
         ensures { IfOk result (λ block. block ≡ zeros code store room) }
     {
         let len = (code + store + room) as usize;
@@ -54,7 +56,7 @@ impl Block {
     /// The address behind the memory's last cell.
     pub fn top(&self) -> u32
         ensures value { result ≡ 4 * length self.now.memory }
-        ensures small { 4 * length self.now.memory ≤ 134217728 }
+        ensures small { 4 * length self.now.memory ≤ memory_limit }
     {
         CELL_BYTES * (self.cells.len() as u32 - self.code)
     }

@@ -10,12 +10,13 @@ use Rattle.amx_format.specs.Records.{records_at}
 use Rattle.amx_format.specs.File.{IsFile, Answers}
 use Rattle.amx_format.specs.Limits.{IsWithinLimits}
 use Rattle.amx_format.proofs.TableLaws.{length-records_at}
+use Rattle.amx_ops.specs.Writable.{cells_limit, memory_limit}
 
 -- the parts of a file from code to stack top, in cells
 parts : (cod dat hea stp code store room : ℕ) → cod ≤ dat → dat ≤ hea → hea ≤ stp
-    → stp - cod ≤ 134217728
+    → stp - cod ≤ memory_limit
     → code ≡ (dat - cod) / 4 → store ≡ (hea - dat) / 4 → room ≡ (stp - hea) / 4
-    → code + store + room ≤ 33554432
+    → code + store + room ≤ cells_limit
 parts cod dat hea stp code store room a b c d e f g = omega arith
 
 few : (first past top n : ℕ) → past ≤ top → top < 2 ^ 31 → n ≡ (past - first) / 8 → n < 2 ^ 31

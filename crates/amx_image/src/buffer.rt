@@ -2,6 +2,7 @@ ghost use Rattle.std.specs.Prelude.{◌≡◌, ◌≤◌, ◌+◌, ◌*◌, ◌+
 ghost use Rattle.pawn_cells.specs.Cells.{IsCell};
 ghost use Rattle.amx_step.specs.Machine.{cell_count};
 ghost use Rattle.amx_format.specs.Layout.{half, word, cells};
+ghost use Rattle.amx_ops.specs.Writable.{cells_limit};
 
 use super::place::CELLS;
 use amx_machine::Machine;
@@ -30,7 +31,7 @@ impl Model for ImageBuffer {
 /// The cells of a machine, from the data's first one to the stack's top.
 pub fn cells_of(machine: &Machine) -> u32
     ensures count { result ≡ length machine.now.state.cells }
-    ensures few { length machine.now.state.cells ≤ 33554432 }
+    ensures few { length machine.now.state.cells ≤ cells_limit }
     ensures file { length machine.now.state.cells ≡ cell_count machine.now.amx }
 {
     let stk = machine.registers().stk;

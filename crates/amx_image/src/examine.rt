@@ -6,6 +6,7 @@ ghost use Rattle.amx_image.specs.Faults as faults;
 ghost use Rattle.amx_image.specs.Faults.{state_fault, fault_behind, first_fault};
 ghost use Rattle.amx_image.specs.Examined.{Tells, IsVersionOf};
 ghost use Rattle.amx_image.specs.declared.version.Version.TheVariants as kind;
+ghost use Rattle.amx_ops.specs.Writable.{cells_limit};
 
 use super::fault;
 use super::fault::ImageFault;
@@ -22,7 +23,7 @@ pub fn examine(
     digest: &[u8; 32],
     bytes: &[u8],
 ) -> Result<Version, ImageFault>
-    requires { count ≤ 33554432 }
+    requires { count ≤ cells_limit }
     ensures fault { Tells (first_fault verified.now count digest.now bytes.now) result }
     ensures version { IsVersionOf bytes.now result }
 {
@@ -53,7 +54,7 @@ fn examine_state(
     version: Version,
     bytes: &[u8],
 ) -> Result<(), ImageFault>
-    requires few { count ≤ 33554432 }
+    requires few { count ≤ cells_limit }
     requires front { CELLS ≤ length bytes.now }
     requires long { version ≡ kind.Whole → length bytes.now ≡ CELLS + 4 * count }
     ensures { Tells (state_fault verified.now count version (registers_at bytes.now) bytes.now)
@@ -105,7 +106,7 @@ fn has_digest(bytes: &[u8], digest: &[u8; 32]) -> bool
 
 /// Whether an image is of so many cells, and in version 1 has them all.
 fn has_count(version: Version, count: u32, bytes: &[u8]) -> bool
-    requires few { count ≤ 33554432 }
+    requires few { count ≤ cells_limit }
     requires front { CELLS ≤ length bytes.now }
     ensures has { result ≡ faults.has_count version count bytes.now }
     ensures long { IsTrue result → version ≡ kind.Whole → length bytes.now ≡ CELLS + 4 * count }
@@ -127,7 +128,7 @@ fn is_heap(verified: &Verified, hea: u32) -> bool
 
 /// Whether STK is in whole cells, from the heap to the top.
 fn is_stack(count: u32, hea: u32, stk: u32) -> bool
-    requires { count ≤ 33554432 }
+    requires { count ≤ cells_limit }
     ensures is { result ≡ faults.is_stack count hea stk }
     ensures order { IsTrue result → (hea ≤ stk) × (stk ≤ 4 * count) }
 {
@@ -136,7 +137,7 @@ fn is_stack(count: u32, hea: u32, stk: u32) -> bool
 
 /// Whether in version 1 the dead cells are 0, and in version 2 the live ones are all there.
 fn has_cells(version: Version, count: u32, hea: u32, stk: u32, bytes: &[u8]) -> bool
-    requires few { count ≤ 33554432 }
+    requires few { count ≤ cells_limit }
     requires order { (hea ≤ stk) × (stk ≤ 4 * count) }
     requires long { version ≡ kind.Whole → length bytes.now ≡ CELLS + 4 * count }
     ensures { result ≡ faults.has_cells version count hea stk bytes.now }

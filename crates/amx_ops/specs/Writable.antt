@@ -36,9 +36,13 @@ code_place amx = (names_end amx + 3) / 4 * 4
 abbrev pub cells_of : Amx → ℕ
 cells_of amx = length amx.code + length amx.store
 
--- code, data, heap and stack in bytes
+-- code, data, heap and stack in cells
+abbrev pub cells_limit : ℕ
+cells_limit = 33554432
+
+-- and in bytes
 abbrev pub memory_limit : ℕ
-memory_limit = 134217728
+memory_limit = 4 * cells_limit
 
 -- a name without a zero
 pub record IsWritableName (it : Record) : Type 0 where

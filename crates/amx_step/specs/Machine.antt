@@ -3,6 +3,7 @@ use Rattle.std.specs.Prelude.{◌≡◌, ◌+◌, ◌*◌, ◌%◌, ◌≤◌, �
 use Rattle.amx_block.specs.Contents.{Contents}
 use Rattle.amx_ops.specs.declared.amx.Amx.{Amx}
 use Rattle.amx_ops.specs.State.{State, first_hea}
+use Rattle.amx_ops.specs.Writable.{cells_limit}
 
 -- a file, and a state of its machine
 pub record Machine : Type 0 where
@@ -17,7 +18,7 @@ cell_count amx = length amx.store + amx.room
 -- are the file's
 pub record IsSound (amx : Amx) (top stk hea : ℕ) (block : Contents) : Type 0 where
   pub code : block.code ≡ amx.code
-  pub size : length amx.code + length block.memory ≤ 33554432
+  pub size : length amx.code + length block.memory ≤ cells_limit
   pub count : length block.memory ≡ cell_count amx
   pub top_is : top ≡ 4 * length block.memory
   pub first : first_hea amx ≤ hea

@@ -1,5 +1,6 @@
 ghost use Rattle.std.specs.Prelude.{◌≡◌, ◌+◌, ◌<◌, ◌≤◌, ◌++◌, length, pos, drop, replicate, IfOk};
 ghost use Rattle.amx_ops.specs.Trace.{loaded};
+ghost use Rattle.amx_ops.specs.Writable.{cells_limit};
 
 use super::registers::Core;
 use amx_block::Block;
@@ -36,7 +37,7 @@ impl<'v> Core<'v> {
 
 /// A block with a file's code and data.
 fn block_of(alloc: Global, amx: &Amx) -> Result<Block, Memory>
-    requires { length amx.now.code + length amx.now.store + amx.now.room ≤ 33554432 }
+    requires { length amx.now.code + length amx.now.store + amx.now.room ≤ cells_limit }
     ensures code { IfOk result (λ block. block.code ≡ amx.now.code) }
     ensures memory { IfOk result (λ block.
         block.memory ≡ amx.now.store ++ replicate amx.now.room (pos 0)) }
@@ -51,7 +52,7 @@ fn block_of(alloc: Global, amx: &Amx) -> Result<Block, Memory>
 
 fn put_code(block: &mut Block, code: &[i32])
     requires same { length code.now ≡ length block.old.code }
-    requires small { length code.now ≤ 33554432 }
+    requires small { length code.now ≤ cells_limit }
     ensures { block.new ≡ record block.old { code = code.now } }
 {
     for place in 0..code.len() {

@@ -4,6 +4,7 @@ ghost use Rattle.pawn_outside.specs.Rose.{risen};
 ghost use Rattle.pawn_outside.specs.Said.{Said};
 ghost use Rattle.amx_text.specs.Listing.{header_line, record_lines, table_lines, code_lines};
 ghost use Rattle.amx_text.specs.Listing.{data_from, listing};
+ghost use Rattle.amx_ops.specs.Writable.{cells_limit};
 
 use super::line::{say_data, say_instruction, say_record};
 use amx_ops::{Amx, Record, decode};
@@ -17,7 +18,7 @@ pub const WIDTH: usize = 8;
 /// tables, for each instruction, and for every eight cells of its data. It takes no memory, and
 /// answers as one write of the whole text would.
 pub fn list<S: Sink>(amx: &Amx, out: &mut S) -> WriteAnswer
-    requires { length amx.now.code + length amx.now.store + amx.now.room ≤ 33554432 }
+    requires { length amx.now.code + length amx.now.store + amx.now.room ≤ cells_limit }
     ensures answer { IsWrite (S.taken out.old) (listing amx.now) result (S.taken out.new) }
 
     // As of all sinks.
@@ -33,8 +34,8 @@ pub fn list<S: Sink>(amx: &Amx, out: &mut S) -> WriteAnswer
 }
 
 fn say_listing<S: Sink>(out: &mut S, amx: &Amx) -> Result<(), SinkFault>
-    requires code { length amx.now.code ≤ 33554432 }
-    requires store { length amx.now.store ≤ 33554432 }
+    requires code { length amx.now.code ≤ cells_limit }
+    requires store { length amx.now.store ≤ cells_limit }
     ensures { Said S.taken S.faults S.has_room out.old out.new (listing amx.now) result }
 {
     say_header(out, amx)?;
@@ -93,7 +94,7 @@ fn say_records<S: Sink>(out: &mut S, kind: &[u8], records: &[Record]) -> Result<
 
 /// Writes a line for each instruction, as far as each is whole.
 fn say_code<S: Sink>(out: &mut S, code: &[i32]) -> Result<(), SinkFault>
-    requires { length code.now ≤ 33554432 }
+    requires { length code.now ≤ cells_limit }
     ensures { Said S.taken S.faults S.has_room out.old out.new (code_lines code.now) result }
 {
     let mut place = 0;
@@ -113,7 +114,7 @@ fn say_code<S: Sink>(out: &mut S, code: &[i32]) -> Result<(), SinkFault>
 
 /// Writes the cells of the data, eight in a line.
 fn say_store<S: Sink>(out: &mut S, store: &[i32]) -> Result<(), SinkFault>
-    requires { length store.now ≤ 33554432 }
+    requires { length store.now ≤ cells_limit }
     ensures { Said S.taken S.faults S.has_room out.old out.new (data_from 0 0 store.now) result }
 {
     let mut place = 0;

@@ -6,6 +6,7 @@ use Rattle.amx_ops.specs.declared.instr.Instr.{Instr}
 use Rattle.amx_ops.specs.Table.{row_of}
 use Rattle.amx_ops.specs.Valid.{is_cases}
 use Rattle.amx_ops.specs.Instructions.{front}
+use Rattle.amx_ops.specs.Writable.{cells_limit}
 
 -- of a cell at which an instruction was looked for
 abbrev pub mark_by : Option Instr → Bool
@@ -27,7 +28,7 @@ marks zero (cell ∷ cells) =
 -- a file with its marks, within the limit of memory
 pub record IsMarked (amx : Amx) (starts : List Bool) : Type 0 where
   pub marked : starts ≡ marks 0 amx.code
-  pub memory : length amx.code + length amx.store + amx.room ≤ 33554432
+  pub memory : length amx.code + length amx.store + amx.room ≤ cells_limit
 
 -- an instruction, if it is there, is a case table
 abbrev pub table_by : Option Instr → Bool

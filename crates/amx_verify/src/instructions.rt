@@ -2,6 +2,7 @@ ghost use Rattle.std.specs.Prelude.{◌≡◌, ◌+◌, ◌*◌, ◌<◌, ◌≤
 ghost use Rattle.amx_ops.specs.Valid as valid;
 ghost use Rattle.amx_verify.specs.Verdict.{Judges, Tells};
 ghost use Rattle.amx_verify.specs.Fronts.{whole_fault, FrontIs};
+ghost use Rattle.amx_ops.specs.Writable.{cells_limit};
 
 use super::fault::VerifyFault;
 use amx_ops::{Instr, Operand, decode, row_at};
@@ -9,7 +10,7 @@ use amx_ops::{Instr, Operand, decode, row_at};
 /// Whether code is a row of whole instructions with proper operands, in a file with so many
 /// natives.
 pub fn check_whole(code: &[i32], natives: usize) -> Result<(), VerifyFault>
-    requires { length code.now ≤ 33554432 }
+    requires { length code.now ≤ cells_limit }
     ensures { Judges result (whole_fault natives 0 code.now) }
 {
     let mut place = 0;
@@ -22,7 +23,7 @@ pub fn check_whole(code: &[i32], natives: usize) -> Result<(), VerifyFault>
 /// The size in cells of the instruction at the front.
 fn check_front(cells: &[i32], natives: usize, at: u32) -> Result<usize, VerifyFault>
     requires some { 0 < length cells.now }
-    requires small { length cells.now ≤ 33554432 }
+    requires small { length cells.now ≤ cells_limit }
     ensures front { FrontIs natives at cells.now result }
     ensures size { IfOk result (λ size. (1 ≤ size) × (size ≤ length cells.now)) }
 {

@@ -4,6 +4,7 @@ ghost use Rattle.amx_ops.specs.Instructions as instructions;
 ghost use Rattle.amx_ops.specs.Instructions.{fetched, front, placed};
 ghost use Rattle.amx_ops.specs.Valid as valid;
 ghost use Rattle.amx_verify.specs.Marks.{marks, table_by};
+ghost use Rattle.amx_ops.specs.Writable.{cells_limit};
 
 use super::fault::VerifyFault;
 use amx_ops::{Amx, Instr, Operand, decode, row_at};
@@ -33,7 +34,7 @@ impl Model for Marked {
 impl Marked {
     /// Marks where the instructions start, as far as they are whole.
     pub fn new(alloc: Global, amx: Amx) -> Result<Marked, Memory>
-        requires { length amx.code + length amx.store + amx.room ≤ 33554432 }
+        requires { length amx.code + length amx.store + amx.room ≤ cells_limit }
         ensures { IfOk result (λ marked. marked ≡ amx) }
     {
         let starts = starts_of(alloc, amx.code.as_slice())?;
@@ -42,7 +43,7 @@ impl Marked {
 
     pub fn amx(&self) -> &Amx
         ensures value { result.now ≡ self.now }
-        ensures memory { length self.now.code + length self.now.store + self.now.room ≤ 33554432 }
+        ensures memory { length self.now.code + length self.now.store + self.now.room ≤ cells_limit }
     {
         &self.amx
     }

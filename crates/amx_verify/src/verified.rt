@@ -4,6 +4,7 @@ ghost use Rattle.amx_ops.specs.Instructions as instructions;
 ghost use Rattle.amx_ops.specs.Instructions.{fetched, front};
 ghost use Rattle.amx_ops.specs.Valid as valid;
 ghost use Rattle.amx_verify.specs.Verdict.{fault_in, Judges};
+ghost use Rattle.amx_ops.specs.Writable.{cells_limit};
 
 use super::fault::VerifyFault;
 use super::instructions::check_whole;
@@ -34,7 +35,7 @@ impl Model for Verified {
 /// Takes a file whose code is valid and whose entries begin at instructions, or tells its first
 /// fault. Its code, data and room are within the limit of memory.
 pub fn verify(alloc: Global, amx: Amx) -> Result<Verified, VerifyFault>
-    requires memory { length amx.code + length amx.store + amx.room ≤ 33554432 }
+    requires memory { length amx.code + length amx.store + amx.room ≤ cells_limit }
     requires tables { (length amx.publics < 2 ^ 31) × (length amx.natives < 2 ^ 31) }
     ensures verdict { Judges result (fault_in amx) }
     ensures kept { IfOk result (λ verified. verified ≡ amx) }
@@ -52,7 +53,7 @@ impl Verified {
         ensures value { result.now ≡ self.now }
         ensures valid { valid.IsValid self.now.code (length self.now.natives) self.now.entry
             (map (λ it. it.address) self.now.publics) }
-        ensures memory { length self.now.code + length self.now.store + self.now.room ≤ 33554432 }
+        ensures memory { length self.now.code + length self.now.store + self.now.room ≤ cells_limit }
     {
         self.marked.amx()
     }

@@ -72,14 +72,21 @@ fn own_tag(params: &[Param], param: u32) -> u32
     }
 }
 
+/// The parameters of a head with what is shown of their slots.
+#[derive(Clone, Copy)]
+struct Seen<'a> {
+    params: &'a [Param],
+    shown: &'a [Option<Shown>],
+}
+
 /// The tag of what a parameter got: without an argument its own.
-fn tag_given(params: &[Param], shown: &[Option<Shown>], param: u32) -> u32
-    ensures { result ≡ tag_shown (spec.own_tag (map param_view params.now) param)
-        (slice_get shown.now param) }
+fn tag_given(seen: Seen, param: u32) -> u32
+    ensures { result ≡ tag_shown (spec.own_tag (map param_view seen.entry.params.now) param)
+        (slice_get seen.entry.shown.now param) }
 {
-    match shown.get(param as usize) {
-        None => own_tag(params, param),
-        Some(None) => own_tag(params, param),
+    match seen.shown.get(param as usize) {
+        None => own_tag(seen.params, param),
+        Some(None) => own_tag(seen.params, param),
         Some(Some(it)) => it.tag,
     }
 }
@@ -115,23 +122,23 @@ fn default_of(
     alloc: Global,
     cx: &Context,
     at: At,
-    params: &[Param],
-    shown: &[Option<Shown>],
+    seen: Seen,
     param: &Param,
 ) -> Result<Box<Arg>, CheckFault>
-    ensures { (slots : List (Option Held)) → shown.now ≡ map shown_in slots →
-        Answers arg_code (spec.default_of (around_view cx.now) at (map param_view params.now)
-        (slots_view slots) (param_view param.now) (param_view param.now).default) result }
+    ensures { (slots : List (Option Held)) → seen.entry.shown.now ≡ map shown_in slots →
+        Answers arg_code (spec.default_of (around_view cx.now) at
+        (map param_view seen.entry.params.now) (slots_view slots) (param_view param.now)
+        (param_view param.now).default) result }
 {
     match param.default {
         ParamDefault::Nothing => Err(broken(ARGUMENT_MISSING, at.place)),
         ParamDefault::Always(value, tag) => Ok(default_arg(alloc, cx, param, value, tag)?),
-        ParamDefault::SizeOf(number) => match i32::try_from(size_given(shown, number)) {
+        ParamDefault::SizeOf(number) => match i32::try_from(size_given(seen.shown, number)) {
             Err(_) => Err(CheckFault::Memory),
             Ok(size) => Ok(default_arg(alloc, cx, param, size, UNTAGGED)?),
         },
         ParamDefault::TagOf(number) => {
-            let tag = tag_given(params, shown, number).cast_signed();
+            let tag = tag_given(seen, number).cast_signed();
             Ok(default_arg(alloc, cx, param, tag, UNTAGGED)?)
         }
     }
@@ -142,19 +149,19 @@ fn arg_of(
     alloc: Global,
     cx: &Context,
     at: At,
-    params: &[Param],
-    shown: &[Option<Shown>],
+    seen: Seen,
     param: &Param,
     it: Option<Filled>,
 ) -> Result<Box<Arg>, CheckFault>
-    ensures { (slots : List (Option Held)) → shown.now ≡ map shown_in slots →
-        Answers arg_code (spec.arg_of (around_view cx.now) at (map param_view params.now)
-        (slots_view slots) (param_view param.now) (option_map filled_view it)) result }
+    ensures { (slots : List (Option Held)) → seen.entry.shown.now ≡ map shown_in slots →
+        Answers arg_code (spec.arg_of (around_view cx.now) at
+        (map param_view seen.entry.params.now) (slots_view slots) (param_view param.now)
+        (option_map filled_view it)) result }
 {
     match it {
         Some(Filled::Argument(it)) => Ok(it.code),
-        None => default_of(alloc, cx, at, params, shown, param),
-        Some(Filled::Default) => default_of(alloc, cx, at, params, shown, param),
+        None => default_of(alloc, cx, at, seen, param),
+        Some(Filled::Default) => default_of(alloc, cx, at, seen, param),
     }
 }
 
@@ -184,6 +191,7 @@ pub fn args(
 {
     let all = all_shown(alloc, slots.as_slice())?;
     let shown = all.as_slice();
+    let seen = Seen { params, shown };
     let mut slots = slots;
     let mut args = List::new(alloc);
     for i in 0..params.len() {
@@ -192,7 +200,7 @@ pub fn args(
             return Err(broken(ARGUMENT_MISSING, at.place));
         }
         let it = mem::replace(&mut slots[i], None);
-        let arg = arg_of(alloc, cx, at, params, shown, param, it)?;
+        let arg = arg_of(alloc, cx, at, seen, param, it)?;
         push_boxed(&mut args, arg)?;
     }
     args.append(others)?;

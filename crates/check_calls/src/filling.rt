@@ -55,6 +55,14 @@ pub struct Filling {
     pub made: Made,
 }
 
+/// A call: what stands around it, its token, and the head of what it calls.
+#[derive(Clone, Copy)]
+struct Call<'a> {
+    cx: &'a Context,
+    at: At,
+    head: &'a Head,
+}
+
 /// A slot for each parameter, with nothing in it.
 fn empty_slots(alloc: Global, params: &[Param]) -> Result<Vec<Option<Filled>>, Memory>
     ensures { IfOk result (λ slots. slots.items ≡ map nothing_for params.now) }
@@ -168,25 +176,19 @@ fn with_rest(done: Filling, it: Given) -> Result<Filling, Memory>
 }
 
 /// An argument behind all parameters, which belongs to `...`.
-fn for_rest(
-    alloc: Global,
-    cx: &Context,
-    at: At,
-    head: &Head,
-    done: Filling,
-    x: Typed,
-) -> Result<Filling, CheckFault>
-    ensures { Answers filling_view (spec.for_rest (around_view cx.now) at (head_view head.now)
-        (filling_view done) head.now.rest (typed_view x)) result }
+fn for_rest(alloc: Global, call: Call, done: Filling, x: Typed) -> Result<Filling, CheckFault>
+    ensures { Answers filling_view (spec.for_rest (around_view call.entry.cx.now) call.entry.at
+        (head_view call.entry.head.now) (filling_view done) call.entry.head.now.rest
+        (typed_view x)) result }
 {
-    match &head.rest {
+    match &call.head.rest {
         None => {
             // by name, here and below, since the end of a block would write their drops out
             drop(done);
             drop(x);
-            Err(broken(TOO_MANY_ARGUMENTS, at.place))
+            Err(broken(TOO_MANY_ARGUMENTS, call.at.place))
         }
-        Some(tags) => match rest_given(alloc, cx, tags.as_slice(), x) {
+        Some(tags) => match rest_given(alloc, call.cx, tags.as_slice(), x) {
             Ok(it) => Ok(with_rest(done, it)?),
             Err(_) => {
                 drop(done);
@@ -208,44 +210,38 @@ fn param_at<'a>(head: &'a Head, i: usize) -> Option<&'a Param>
 }
 
 /// An argument in its turn.
-fn positional(
-    alloc: Global,
-    cx: &Context,
-    at: At,
-    head: &Head,
-    done: Filling,
-    x: Typed,
-) -> Result<Filling, CheckFault>
-    ensures { Answers filling_view (spec.positional (around_view cx.now) at (head_view head.now)
-        (filling_view done) (slice_get (map param_view head.now.params) done.next)
-        (typed_view x)) result }
+fn positional(alloc: Global, call: Call, done: Filling, x: Typed) -> Result<Filling, CheckFault>
+    ensures { Answers filling_view (spec.positional (around_view call.entry.cx.now) call.entry.at
+        (head_view call.entry.head.now) (filling_view done)
+        (slice_get (map param_view call.entry.head.now.params) done.next) (typed_view x)) result }
 {
     let i = done.next;
-    match param_at(head, i) {
-        None => for_rest(alloc, cx, at, head, done, x),
+    match param_at(call.head, i) {
+        None => for_rest(alloc, call, done, x),
         Some(param) => {
             let next = one_more(i)?;
-            for_param(alloc, cx, at, done, i, param, x, next)
+            for_param(alloc, call.cx, call.at, done, i, param, x, next)
         }
     }
 }
 
 /// `_`, which gives a parameter its default. `...` has none.
 #[tactic(auto, using(pawn_verdict::proofs::VerdictLaws::verdicts))]
-fn skipped(cx: &Context, at: At, head: &Head, done: Filling) -> Result<Filling, CheckFault>
-    ensures { Answers filling_view (spec.skipped (around_view cx.now) at (head_view head.now)
-        (filling_view done) (slice_get (map param_view head.now.params) done.next)) result }
+fn skipped(call: Call, done: Filling) -> Result<Filling, CheckFault>
+    ensures { Answers filling_view (spec.skipped (around_view call.entry.cx.now) call.entry.at
+        (head_view call.entry.head.now) (filling_view done)
+        (slice_get (map param_view call.entry.head.now.params) done.next)) result }
 {
-    match param_at(head, done.next) {
+    match param_at(call.head, done.next) {
         None => {
             drop(done);
-            match &head.rest {
-                None => Err(broken(TOO_MANY_ARGUMENTS, at.place)),
-                Some(_) => Err(broken(ARGUMENT_MISSING, at.place)),
+            match &call.head.rest {
+                None => Err(broken(TOO_MANY_ARGUMENTS, call.at.place)),
+                Some(_) => Err(broken(ARGUMENT_MISSING, call.at.place)),
             }
         }
         Some(_) => {
-            let slots = put(at, done.next, Filled::Default, done.slots)?;
+            let slots = put(call.at, done.next, Filled::Default, done.slots)?;
             Ok(Filling {
                 next: one_more(done.next)?,
                 slots,
@@ -289,34 +285,33 @@ fn find_param(head: &Head, numbers: &Option<Numbers>, name: &Bytes) -> Option<us
 /// The argument of the parameter with a name.
 fn named(
     alloc: Global,
-    cx: &Context,
-    at: At,
-    head: &Head,
+    call: Call,
     numbers: &Option<Numbers>,
     done: Filling,
     name: &Bytes,
     x: Typed,
 ) -> Result<Filling, CheckFault>
-    requires { IfSome numbers.now (λ (it : Table). AreNumbers head.now.params it.table.entries) }
-    ensures { Answers filling_view (spec.named (around_view cx.now) at (head_view head.now)
-        (filling_view done)
-        (spec.number_of_param (around_view cx.now) at (head_view head.now) name.now)
-        (typed_view x)) result }
+    requires { IfSome numbers.now
+        (λ (it : Table). AreNumbers call.head.now.params it.table.entries) }
+    ensures { Answers filling_view (spec.named (around_view call.entry.cx.now) call.entry.at
+        (head_view call.entry.head.now) (filling_view done)
+        (spec.number_of_param (around_view call.entry.cx.now) call.entry.at
+        (head_view call.entry.head.now) name.now) (typed_view x)) result }
 {
     let next = done.next;
-    match find_param(head, numbers, name) {
+    match find_param(call.head, numbers, name) {
         None => {
             drop(done);
             drop(x);
-            Err(broken(UNDEFINED, at.place))
+            Err(broken(UNDEFINED, call.at.place))
         }
-        Some(i) => match param_at(head, i) {
+        Some(i) => match param_at(call.head, i) {
             None => {
                 drop(done);
                 drop(x);
-                Err(broken(UNDEFINED, at.place))
+                Err(broken(UNDEFINED, call.at.place))
             }
-            Some(param) => for_param(alloc, cx, at, done, i, param, x, next),
+            Some(param) => for_param(alloc, call.cx, call.at, done, i, param, x, next),
         },
     }
 }
@@ -330,21 +325,20 @@ fn named(
 /// many.
 fn offered(
     alloc: Global,
-    cx: &Context,
-    at: At,
-    head: &Head,
+    call: Call,
     numbers: &Option<Numbers>,
     done: Filling,
     it: Offer,
 ) -> Result<Filling, CheckFault>
-    requires { IfSome numbers.now (λ (it : Table). AreNumbers head.now.params it.table.entries) }
-    ensures { Answers filling_view (spec.offer_step (around_view cx.now) at (head_view head.now)
-        (filling_view done) (offer_view it.entry)) result }
+    requires { IfSome numbers.now
+        (λ (it : Table). AreNumbers call.head.now.params it.table.entries) }
+    ensures { Answers filling_view (spec.offer_step (around_view call.entry.cx.now) call.entry.at
+        (head_view call.entry.head.now) (filling_view done) (offer_view it.entry)) result }
 {
     match it {
-        Offer::Positional(x) => positional(alloc, cx, at, head, done, x),
-        Offer::Skipped => skipped(cx, at, head, done),
-        Offer::Named(name, x) => named(alloc, cx, at, head, numbers, done, name, x),
+        Offer::Positional(x) => positional(alloc, call, done, x),
+        Offer::Skipped => skipped(call, done),
+        Offer::Named(name, x) => named(alloc, call, numbers, done, name, x),
     }
 }
 
@@ -390,10 +384,11 @@ fn fill_by(
     ensures { Answers filling_view (spec.fill (around_view cx.now) at (head_view head.now)
         (map offer_view offers.entry.items)) result }
 {
+    let call = Call { cx, at, head };
     let nothing = nothing_filled(alloc, head)?;
     let mut done = nothing;
     for it in offers {
-        done = offered(alloc, cx, at, head, numbers, done, it)?;
+        done = offered(alloc, call, numbers, done, it)?;
     }
     Ok(done)
 }

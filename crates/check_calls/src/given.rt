@@ -76,25 +76,6 @@ fn value(alloc: Global, at: At, form: Form) -> Result<Box<Expr>, CheckFault>
     }
 }
 
-#[tactic(auto, unfolding(types_rules::specs::Given::plain_given), using(pawn_verdict::proofs::VerdictLaws::verdicts))]
-fn plain_given(
-    alloc: Global,
-    cx: &Context,
-    at: At,
-    param: &Param,
-    x: Typed,
-) -> Result<Given, CheckFault>
-    ensures verdict { Answers given_view
-        (spec.plain_given (around_view cx.now) at (param_view param.now) (typed_view x)) result }
-    ensures literals { IfOk result (λ it. it.made.literals ≡ x.made.literals) }
-{
-    let code = value(alloc, at, x.form)?;
-    let sent = send(alloc, cx, param.tags.as_slice(), x.tag, code)?;
-    let arg = Arg::Value(Box::into_inner(sent.code));
-    let given = give_tested(alloc, arg, 1, x.tag, x.made, sent.passed, x.at)?;
-    Ok(given)
-}
-
 // ---- a reference
 
 /// A packed character, which no reference leads to.
@@ -155,25 +136,6 @@ fn place(at: At, wanted: bool, form: Form) -> Result<Scalar, CheckFault>
         Form::Whole(..) => Err(broken(ARGUMENT_KIND, at.place)),
         Form::Literal(..) => Err(broken(ARGUMENT_KIND, at.place)),
     }
-}
-
-#[tactic(auto, unfolding(types_rules::specs::Given::reference_given), using(pawn_verdict::proofs::VerdictLaws::verdicts))]
-fn reference_given(
-    alloc: Global,
-    cx: &Context,
-    at: At,
-    param: &Param,
-    x: Typed,
-) -> Result<Given, CheckFault>
-    ensures verdict { Answers given_view
-        (spec.reference_given (around_view cx.now) at (param_view param.now)
-        (typed_view x)) result }
-    ensures literals { IfOk result (λ it. it.made.literals ≡ x.made.literals) }
-{
-    let place = place(at, param.constant, x.form)?;
-    let passed = matches(&cx.tags, param.tags.as_slice(), x.tag);
-    let given = give_tested(alloc, Arg::Ref(place), 1, x.tag, x.made, passed, x.at)?;
-    Ok(given)
 }
 
 // ---- an array
@@ -330,6 +292,7 @@ fn array_given(
 /// # Errors
 ///
 /// 58 for an argument of another kind, 55 for an array of other sizes.
+#[tactic(auto, unfolding(types_rules::specs::Given::reference_given, types_rules::specs::Given::plain_given), using(pawn_verdict::proofs::VerdictLaws::verdicts))]
 pub fn give(
     alloc: Global,
     cx: &Context,
@@ -345,9 +308,16 @@ pub fn give(
         Some(wanted) => array_given(alloc, cx, at, param, wanted, x),
         None => {
             if param.reference {
-                reference_given(alloc, cx, at, param, x)
+                let place = place(at, param.constant, x.form)?;
+                let passed = matches(&cx.tags, param.tags.as_slice(), x.tag);
+                let given = give_tested(alloc, Arg::Ref(place), 1, x.tag, x.made, passed, x.at)?;
+                Ok(given)
             } else {
-                plain_given(alloc, cx, at, param, x)
+                let code = value(alloc, at, x.form)?;
+                let sent = send(alloc, cx, param.tags.as_slice(), x.tag, code)?;
+                let arg = Arg::Value(Box::into_inner(sent.code));
+                let given = give_tested(alloc, arg, 1, x.tag, x.made, sent.passed, x.at)?;
+                Ok(given)
             }
         }
     }

@@ -19,7 +19,7 @@ use check_nodes::{
 use pawn_base::Memory;
 use pawn_cells::Operator;
 use pawn_meaning::{Expr, Scalar};
-use pawn_tags::{Choice, Op, matches};
+use pawn_tags::{Choice, matches};
 use pawn_tree::At;
 use pawn_verdict::{Between, CheckFault, broken};
 use std::alloc::Global;
@@ -132,33 +132,13 @@ fn update_chosen(
     }
 }
 
-/// An operator with `=`.
+/// What a sign stands for, with `=` behind it.
 ///
 /// # Errors
 ///
 /// 52 for a target that can't be written, 54 for an array, 67 for a built-in division by a constant
 /// that is 0.
 #[tactic(auto, unfolding(types_rules::specs::Assignments::update_rule), using(pawn_verdict::proofs::VerdictLaws::verdicts))]
-fn update(
-    alloc: Global,
-    cx: &Context,
-    at: At,
-    it: Operator,
-    user: Option<Op>,
-    x: Typed,
-    y: Typed,
-) -> Result<Typed, CheckFault>
-    ensures { Answers typed_view
-        (spec.update_rule (around_view cx.now) at it user (typed_view x) (typed_view y)) result }
-{
-    let by = chosen(cx, user, x.tag, y.tag);
-    let place = target_of(at, x);
-    let operand = y.as_operand(alloc, at);
-    let (place, operand) = (place?, operand?);
-    update_chosen(alloc, cx, at, it, by, place, operand)
-}
-
-/// What a sign stands for, with `=` behind it.
 pub fn update_by(
     alloc: Global,
     cx: &Context,
@@ -171,7 +151,13 @@ pub fn update_by(
         (typed_view x) (typed_view y)) result }
 {
     match by {
-        Between::Operates(it, user) => update(alloc, cx, at, it, user, x, y),
+        Between::Operates(it, user) => {
+            let choice = chosen(cx, user, x.tag, y.tag);
+            let place = target_of(at, x);
+            let operand = y.as_operand(alloc, at);
+            let (place, operand) = (place?, operand?);
+            update_chosen(alloc, cx, at, it, choice, place, operand)
+        }
         Between::Decides(_) => Err(broken(UNDEFINED, at.place)),
         Between::Takes => Err(broken(UNDEFINED, at.place)),
         Between::Nothing => Err(broken(UNDEFINED, at.place)),

@@ -1,30 +1,25 @@
 -- What headings say of each function, heading by heading.
 use Rattle.std.proofs.Common.{◌≡◌, ◌≢◌, ◌<◌, ◌≤◌, ℕ, zero, suc, Bool, true, false, ◌||◌, ◌&&◌}
-use Rattle.std.proofs.Common.{if◌then◌else◌, List, [], ◌∷◌, ◌++◌, length, set, replicate, Option}
+use Rattle.std.proofs.Common.{List, [], ◌∷◌, ◌++◌, length, set, replicate, Option}
 use Rattle.std.proofs.Common.{Some, None, refl, sym, ap, ap₂, ◌∙◌, arith}
 use Rattle.std.specs.Prelude.{slice_get, unwrap_or}
 use Rattle.std.specs.List.{list_any}
 use Rattle.std.proofs.lemmas.Bool.{false≢true}
 use Rattle.std.proofs.lemmas.List.{length-replicate}
-use Rattle.std.specs.Cmp.Lexicographic.{bytes_decides}
-use Rattle.pawn_tags.proofs.OverloadLaws.{itself_for}
-use Rattle.types_rules.specs.Keys.{Key, Named, Operates, Enters, Misshapen, same_key}
-use Rattle.types_rules.specs.Groups.{Group, is_entry, number_of}
-use Rattle.types_rules.specs.Headings.{Heading, Role, IsNative, IsForward, IsBody, heading_key}
-use Rattle.types_rules.specs.Headings.{is_enters, is_of, belongs}
-use Rattle.check_source.specs.Update.{updated}
+use Rattle.types_rules.specs.Keys.{Key, same_key}
+use Rattle.types_rules.specs.Groups.{Group, number_of}
+use Rattle.types_rules.specs.Headings.{Heading}
+use Rattle.types_rules.specs.Headings.{is_enters, belongs}
 use Rattle.check_source.proofs.PlaceLaws.{length_updated}
 use Rattle.check_source.proofs.TableLaws.{equal_keys}
-use Rattle.check_functions.specs.Own.{enters_by, enters_all, own_by, is_key, number_in, HasNumber}
-use Rattle.check_functions.proofs.OwnLaws.{keyed_at, same_some}
-use Rattle.check_declarations.specs.Marked.{marked, flag_at, enters, says_all, key_if, public_key}
+use Rattle.check_functions.specs.Own.{enters_all, is_key, number_in, HasNumber}
+use Rattle.check_functions.proofs.OwnLaws.{got_updated, other_updated, updated_past, same_number}
+use Rattle.check_functions.proofs.OwnLaws.{differs, same_at, number_less, or_none, role_is}
+use Rattle.check_functions.proofs.OwnLaws.{never_own, or_false}
+use Rattle.check_declarations.specs.Marked.{marked, flag_at, says_all, key_if, public_key}
 use Rattle.check_declarations.specs.Marked.{says_own, AreMarked}
 
 -- ---- whether some element passes
-
-pub or_false : (b : Bool) → b || false ≡ b
-or_false true = refl
-or_false false = refl
 
 or_assoc : (a b c : Bool) → (a || b) || c ≡ a || (b || c)
 or_assoc true b c = refl
@@ -64,51 +59,17 @@ any_apart p q e (x ∷ xs) =
 
 -- ---- marks
 
-got_marked : (xs : List Bool) (i : ℕ) (x : Bool) → slice_get xs i ≡ Some x
-    → slice_get (updated xs i (λ (flag : Bool). true)) i ≡ Some true
-got_marked [] i x h = absurd (let no : ⊥ = cc in no)
-got_marked (y ∷ ys) zero x h = refl
-got_marked (y ∷ ys) (suc i) x h = got_marked ys i x h
-
-other_marked : (xs : List Bool) (i j : ℕ) → j ≢ i
-    → slice_get (updated xs i (λ (flag : Bool). true)) j ≡ slice_get xs j
-other_marked [] i j h = refl
-other_marked (y ∷ ys) zero zero h = absurd (h refl)
-other_marked (y ∷ ys) zero (suc j) h = refl
-other_marked (y ∷ ys) (suc i) zero h = refl
-other_marked (y ∷ ys) (suc i) (suc j) h = other_marked ys i j (λ e. h (ap suc e))
-
 pub set_marks : (xs : List Bool) (i : ℕ) → set xs i true ≡ marked (Some i) xs
 set_marks [] i = refl
 set_marks (x ∷ xs) zero = refl
 set_marks (x ∷ xs) (suc i) = ap (λ (r : List Bool). x ∷ r) (set_marks xs i)
 
 pub marked_past : (xs : List Bool) (i : ℕ) → length xs ≤ i → xs ≡ marked (Some i) xs
-marked_past [] i h = refl
-marked_past (x ∷ xs) zero h = absurd (omega (arith, h))
-marked_past (x ∷ xs) (suc i) h =
-    let less : length xs ≤ i = omega (arith, h) in
-    ap (λ (r : List Bool). x ∷ r) (marked_past xs i less)
+marked_past xs i h = updated_past xs i (λ (flag : Bool). true) h
 
 marked_long : (number : Option ℕ) (flags : List Bool) → length (marked number flags) ≡ length flags
 marked_long None flags = refl
 marked_long (Some n) flags = length_updated flags n (λ (flag : Bool). true)
-
-same_number : (groups : List Group) (x y : Key) (n : ℕ) → number_of groups x ≡ Some n
-    → number_of groups y ≡ Some n → same_key x y ≡ true
-same_number groups x y n hx hy =
-    let gx = keyed_at groups x n hx in
-    let gy = keyed_at groups y n hy in
-    let one : gx.0 ≡ gy.0 = same_some gx.0 gy.0 (sym gx.1 ∙ gy.1) in
-    ap (λ (k : Key). same_key k y) (sym (equal_keys gx.0.key x gx.2))
-    ∙ ap (λ (g : Group). same_key g.key y) one ∙ gy.2
-
-differs : (groups : List Group) (key other : Key) (n : ℕ) (b : Bool) → same_key key other ≡ b
-    → number_of groups key ≡ Some n → number_of groups other ≡ None → same_key key other ≡ false
-differs groups key other n true s k none =
-    absurd
-    (let no : ⊥ = (let e : Some n ≡ None = sym k ∙ ap (number_of groups) (equal_keys key other s) ∙ none in cc) in no)
-differs groups key other n false s k none = s
 
 -- ---- one more heading
 
@@ -145,7 +106,8 @@ module _ (names : List (List ℕ)) (fallback : List ℕ) (groups : List Group) (
       let same : Some n ≡ Some m = sym k ∙ ap (number_of groups) equal ∙ o in
       let one : n ≡ m = cc in
       ap (slice_get (marked (Some m) flags)) one
-      ∙ got_marked flags m (list_any (says_own names fallback key) before) (h key m (k ∙ same))
+      ∙ got_updated flags m (list_any (says_own names fallback key) before)
+      (λ (flag : Bool). true) (h key m (k ∙ same))
       ∙ ap Some (sym (says_push key (Some other) e
       ∙ ap (λ (b : Bool). list_any (says_own names fallback key) before || b) s
       ∙ or_true (list_any (says_own names fallback key) before)))
@@ -157,7 +119,7 @@ module _ (names : List (List ℕ)) (fallback : List ℕ) (groups : List Group) (
       let apart : n ≢ m =
       λ same. false≢true (sym s ∙ same_number groups key other n k (o ∙ ap Some (sym same)))
       in
-      other_marked flags m n apart
+      other_updated flags m n (λ (flag : Bool). true) apart
       ∙ h key n k ∙ ap Some (sym (kept key (Some other) e s))
 
   own_step : (flags : List Bool) (key : Option Key) (number : Option ℕ) → AreOwn before flags
@@ -186,17 +148,6 @@ module _ (names : List (List ℕ)) (fallback : List ℕ) (groups : List Group) (
 
 -- ---- no heading
 
-none_at : (i count : ℕ) → i < count → slice_get (replicate count false) i ≡ Some false
-none_at i zero lt = absurd (omega (arith, lt))
-none_at zero (suc count) lt = refl
-none_at (suc i) (suc count) lt = let less : i < count = omega (arith, lt) in none_at i count less
-
-slice_less : (xs : List Group) (i : ℕ) (x : Group) → slice_get xs i ≡ Some x → i < length xs
-slice_less [] i x h = absurd (let no : ⊥ = cc in no)
-slice_less (y ∷ ys) zero x h = omega arith
-slice_less (y ∷ ys) (suc i) x h =
-    let less : i < length ys = slice_less ys i x h in omega (arith, less)
-
 pub marks_begin : (names : List (List ℕ)) (fallback : List ℕ) (groups : List Group)
     (flags : List Bool) (count : ℕ)
     → flags ≡ replicate count false → count ≡ length groups
@@ -204,37 +155,13 @@ pub marks_begin : (names : List (List ℕ)) (fallback : List ℕ) (groups : List
 marks_begin names fallback groups flags count o n = record {
   long = ap length o ∙ length-replicate count false ∙ n;
   marks = λ key m k.
-      let at = keyed_at groups key m k in
-      let less : m < length groups = slice_less groups m at.0 at.1 in
+      let less : m < length groups = number_less groups key m k in
       let within : m < count = omega arith in
-      ap (λ (xs : List Bool). slice_get xs m) o ∙ none_at m count within;
+      ap (λ (xs : List Bool). slice_get xs m) o ∙ same_at false m count within;
   entering = refl;
 }
 
 -- ---- all that a heading says of a function
-
-or_none : (x e : Bool) → x ≡ x || (e && false)
-or_none true e = refl
-or_none false true = refl
-or_none false false = refl
-
-forward_by : (b e : Bool) (key own : Key) (names : List (List ℕ)) (fallback : List ℕ)
-    → (if b then e else same_key key own)
-    ≡ is_key names fallback key (if b then None else Some own) || (e && b)
-forward_by true true key own names fallback = refl
-forward_by true false key own names fallback = refl
-forward_by false e key own names fallback = or_none (same_key key own) e
-
-role_is : (names : List (List ℕ)) (fallback : List ℕ) (key : Key) (it : Heading) (role : Role)
-    → is_of names fallback key it role
-    ≡ is_key names fallback key (own_by names fallback it role)
-    || (is_enters key && enters_by it role)
-role_is names fallback key it IsNative = or_none false (is_enters key)
-role_is names fallback key it IsForward =
-    forward_by (is_entry it.head.name) (is_enters key) key
-    (heading_key names fallback it) names fallback
-role_is names fallback key it IsBody =
-    or_none (same_key key (heading_key names fallback it)) (is_enters key)
 
 says_by : (names : List (List ℕ)) (fallback : List ℕ) (key : Key) (it : Heading) (b : Bool)
     → (b && belongs names fallback key it)
@@ -242,23 +169,6 @@ says_by : (names : List (List ℕ)) (fallback : List ℕ) (key : Key) (it : Head
     || (is_enters key && (b && enters_all it))
 says_by names fallback key it true = role_is names fallback key it it.role
 says_by names fallback key it false = or_none false (is_enters key)
-
-same_enters : (key : Key) → is_enters key ≡ enters key
-same_enters (Named name) = refl
-same_enters (Operates it) = refl
-same_enters (Enters name) = refl
-same_enters Misshapen = refl
-
-never_own : (names : List (List ℕ)) (fallback : List ℕ) (key : Key) (own : Option Key)
-    → same_key key key ≡ false → is_key names fallback key own ≡ false
-never_own names fallback key None h = refl
-never_own names fallback (Named x) (Some own) h =
-    absurd (false≢true (sym h ∙ (bytes_decides x x).1 refl))
-never_own names fallback (Operates x) (Some own) h =
-    absurd (false≢true (sym h ∙ itself_for x.op x.left x.right))
-never_own names fallback (Enters x) (Some own) h =
-    absurd (false≢true (sym h ∙ (bytes_decides x x).1 refl))
-never_own names fallback Misshapen (Some own) h = refl
 
 flag_is : (names : List (List ℕ)) (fallback : List ℕ) (groups : List Group)
     (headings : List Heading) (flags : List Bool) (entry : Bool) (key : Key) (number : Option ℕ)
@@ -275,12 +185,12 @@ flag_is names fallback groups headings flags entry key (Some m) h k n =
 pub says_is : (names : List (List ℕ)) (fallback : List ℕ) (groups : List Group)
     (headings : List Heading) (flags : List Bool) (entry : Bool) (key : Key)
     → AreMarked names fallback groups headings flags entry → HasNumber groups key
-    → flag_at flags (number_in groups (Some key)) || (enters key && entry)
+    → flag_at flags (number_in groups (Some key)) || (is_enters key && entry)
     ≡ list_any (λ (it : Heading). it.is_public && belongs names fallback key it) headings
 says_is names fallback groups headings flags entry key h k =
     ap₂ (λ (a b : Bool). a || b)
     (flag_is names fallback groups headings flags entry key (number_of groups key) h k refl)
-    (ap₂ (λ (a b : Bool). a && b) (sym (same_enters key)) h.entering)
+    (ap (λ (b : Bool). is_enters key && b) h.entering)
     ∙ sym (any_apart (says_own names fallback key) says_all (is_enters key) headings)
     ∙ sym (any_same (λ (it : Heading). it.is_public && belongs names fallback key it)
     (λ (it : Heading). says_own names fallback key it || (is_enters key && says_all it)) headings

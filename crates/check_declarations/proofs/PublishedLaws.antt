@@ -1,17 +1,18 @@
 -- Public functions one by one, by their numbers.
-use Rattle.std.proofs.Common.{◌≡◌, ◌<◌, ◌≤◌, ◌+◌, ℕ, zero, suc, Bool, true, false, ◌||◌, ◌&&◌}
-use Rattle.std.proofs.Common.{if◌then◌else◌, List, [], ◌∷◌, ◌++◌, length, get_or, drop, Some, refl}
+use Rattle.std.proofs.Common.{◌≡◌, ◌≤◌, ◌+◌, ℕ, zero, suc, Bool, true, false, ◌||◌, ◌&&◌}
+use Rattle.std.proofs.Common.{if◌then◌else◌, List, [], ◌∷◌, ◌++◌, length, drop, Some, refl}
 use Rattle.std.proofs.Common.{sym, ap, ap₂, ◌∙◌, arith, append_assoc, append-nil}
 use Rattle.std.proofs.lemmas.List.{drop_all, length-map}
 use Rattle.std.specs.Prelude.{slice_get}
 use Rattle.pawn_meaning.specs.Program.{Public}
 use Rattle.types_rules.specs.Groups as plain
+use Rattle.types_rules.specs.Headings.{is_enters}
 use Rattle.types_rules.specs.Sources.{Source}
 use Rattle.types_rules.specs.Publics.{is_public, group_name, begins_with_at, publics_from}
 use Rattle.check_functions.proofs.OwnLaws.{has_number}
 use Rattle.check_source.specs.declared.groups.Group.{Group}
 use Rattle.check_source.specs.GroupsView.{group_view, groups_view}
-use Rattle.check_declarations.specs.Marked.{AreMarked, flag_at, enters, public_by}
+use Rattle.check_declarations.specs.Marked.{AreMarked, flag_at, public_by}
 use Rattle.check_functions.specs.Own.{number_in}
 use Rattle.check_declarations.proofs.PublicMarkLaws.{says_is}
 
@@ -21,7 +22,7 @@ pub public_is : (source : Source) (flags : List Bool) (entry : Bool) (group : pl
     → AreMarked source.tags source.fallback source.groups source.headings flags entry
     → slice_get source.groups i ≡ Some group → name ≡ group_name group.bodies
     → shown ≡ (flag_at flags (number_in source.groups (Some group.key))
-    || (enters group.key && entry)) || begins_with_at name
+    || (is_enters group.key && entry)) || begins_with_at name
     → shown ≡ is_public source group
 public_is source flags entry group i name shown h at n e =
     e ∙ ap₂ (λ (a b : Bool). a || b)
@@ -33,15 +34,6 @@ pub pushed : (old now : List Public) (shown is : Bool) (name named : List ℕ) (
     → now ≡ old ++ public_by is named i
 pushed old now shown is name named i s n e =
     e ∙ ap₂ (λ (b : Bool) (bytes : List ℕ). old ++ public_by b bytes i) s n
-
--- what stands at a place of the functions that code holds
-pub group_at : (groups : List Group) (i : ℕ) (group : Group) → i < length groups
-    → group ≡ get_or groups i group
-    → slice_get (groups_view groups) i ≡ Some (group_view group)
-group_at [] i group lt is = absurd (omega (arith, lt))
-group_at (x ∷ xs) zero group lt is = ap (λ (g : Group). Some (group_view g)) (sym is)
-group_at (x ∷ xs) (suc i) group lt is =
-    let less : i < length xs = omega (arith, lt) in group_at xs i group less is
 
 dropped : (groups : List plain.Group) (i : ℕ) (group : plain.Group)
     → slice_get groups i ≡ Some group

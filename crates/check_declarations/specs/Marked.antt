@@ -2,7 +2,7 @@
 use Rattle.std.specs.Prelude.{◌≡◌, ℕ, List, [], ◌∷◌, Bool, true, false, ◌&&◌, length, slice_get}
 use Rattle.std.specs.Prelude.{unwrap_or, Option, None, Some}
 use Rattle.std.specs.List.{list_any}
-use Rattle.types_rules.specs.Keys.{Key, Named, Operates, Enters, Misshapen}
+use Rattle.types_rules.specs.Keys.{Key}
 use Rattle.types_rules.specs.Groups.{Group, number_of}
 use Rattle.pawn_meaning.specs.Program.{Public}
 use Rattle.types_rules.specs.Headings.{Heading}
@@ -18,13 +18,6 @@ marked (Some number) flags = updated flags number (λ (flag : Bool). true)
 abbrev pub flag_at : List Bool → Option ℕ → Bool
 flag_at flags None = false
 flag_at flags (Some number) = unwrap_or (slice_get flags number) false
-
--- whether a key is that of an entry function
-abbrev pub enters : Key → Bool
-enters (Enters name) = true
-enters (Named name) = false
-enters (Operates it) = false
-enters Misshapen = false
 
 -- a heading that says that all entry functions are public
 abbrev pub says_all : Heading → Bool

@@ -15,7 +15,7 @@ ghost use Rattle.check_declarations.specs.KnownView.{source_view};
 use super::done_declarations::Done;
 use super::known::Known;
 use check_expressions::{Constant as Value, constant_value, constant_warned};
-use check_locals::{Point, tag_of, told};
+use check_locals::{Point, tag_of, told_constant};
 use check_nodes::{Context, Meaning, PartFault, Sight};
 use pawn_base::Memory;
 use pawn_tree::{At, Constant, Expr};
@@ -31,20 +31,6 @@ fn value_means(tag: u32, value: &Option<Value>) -> Sight
         None => Sight::Unknown,
         Some(it) => Sight::Means(Meaning::Constant(it.value, tag)),
     }
-}
-
-/// The value of a constant, told.
-fn value_of(
-    alloc: Global,
-    cx: &Context,
-    point: &Point,
-    at: At,
-    e: &Expr,
-) -> Result<Option<Value>, CheckFault>
-    ensures { Tells value_view (constants.constant (around_view cx.now)
-        (point_view point.now).scope at (expr_view e.now)) result }
-{
-    told(constant_value(alloc, cx, &point.scopes, at, e))
 }
 
 /// What a constant of a value warns of, where that stands.
@@ -72,7 +58,6 @@ fn constant_done(
 ///
 /// 57 for what is no constant, and what breaks a rule in its value.
 pub fn constant_rule<'a>(
-    alloc: Global,
     known: &Known,
     point: &mut Point<'a>,
     at: At,
@@ -84,9 +69,9 @@ pub fn constant_rule<'a>(
         (around_view known.now.cx.now) (point_view point.old) at (constant_view it.now)) }
 {
     let tag = tag_of(known.cx, &it.tag);
-    let value = value_of(alloc, known.cx, point, at, &it.value)?;
+    let value = told_constant(known.alloc, known.cx, point, at, &it.value)?;
     point.declare(it.name.bytes.as_slice(), value_means(tag, &value))?;
-    Ok(constant_done(alloc, known.cx, tag, value)?)
+    Ok(constant_done(known.alloc, known.cx, tag, value)?)
 }
 
 /// What a constant means, whether it stands or not.

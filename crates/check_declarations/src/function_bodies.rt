@@ -5,7 +5,7 @@ ghost use Rattle.types_rules.specs.Stood.{one};
 ghost use Rattle.types_rules.specs.Declarations as spec;
 ghost use Rattle.pawn_verdict.specs.Answers.{Answers};
 ghost use Rattle.check_heads.specs.HeadedView.{headed_view};
-ghost use Rattle.check_locals.specs.StoodView.{returned_view, stood_view};
+ghost use Rattle.check_locals.specs.StoodView.{stood_view};
 ghost use Rattle.check_locals.specs.Tells.{Tells, told as plain_told};
 ghost use Rattle.check_declarations.specs.DoneView.{done_view};
 ghost use Rattle.check_declarations.specs.Fits.{fits_in};

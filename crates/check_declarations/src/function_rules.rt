@@ -38,41 +38,52 @@ use std::alloc::Global;
 
 // ---- heads
 
-/// The expressions in a head, whose block is left open for the body.
-fn head_open<'a>(
-    alloc: Global,
-    cx: &Context,
-    point: &mut Point<'a>,
-    at: At,
-    head: &'a Head,
-) -> Result<Option<()>, CheckFault>
-    ensures tells { Tells judged_view (heads.head_parts (around_view cx.now) at
-        (point_view point.old).scope (head_view head.now)) result }
-    ensures scope { IfOk result (λ it. scope_view point.new.scopes ≡ heads.in_body
-        (around_view cx.now) at (point_view point.old).scope (head_view head.now)) }
-    ensures outer { IfOk result (λ it. outer_of point.new.scopes ≡ point.old.scopes) }
-    ensures objects { point.new.objects ≡ point.old.objects }
-    ensures slots { point.new.slots ≡ point.old.slots }
+/// What a head warns of, where it stands.
+fn head_done(alloc: Global, head: Option<Headed>) -> Option<Done>
+    ensures { plain_told done_view result ≡ after (plain_told headed_view head)
+        (λ it. Stands (spec.warning it.warned)) }
 {
-    let result = judge_head(alloc, cx, &mut point.scopes, at, head);
-    told(result)
+    match head {
+        None => None,
+        Some(it) => Some(Done::warning(alloc, it.warned)),
+    }
 }
 
-/// The expressions in a head without a body.
-fn head_judged<'a>(
+/// A head with what is known around it.
+#[derive(Clone, Copy)]
+struct HeadAt<'h, 'a> {
     alloc: Global,
-    cx: &Context,
-    point: &mut Point<'a>,
+    cx: &'h Context,
     at: At,
     head: &'a Head,
-) -> Result<Option<()>, CheckFault>
-    ensures tells { Tells judged_view (heads.head_parts (around_view cx.now) at
-        (point_view point.old).scope (head_view head.now)) result }
-    ensures behind { IfOk result (λ it. point_view point.new ≡ point_view point.old) }
-{
-    let it = head_open(alloc, cx, point, at, head)?;
-    point.leave();
-    Ok(it)
+}
+
+impl<'h, 'a> HeadAt<'h, 'a> {
+    /// The expressions in a head, whose block is left open for the body.
+    fn open(&self, point: &mut Point<'a>) -> Result<Option<()>, CheckFault>
+        ensures tells { Tells judged_view (heads.head_parts (around_view self.now.cx.now)
+            self.now.at (point_view point.old).scope (head_view self.now.head.now)) result }
+        ensures scope { IfOk result (λ it. scope_view point.new.scopes ≡ heads.in_body
+            (around_view self.now.cx.now) self.now.at (point_view point.old).scope
+            (head_view self.now.head.now)) }
+        ensures outer { IfOk result (λ it. outer_of point.new.scopes ≡ point.old.scopes) }
+        ensures objects { point.new.objects ≡ point.old.objects }
+        ensures slots { point.new.slots ≡ point.old.slots }
+    {
+        let result = judge_head(self.alloc, self.cx, &mut point.scopes, self.at, self.head);
+        told(result)
+    }
+
+    /// The expressions in a head without a body.
+    fn judge(&self, point: &mut Point<'a>) -> Result<Option<()>, CheckFault>
+        ensures tells { Tells judged_view (heads.head_parts (around_view self.now.cx.now)
+            self.now.at (point_view point.old).scope (head_view self.now.head.now)) result }
+        ensures behind { IfOk result (λ it. point_view point.new ≡ point_view point.old) }
+    {
+        let it = self.open(point)?;
+        point.leave();
+        Ok(it)
+    }
 }
 
 /// What a head is.
@@ -91,17 +102,6 @@ fn head_told<'a>(
     told(result)
 }
 
-/// What a head warns of, where it stands.
-fn head_done(alloc: Global, head: Option<Headed>) -> Option<Done>
-    ensures { plain_told done_view result ≡ after (plain_told headed_view head)
-        (λ it. Stands (spec.warning it.warned)) }
-{
-    match head {
-        None => None,
-        Some(it) => Some(Done::warning(alloc, it.warned)),
-    }
-}
-
 /// A head without a body; None where it falls.
 ///
 /// # Errors
@@ -109,7 +109,6 @@ fn head_done(alloc: Global, head: Option<Headed>) -> Option<Done>
 /// What breaks a rule in an expression of the head, and what breaks one in a parameter.
 #[tactic(auto, using(check_locals::proofs::ToldLaws::parts))]
 fn bare_head<'a>(
-    alloc: Global,
     known: &Known,
     point: &mut Point<'a>,
     at: At,
@@ -119,8 +118,16 @@ fn bare_head<'a>(
         (around_view known.now.cx.now) (point_view point.old) at (head_view head.now)) result }
     ensures behind { IfOk result (λ it. point_view point.new ≡ point_view point.old) }
 {
-    head_judged(alloc, known.cx, point, at, head)?;
-    let it = head_told(alloc, known.cx, point, at, head)?;
+    let alloc = known.alloc;
+    let cx = known.cx;
+    let written = HeadAt {
+        alloc,
+        cx,
+        at,
+        head,
+    };
+    written.judge(point)?;
+    let it = head_told(alloc, cx, point, at, head)?;
     Ok(head_done(alloc, it))
 }
 
@@ -131,7 +138,6 @@ fn bare_head<'a>(
 /// 66 for an operator that no operator may be, and those of the head.
 #[tactic(auto, using(check_locals::proofs::ToldLaws::parts))]
 pub fn forward_rule<'a>(
-    alloc: Global,
     known: &Known<'a>,
     point: &mut Point<'a>,
     at: At,
@@ -141,7 +147,7 @@ pub fn forward_rule<'a>(
         (around_view known.now.cx.now) (point_view point.old) at (head_view head.now)) result }
     ensures behind { IfOk result (λ it. point_view point.new ≡ point_view point.old) }
 {
-    let it = bare_head(alloc, known, point, at, head)?;
+    let it = bare_head(known, point, at, head)?;
     let Some(it) = it else {
         return Ok(None);
     };
@@ -156,7 +162,6 @@ pub fn forward_rule<'a>(
 /// 66 for an operator, and those of the head.
 #[tactic(auto, using(check_locals::proofs::ToldLaws::parts))]
 pub fn native_rule<'a>(
-    alloc: Global,
     known: &Known,
     point: &mut Point<'a>,
     at: At,
@@ -166,7 +171,7 @@ pub fn native_rule<'a>(
         (around_view known.now.cx.now) (point_view point.old) at (head_view head.now)) result }
     ensures behind { IfOk result (λ it. point_view point.new ≡ point_view point.old) }
 {
-    let it = bare_head(alloc, known, point, at, head)?;
+    let it = bare_head(known, point, at, head)?;
     let Some(it) = it else {
         return Ok(None);
     };
@@ -185,7 +190,6 @@ struct Halves {
 
 /// The body of a function, in the block of its head, which is left; so many slots stood before.
 fn body_rule<'a>(
-    alloc: Global,
     known: &Known,
     point: &mut Point<'a>,
     before: u32,
@@ -202,11 +206,12 @@ fn body_rule<'a>(
     ensures slots { IfOk result (λ x. point.new.slots ≡ before) }
 {
     let setting = Setting {
+        alloc: known.alloc,
         cx: known.cx,
         automata: known.automata,
         result: tag_of(known.cx, &it.head.tag),
     };
-    let body = stmt(&it.body, alloc, &setting, point, false)?;
+    let body = stmt(&it.body, &setting, point, false)?;
     point.leave();
     point.slots = before;
     Ok(body)
@@ -215,7 +220,6 @@ fn body_rule<'a>(
 /// The head and the body of a function, each by itself.
 #[tactic(auto, using(check_locals::proofs::ToldLaws::parts))]
 fn both_halves<'a>(
-    alloc: Global,
     known: &Known,
     point: &mut Point<'a>,
     at: At,
@@ -234,9 +238,15 @@ fn both_halves<'a>(
         (objects_of (function_view it.now).body) 0) }
 {
     let before = point.slots;
-    let head = head_open(alloc, known.cx, point, at, &it.head)?;
+    let written = HeadAt {
+        alloc: known.alloc,
+        cx: known.cx,
+        at,
+        head: &it.head,
+    };
+    let head = written.open(point)?;
     point.slots = param_count(it.head.params.as_slice())?;
-    let body = body_rule(alloc, known, point, before, it)?;
+    let body = body_rule(known, point, before, it)?;
     Ok(Halves { head, body })
 }
 
@@ -249,7 +259,6 @@ fn number_in(known: &Known, key: Key) -> u32
 
 /// A function with its body, by its key.
 fn function_with<'a>(
-    alloc: Global,
     known: &Known,
     point: &mut Point<'a>,
     at: At,
@@ -262,7 +271,8 @@ fn function_with<'a>(
     ensures behind { IfOk result (λ x. point_view point.new ≡ beyond (point_view point.old)
         (objects_of (function_view it.now).body) 0) }
 {
-    let parts = both_halves(alloc, known, point, at, it)?;
+    let alloc = known.alloc;
+    let parts = both_halves(known, point, at, it)?;
     let head = head_told(alloc, known.cx, point, at, &it.head)?;
     let number = number_in(known, key);
     function_joined(alloc, number, at, head, parts.body)
@@ -276,7 +286,6 @@ fn function_with<'a>(
 /// locals beyond the limit.
 #[tactic(auto, using(check_locals::proofs::ToldLaws::parts))]
 pub fn function_rule<'a>(
-    alloc: Global,
     known: &Known<'a>,
     point: &mut Point<'a>,
     at: At,
@@ -288,7 +297,7 @@ pub fn function_rule<'a>(
         (objects_of (function_view it.now).body) 0) }
 {
     let key = key_of(&known.cx.tags, known.fallback, &it.head, states_of(it));
-    let done = function_with(alloc, known, point, at, it, key)?;
+    let done = function_with(known, point, at, it, key)?;
     let Some(done) = done else {
         return Ok(None);
     };

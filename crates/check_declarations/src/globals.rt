@@ -15,34 +15,43 @@ ghost use Rattle.check_declarations.specs.KnownView.{source_view};
 use super::declaration_steps::{objects_of, then_maybe};
 use super::done_declarations::Done;
 use super::known::Known;
-use check_locals::{Point, declare_var, judge_vars, local_by};
+use check_locals::{Declaring, Point, declare_var, judge_vars, local_by};
 use check_nodes::Context;
 use pawn_base::Memory;
-use pawn_tree::{At, Storage, Var};
+use pawn_tree::{At, Storage, Var, Variables};
 use pawn_verdict::CheckFault;
 use std::alloc::Global;
 
-/// The objects of a variable of the file.
+/// A variable of the file, which stays declared: its objects.
 #[tactic(auto, using(check_locals::proofs::ToldLaws::parts))]
-fn global(
-    alloc: Global,
-    cx: &Context,
-    point: &Point,
+fn global<'a>(
+    known: &Known,
+    point: &mut Point<'a>,
     at: At,
     constant: bool,
-    x: &Var,
+    x: &'a Var,
 ) -> Result<Option<Done>, CheckFault>
-    ensures { Tells done_view (after (locals.local_by (around_view cx.now) (point_view point.now)
-        at OfFile constant (var_view x.now) (var_view x.now).dims)
+    ensures tells { Tells done_view (after (locals.local_by (around_view known.now.cx.now)
+        (point_view point.old) at OfFile constant (var_view x.now) (var_view x.now).dims)
         (λ it. Stands (spec.objects_done it))) result }
+    ensures behind { IfOk result (λ done. point_view point.new ≡ points.behind_var
+        (around_view known.now.cx.now) (point_view point.old) at OfFile constant
+        (var_view x.now)) }
 {
-    let it = local_by(alloc, cx, point, at, Storage::Static, constant, x)?;
-    Ok(objects_of(alloc, it))
+    let here = Declaring {
+        alloc: known.alloc,
+        cx: known.cx,
+        at,
+        kind: Storage::Static,
+        constant,
+    };
+    let it = local_by(&here, point, x)?;
+    declare_var(&here, point, x)?;
+    Ok(objects_of(known.alloc, it))
 }
 
 /// Variables of the file, each known behind its own value.
 fn globals<'a>(
-    alloc: Global,
     known: &Known,
     point: &mut Point<'a>,
     at: At,
@@ -56,11 +65,9 @@ fn globals<'a>(
         (around_view known.now.cx.now) (point_view point.old) at OfFile constant
         (map var_view vars.now)) }
 {
-    let mut done = Some(Done::nothing(alloc));
+    let mut done = Some(Done::nothing(known.alloc));
     for i in 0..vars.len() {
-        let x = &vars[i];
-        let it = global(alloc, known.cx, point, at, constant, x)?;
-        declare_var(alloc, known.cx, point, at, Storage::Static, constant, x)?;
+        let it = global(known, point, at, constant, &vars[i])?;
         done = then_maybe(done, it)?;
     }
     Ok(done)
@@ -74,23 +81,29 @@ fn globals<'a>(
 /// 53, 54, 55, 57 and 68 as sizes and first values, and what breaks a rule in an expression.
 #[tactic(auto, using(check_locals::proofs::ToldLaws::parts))]
 pub fn variables_rule<'a>(
-    alloc: Global,
     known: &Known,
     point: &mut Point<'a>,
     at: At,
-    constant: bool,
-    vars: &'a [Var],
+    it: &'a Variables,
 ) -> Result<Option<Done>, CheckFault>
     ensures tells { Tells done_view (unless_faults (locals.vars_parts (around_view known.now.cx.now)
-        (point_view point.old) at OfFile constant (map var_view vars.now))
+        (point_view point.old) at OfFile it.now.constant (map var_view it.now.vars))
         (spec.globals (source_view known.now) (around_view known.now.cx.now)
-        (point_view point.old) at constant (map var_view vars.now))) result }
+        (point_view point.old) at it.now.constant (map var_view it.now.vars))) result }
     ensures behind { IfOk result (λ done. point_view point.new ≡ points.behind_vars
-        (around_view known.now.cx.now) (point_view point.old) at OfFile constant
-        (map var_view vars.now)) }
+        (around_view known.now.cx.now) (point_view point.old) at OfFile it.now.constant
+        (map var_view it.now.vars)) }
 {
-    judge_vars(alloc, known.cx, point, at, Storage::Static, constant, vars)?;
-    globals(alloc, known, point, at, constant, vars)
+    let vars = it.vars.as_slice();
+    let here = Declaring {
+        alloc: known.alloc,
+        cx: known.cx,
+        at,
+        kind: Storage::Static,
+        constant: it.constant,
+    };
+    judge_vars(&here, point, vars)?;
+    globals(known, point, at, it.constant, vars)
 }
 
 /// Variables of the file are declared, whether they stand or not.
@@ -110,7 +123,14 @@ pub fn declare_vars<'a>(
         (point_view point.old) at OfFile constant (map var_view vars.now)) }
 {
     for i in 0..vars.len() {
-        declare_var(alloc, cx, point, at, Storage::Static, constant, &vars[i])?;
+        let here = Declaring {
+            alloc,
+            cx,
+            at,
+            kind: Storage::Static,
+            constant,
+        };
+        declare_var(&here, point, &vars[i])?;
     }
     Ok(())
 }

@@ -7,6 +7,7 @@ mod constants;
 mod declaration_steps;
 mod decls;
 mod done_declarations;
+mod enumerations;
 mod function_bodies;
 mod function_rules;
 mod function_table;

@@ -1,45 +1,19 @@
 ghost use Rattle.std.specs.Prelude.{◌≡◌, ◌++◌, [], ◌∷◌, map, option_map, IfOk, OnOk};
-ghost use Rattle.pawn_tree.specs.View.{decl_view, head_view as tree_view, item_view};
-ghost use Rattle.types_rules.specs.Points as points;
+ghost use Rattle.pawn_tree.specs.View.{decl_view, head_view as tree_view};
 ghost use Rattle.types_rules.specs.Params as params;
-ghost use Rattle.types_rules.specs.Enums as enums;
 ghost use Rattle.types_rules.specs.Paths as spec;
 ghost use Rattle.check_nodes.specs.ContextView.{around_view, head_view};
 ghost use Rattle.check_locals.specs.PointView.{point_view};
 
 use super::constants::declare_constant;
+use super::enumerations::EnumAt;
 use super::globals::declare_vars;
-use check_heads::{declare_enum, head_of};
-use check_locals::{Point, objects_in, tag_of};
+use check_heads::head_of;
+use check_locals::{Point, objects_in};
 use check_nodes::{Context, Head as Typed};
 use pawn_base::{List, Memory};
-use pawn_tree::{At, Decl, Head, Item, Name};
+use pawn_tree::{At, Decl, Head};
 use std::alloc::Global;
-
-/// An enumeration is declared, whether it stands or not.
-fn declare_enum_at<'a>(
-    alloc: Global,
-    cx: &Context,
-    point: &mut Point<'a>,
-    at: At,
-    name: &'a Option<Name>,
-    items: &'a [Item],
-) -> Result<(), Memory>
-    ensures { OnOk result (point_view point.new ≡ record (point_view point.old) {
-      scope = enums.behind_enum (around_view cx.now) (point_view point.old).scope at
-          (points.tag_of (around_view cx.now) name.now) name.now (map item_view items.now);
-    }) }
-{
-    declare_enum(
-        alloc,
-        cx,
-        &mut point.scopes,
-        at,
-        tag_of(cx, name),
-        name,
-        items,
-    )
-}
 
 /// What a declaration adds to the path, whether it stands or not.
 fn pass_decl<'a>(
@@ -57,7 +31,14 @@ fn pass_decl<'a>(
         }
         Decl::Constant(at, it) => declare_constant(alloc, cx, point, *at, it),
         Decl::Enum(at, name, items) => {
-            declare_enum_at(alloc, cx, point, *at, name, items.as_slice())
+            let it = EnumAt {
+                alloc,
+                cx,
+                at: *at,
+                name,
+                items: items.as_slice(),
+            };
+            it.declare(point)
         }
         Decl::Native(_, _) => Ok(()),
         Decl::Forward(_, _, _) => Ok(()),

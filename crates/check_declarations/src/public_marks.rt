@@ -1,6 +1,6 @@
 ghost use Rattle.std.specs.Prelude.{◌≡◌, ◌||◌, ◌&&◌, [], ◌∷◌, ◌++◌, map, replicate, false};
 ghost use Rattle.std.specs.Prelude.{List as ListOf, Some, IfOk};
-ghost use Rattle.types_rules.specs.Headings.{Heading as PlainHeading};
+ghost use Rattle.types_rules.specs.Headings.{Heading as PlainHeading, is_enters};
 ghost use Rattle.check_source.specs.KeyView.{key_view};
 ghost use Rattle.check_source.specs.GroupsView.{groups_view};
 ghost use Rattle.check_source.specs.HeadingView.{heading_view};
@@ -87,9 +87,9 @@ fn either(x: bool, y: bool) -> bool
 }
 
 /// What is said of a function, by its own mark and by that of all entry functions.
-#[tactic(auto, using(crate::proofs::PublicMarkLaws::or_false))]
+#[tactic(auto, using(check_functions::proofs::OwnLaws::or_false))]
 fn says_by(key: Key, own: bool, entry: bool) -> bool
-    ensures { result ≡ own || (spec.enters (key_view key.entry) && entry) }
+    ensures { result ≡ own || (is_enters (key_view key.entry) && entry) }
 {
     match key {
         Key::Enters(_) => either(own, entry),
@@ -117,7 +117,7 @@ impl Marks {
     pub fn says_public(&self, source: &Source, key: Key) -> bool
         ensures { result ≡ spec.flag_at self.now.flags.items
             (number_in (groups_view source.now.groups) (Some (key_view key.entry)))
-            || (spec.enters (key_view key.entry) && self.now.entry) }
+            || (is_enters (key_view key.entry) && self.now.entry) }
     {
         let own = flag_at(self.flags.as_slice(), source.groups.number_of(key));
         says_by(key, own, self.entry)

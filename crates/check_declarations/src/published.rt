@@ -1,5 +1,6 @@
 ghost use Rattle.std.specs.Prelude.{◌≡◌, ◌||◌, ◌&&◌, ◌++◌, map, slice_get, Some, IfOk, OnOk};
 ghost use Rattle.pawn_meaning.specs.View.{public_view};
+ghost use Rattle.types_rules.specs.Headings.{is_enters};
 ghost use Rattle.types_rules.specs.Publics as spec;
 ghost use Rattle.types_rules.specs.TypedTrees as whole;
 ghost use Rattle.check_source.specs.KeyView.{key_view};
@@ -7,7 +8,7 @@ ghost use Rattle.check_source.specs.GroupsView.{group_view, groups_view};
 ghost use Rattle.check_source.specs.HeadingView.{heading_view};
 ghost use Rattle.check_source.specs.SourceView.{source_view};
 ghost use Rattle.check_functions.specs.Own.{number_in};
-ghost use Rattle.check_declarations.specs.Marked.{AreMarked, enters, flag_at, public_by};
+ghost use Rattle.check_declarations.specs.Marked.{AreMarked, flag_at, public_by};
 
 use super::group_names::{begins_with_at, group_name};
 use super::public_marks::{Marks, find_marks};
@@ -40,7 +41,7 @@ fn push_if(
 fn is_public(source: &Source, marks: &Marks, key: Key, name: &Bytes) -> bool
     ensures { result ≡ (flag_at marks.now.flags.items
         (number_in (groups_view source.now.groups) (Some (key_view key.entry)))
-        || (enters (key_view key.entry) && marks.now.entry)) || spec.begins_with_at name.now }
+        || (is_enters (key_view key.entry) && marks.now.entry)) || spec.begins_with_at name.now }
 {
     if marks.says_public(source, key) {
         true

@@ -101,6 +101,17 @@ pub seen_behind : {A X : Type 0} (view : X → A) (whole rest : Verdict (List A)
     → whole ≡ behind (map view more) rest
 seen_behind view whole rest all more it h e = h ∙ rw (e, map-append view all (it ∷ [])) refl
 
+-- all of them stand, and the element is appended
+pub list_grows : {A B X : Type 0} (seen : B → List A) (view : X → A) (whole rest : Verdict (List A))
+    (w : Verdict A) (all : Result B PartFault) (it : Result X PartFault) (p : B) (q : X)
+    (items more : List X) → Ok (p, q) ≡ both_of all it → SoFar seen whole (with w rest) all
+    → Judged all (PartAnswers view w it) → seen p ≡ map view items → more ≡ items ++ q ∷ []
+    → whole ≡ behind (map view more) rest
+list_grows {A} seen view whole rest w all it p q items more e h k s g =
+    seen_behind view whole rest items more q
+    (list_stands seen view whole rest w all it p q e h k
+    ∙ ap (λ (xs : List A). behind (xs ++ view q ∷ []) rest) s) g
+
 -- ---- the whole list
 
 -- nothing is left

@@ -17,6 +17,7 @@ ghost use Rattle.check_expressions.specs.ValueViews.{array_value_view, shaped_vi
 use super::broken_part::part_broken;
 use super::constants::alone;
 use super::firsts::cells_or_zeros;
+use super::here::Here;
 use super::sizes::{Dimensions, array_dimensions};
 use check_nodes::{Context, Form, PartFault, Scopes, Typed};
 use pawn_arrays::{Shape, cells};
@@ -207,7 +208,7 @@ pub fn array_shape(
         (dim_view dim.now) (map dim_view dims.now)
         (option_map init_view init.now)) result }
 {
-    let it = array_dimensions(alloc, cx, scopes, at, dim, dims)?;
+    let it = array_dimensions(alloc, Here { cx, scopes, at }, dim, dims)?;
     let first = first_size(alloc, cx, scopes, at, &it, init)?;
     let shape = Shape {
         first,
@@ -243,7 +244,8 @@ pub fn array_value(
         (option_map init_view init.now)) result }
 {
     let it = array_shape(alloc, cx, scopes, at, dim, dims, init)?;
-    let values = cells_or_zeros(alloc, cx, scopes, at, tag, &it.shape, init)?;
+    let here = Here { cx, scopes, at };
+    let values = cells_or_zeros(alloc, here, tag, &it.shape, init)?;
     let mut warned = it.warned;
     warned.append(values.warned)?;
     Ok(ArrayValue {

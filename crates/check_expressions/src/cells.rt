@@ -1,4 +1,4 @@
-ghost use Rattle.std.specs.Prelude.{◌≡◌, option_map, Some};
+ghost use Rattle.std.specs.Prelude.{option_map, Some};
 ghost use Rattle.pawn_tree.specs.View.{init_view};
 ghost use Rattle.types_rules.specs.Cells as spec;
 ghost use Rattle.pawn_verdict.specs.Answers.{Answers};
@@ -9,13 +9,14 @@ ghost use Rattle.check_nodes.specs.Scopes.{scope_view};
 ghost use Rattle.check_expressions.specs.ValueViews.{first_view, local_view};
 
 use super::broken_part::part_broken;
-use super::constants::{alone, behind, constant_of, constant_warned};
+use super::constants::{alone, behind, constant_rule};
 use super::filling::First;
-use check_nodes::{Context, Made, Operand, PartFault, Scopes, Typed, cell, send};
+use super::here::Here;
+use check_nodes::{Context, Form, Made, PartFault, Scopes, Typed, cell, send};
 use pawn_base::{Cells, List};
 use pawn_meaning::Expr;
 use pawn_tree::{At, Init};
-use pawn_verdict::{CheckFault, broken};
+use pawn_verdict::CheckFault;
 use std::alloc::Global;
 use types_rules::NOT_AN_ARRAY;
 
@@ -28,38 +29,28 @@ fn static_rule(alloc: Global, cx: &Context, at: At, tag: u32, x: Typed) -> Resul
         (spec.static_rule (around_view cx.now) at tag (typed_view x)) result }
 {
     let code = cell(alloc, at, x.form)?;
-    let operand = Operand {
+    let value = Typed {
         at: x.at,
-        code,
+        form: Form::Value(code),
         tag: x.tag,
         value: x.value,
         made: x.made,
     };
-    let it = constant_of(at, operand)?;
-    let mut cells = Cells::new(alloc);
-    cells.push(it.value)?;
-    let warned = constant_warned(alloc, cx, tag, it)?;
-    Ok(First { cells, warned })
+    let it = constant_rule(at, value)?;
+    Ok(First::one(alloc, cx, tag, it)?)
 }
 
 #[tactic(auto, using(check_nodes::proofs::PartLaws::parts))]
-fn static_given(
-    alloc: Global,
-    cx: &Context,
-    scopes: &Scopes,
-    at: At,
-    tag: u32,
-    init: &Init,
-) -> Result<First, PartFault>
-    ensures { PartAnswers first_view (spec.static_value (around_view cx.now) (scope_view scopes.now)
-        at tag (Some (init_view init.now))) result }
+fn static_given(alloc: Global, here: Here, tag: u32, init: &Init) -> Result<First, PartFault>
+    ensures { PartAnswers first_view (spec.static_value (around_view here.entry.cx.now)
+        (scope_view here.entry.scopes.now) here.entry.at tag (Some (init_view init.now))) result }
 {
     match init {
         Init::Value(e) => {
-            let x = alone(alloc, cx, scopes, e)?;
-            Ok(static_rule(alloc, cx, at, tag, x)?)
+            let x = alone(alloc, here.cx, here.scopes, e)?;
+            Ok(static_rule(alloc, here.cx, here.at, tag, x)?)
         }
-        Init::Braces(_, _, _) => Err(part_broken(NOT_AN_ARRAY, at)),
+        Init::Braces(_, _, _) => Err(part_broken(NOT_AN_ARRAY, here.at)),
     }
 }
 
@@ -88,7 +79,7 @@ pub fn static_value(
                 warned: List::new(alloc),
             })
         }
-        Some(init) => static_given(alloc, cx, scopes, at, tag, init),
+        Some(init) => static_given(alloc, Here { cx, scopes, at }, tag, init),
     }
 }
 
@@ -125,22 +116,21 @@ fn local_rule(
 #[tactic(auto, using(check_nodes::proofs::PartLaws::parts))]
 fn local_given(
     alloc: Global,
-    cx: &Context,
-    scopes: &Scopes,
+    here: Here,
     before: u32,
-    at: At,
     tag: u32,
     init: &Init,
 ) -> Result<LocalValue, PartFault>
-    ensures { PartAnswers local_view (spec.local_value (around_view cx.now) (scope_view scopes.now)
-        before at tag (Some (init_view init.now))) result }
+    ensures { PartAnswers local_view (spec.local_value (around_view here.entry.cx.now)
+        (scope_view here.entry.scopes.now) before here.entry.at tag
+        (Some (init_view init.now))) result }
 {
     match init {
         Init::Value(e) => {
-            let x = behind(alloc, cx, scopes, before, e)?;
-            Ok(local_rule(alloc, cx, at, tag, x)?)
+            let x = behind(alloc, here.cx, here.scopes, before, e)?;
+            Ok(local_rule(alloc, here.cx, here.at, tag, x)?)
         }
-        Init::Braces(_, _, _) => Err(part_broken(NOT_AN_ARRAY, at)),
+        Init::Braces(_, _, _) => Err(part_broken(NOT_AN_ARRAY, here.at)),
     }
 }
 
@@ -166,6 +156,6 @@ pub fn local_value(
             code: Box::new(alloc, Expr::Const(0))?,
             made: Made::nothing(alloc),
         }),
-        Some(init) => local_given(alloc, cx, scopes, before, at, tag, init),
+        Some(init) => local_given(alloc, Here { cx, scopes, at }, before, tag, init),
     }
 }

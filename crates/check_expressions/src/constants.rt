@@ -7,12 +7,11 @@ ghost use Rattle.pawn_verdict.specs.Answers.{Answers};
 ghost use Rattle.check_nodes.specs.PartAnswers.{PartAnswers};
 ghost use Rattle.check_nodes.specs.ContextView.{around_view};
 ghost use Rattle.check_nodes.specs.TypedView.{typed_view};
-ghost use Rattle.check_nodes.specs.OperandView.{operand_view};
 ghost use Rattle.check_nodes.specs.Scopes.{scope_view};
 ghost use Rattle.check_expressions.specs.ValueViews.{constant_view};
 
 use super::expression::expr;
-use check_nodes::{Context, Operand, PartFault, Scopes, Typed};
+use check_nodes::{Context, PartFault, Scopes, Typed};
 use pawn_base::{List, Memory};
 use pawn_tags::matches;
 use pawn_tree::{At, Expr};
@@ -68,28 +67,6 @@ pub struct Constant {
 #[tactic(auto, unfolding(types_rules::specs::Constants::constant_rule))]
 pub fn constant_rule(at: At, x: Typed) -> Result<Constant, CheckFault>
     ensures { Answers constant_view (spec.constant_rule at (typed_view x)) result }
-{
-    match x.value {
-        None => Err(broken(CONSTANT_NEEDED, at.place)),
-        Some(value) => {
-            let made = x.made;
-            Ok(Constant {
-                at: x.at,
-                value,
-                tag: x.tag,
-                warned: made.warned,
-            })
-        }
-    }
-}
-
-/// The same of an operand whose cell is taken.
-///
-/// # Errors
-///
-/// 57 where no value is known.
-pub fn constant_of(at: At, x: Operand) -> Result<Constant, CheckFault>
-    ensures { Answers constant_view (spec.constant_by at (operand_view x) x.value) result }
 {
     match x.value {
         None => Err(broken(CONSTANT_NEEDED, at.place)),

@@ -1,14 +1,18 @@
-ghost use Rattle.std.specs.Prelude.{◌≡◌, ◌++◌, ◌≤◌, length, option_map, replicate, true, pos, IfOk};
+ghost use Rattle.std.specs.Prelude.{◌≡◌, [], ◌∷◌, ◌++◌, ◌≤◌, length, option_map, replicate, true};
+ghost use Rattle.std.specs.Prelude.{pos, IfOk};
 ghost use Rattle.names_rules.specs.Verdict.{Verdict};
 ghost use Rattle.pawn_cells.specs.Cells as cells;
+ghost use Rattle.types_rules.specs.Constants as constants;
 ghost use Rattle.types_rules.specs.FirstValues as spec;
 ghost use Rattle.pawn_verdict.specs.Answers.{Answers};
+ghost use Rattle.check_nodes.specs.ContextView.{around_view};
 ghost use Rattle.check_nodes.specs.PartAnswers.{PartAnswers};
 ghost use Rattle.check_expressions.specs.GoingOn.{before_in, last_in, step_in};
 ghost use Rattle.check_expressions.specs.Joined.{joined_by, stood_by};
-ghost use Rattle.check_expressions.specs.ValueViews.{first_view};
+ghost use Rattle.check_expressions.specs.ValueViews.{constant_view, first_view};
 
-use check_nodes::PartFault;
+use super::constants::{Constant, constant_warned};
+use check_nodes::{Context, PartFault};
 use pawn_base::{Cells, List, Memory};
 use pawn_cells::Cell;
 use pawn_tree::At;
@@ -32,6 +36,19 @@ impl First {
             cells: Cells::new(alloc),
             warned: List::new(alloc),
         }
+    }
+
+    /// The cell that a constant is, and what it warns of where it goes to a target of a tag.
+    pub fn one(alloc: Global, cx: &Context, tag: u32, it: Constant) -> Result<First, Memory>
+        ensures { IfOk result (λ first. first_view first ≡ record {
+          cells = it.value ∷ [];
+          warned = constants.constant_warned (around_view cx.now) tag (constant_view it);
+        }) }
+    {
+        let mut cells = Cells::new(alloc);
+        cells.push(it.value)?;
+        let warned = constant_warned(alloc, cx, tag, it)?;
+        Ok(First { cells, warned })
     }
 
     /// These, and those behind them.

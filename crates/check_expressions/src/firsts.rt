@@ -16,9 +16,10 @@ ghost use Rattle.check_expressions.specs.Listed.{listed_by};
 ghost use Rattle.check_expressions.specs.ValueViews.{first_view};
 
 use super::broken_part::part_broken;
-use super::constants::{alone, constant_value, constant_warned, tested_first};
+use super::constants::{alone, constant_value, tested_first};
 use super::filling::{First, all_joined, filled, joined, with_zeros};
-use check_nodes::{Context, Form, PartFault, Scopes, Typed};
+use super::here::Here;
+use check_nodes::{Context, Form, PartFault, Typed};
 use pawn_arrays::Shape;
 use pawn_base::{Cells, List, Memory};
 use pawn_meaning::Object;
@@ -87,38 +88,29 @@ fn text_of(
 
 /// A text for one dimension of so many cells.
 #[tactic(auto, using(check_nodes::proofs::PartLaws::parts))]
-fn text(
-    alloc: Global,
-    cx: &Context,
-    scopes: &Scopes,
-    at: At,
-    tag: u32,
-    size: u32,
-    e: &Expr,
-) -> Result<First, PartFault>
-    ensures { PartAnswers first_view (spec.text (around_view cx.now) (scope_view scopes.now) at tag
-        size (expr_view e.now)) result }
+fn text(alloc: Global, here: Here, tag: u32, size: u32, e: &Expr) -> Result<First, PartFault>
+    ensures { PartAnswers first_view (spec.text (around_view here.entry.cx.now)
+        (scope_view here.entry.scopes.now) here.entry.at tag size (expr_view e.now)) result }
 {
-    let x = alone(alloc, cx, scopes, e)?;
-    Ok(text_of(alloc, cx, at, tag, size, x)?)
+    let x = alone(alloc, here.cx, here.scopes, e)?;
+    Ok(text_of(alloc, here.cx, here.at, tag, size, x)?)
 }
 
 /// One value for an array, which only a text is for one dimension.
 fn whole_value(
     alloc: Global,
-    cx: &Context,
-    scopes: &Scopes,
-    at: At,
+    here: Here,
     tag: u32,
     shape: &Shape,
     e: &Expr,
 ) -> Result<First, PartFault>
-    ensures { PartAnswers first_view (spec.whole_value (around_view cx.now) (scope_view scopes.now)
-        at tag (sizes shape.now) (expr_view e.now)) result }
+    ensures { PartAnswers first_view (spec.whole_value (around_view here.entry.cx.now)
+        (scope_view here.entry.scopes.now) here.entry.at tag (sizes shape.now)
+        (expr_view e.now)) result }
 {
     match shape.second {
-        None => text(alloc, cx, scopes, at, tag, shape.first, e),
-        Some(_) => Err(part_broken(SIZES_DIFFER, at)),
+        None => text(alloc, here, tag, shape.first, e),
+        Some(_) => Err(part_broken(SIZES_DIFFER, here.at)),
     }
 }
 
@@ -126,22 +118,12 @@ fn whole_value(
 
 /// A constant of a list.
 #[tactic(auto, using(check_nodes::proofs::PartLaws::parts))]
-fn value_cell(
-    alloc: Global,
-    cx: &Context,
-    scopes: &Scopes,
-    at: At,
-    tag: u32,
-    e: &Expr,
-) -> Result<First, PartFault>
-    ensures { PartAnswers first_view (spec.value_cell (around_view cx.now) (scope_view scopes.now)
-        at tag (expr_view e.now)) result }
+fn value_cell(alloc: Global, here: Here, tag: u32, e: &Expr) -> Result<First, PartFault>
+    ensures { PartAnswers first_view (spec.value_cell (around_view here.entry.cx.now)
+        (scope_view here.entry.scopes.now) here.entry.at tag (expr_view e.now)) result }
 {
-    let it = constant_value(alloc, cx, scopes, at, e)?;
-    let mut cells = Cells::new(alloc);
-    cells.push(it.value)?;
-    let warned = constant_warned(alloc, cx, tag, it)?;
-    Ok(First { cells, warned })
+    let it = constant_value(alloc, here.cx, here.scopes, here.at, e)?;
+    Ok(First::one(alloc, here.cx, tag, it)?)
 }
 
 /// One value of a list of cells.
@@ -149,38 +131,25 @@ fn value_cell(
 /// # Errors
 ///
 /// 55 for a list, 57 for what is no constant.
-fn cell_of_list(
-    alloc: Global,
-    cx: &Context,
-    scopes: &Scopes,
-    at: At,
-    tag: u32,
-    init: &Init,
-) -> Result<First, PartFault>
-    ensures { PartAnswers first_view (spec.cell_of_list (around_view cx.now) (scope_view scopes.now)
-        at tag (init_view init.now)) result }
+fn cell_of_list(alloc: Global, here: Here, tag: u32, init: &Init) -> Result<First, PartFault>
+    ensures { PartAnswers first_view (spec.cell_of_list (around_view here.entry.cx.now)
+        (scope_view here.entry.scopes.now) here.entry.at tag (init_view init.now)) result }
 {
     match init {
-        Init::Value(e) => value_cell(alloc, cx, scopes, at, tag, e),
-        Init::Braces(_, _, _) => Err(part_broken(SIZES_DIFFER, at)),
+        Init::Value(e) => value_cell(alloc, here, tag, e),
+        Init::Braces(_, _, _) => Err(part_broken(SIZES_DIFFER, here.at)),
     }
 }
 
-fn cells_of_list(
-    alloc: Global,
-    cx: &Context,
-    scopes: &Scopes,
-    at: At,
-    tag: u32,
-    list: &List<Init>,
-) -> Result<First, PartFault>
-    ensures { PartAnswers first_view (spec.cells_of_list (around_view cx.now)
-        (scope_view scopes.now) at tag (inits (map init_view list.now))) result }
+fn cells_of_list(alloc: Global, here: Here, tag: u32, list: &List<Init>) -> Result<First, PartFault>
+    ensures { PartAnswers first_view (spec.cells_of_list (around_view here.entry.cx.now)
+        (scope_view here.entry.scopes.now) here.entry.at tag
+        (inits (map init_view list.now))) result }
 {
     let items = list.as_slice();
     let mut done = Some(First::nothing(alloc));
     for i in 0..items.len() {
-        let value = cell_of_list(alloc, cx, scopes, at, tag, &items[i]);
+        let value = cell_of_list(alloc, here, tag, &items[i]);
         done = joined(done, value)?;
     }
     all_joined(done)
@@ -190,20 +159,18 @@ fn cells_of_list(
 #[tactic(auto, using(check_nodes::proofs::PartLaws::parts))]
 fn line_of_list(
     alloc: Global,
-    cx: &Context,
-    scopes: &Scopes,
-    at: At,
+    here: Here,
     tag: u32,
     size: u32,
     list: &List<Init>,
     goes_on: bool,
 ) -> Result<First, PartFault>
-    ensures { PartAnswers first_view (after (spec.cells_of_list (around_view cx.now)
-        (scope_view scopes.now) at tag (inits (map init_view list.now)))
-        (spec.filled at size goes_on)) result }
+    ensures { PartAnswers first_view (after (spec.cells_of_list (around_view here.entry.cx.now)
+        (scope_view here.entry.scopes.now) here.entry.at tag (inits (map init_view list.now)))
+        (spec.filled here.entry.at size goes_on)) result }
 {
-    let values = cells_of_list(alloc, cx, scopes, at, tag, list)?;
-    Ok(filled(at, size as usize, goes_on, values)?)
+    let values = cells_of_list(alloc, here, tag, list)?;
+    Ok(filled(here.at, size as usize, goes_on, values)?)
 }
 
 // ---- lists of rows
@@ -271,21 +238,18 @@ fn filled_rows(at: At, shape: &Shape, values: First) -> Result<First, CheckFault
 #[cycle(first)]
 pub fn first_cells(
     alloc: Global,
-    cx: &Context,
-    scopes: &Scopes,
-    at: At,
+    here: Here,
     tag: u32,
     shape: &Shape,
     init: &Init,
 ) -> Result<First, PartFault>
-    ensures { PartAnswers first_view (spec.first_cells (around_view cx.now) (scope_view scopes.now)
-        at tag (sizes shape.now) (init_view init.now)) result }
+    ensures { PartAnswers first_view (spec.first_cells (around_view here.entry.cx.now)
+        (scope_view here.entry.scopes.now) here.entry.at tag (sizes shape.now)
+        (init_view init.now)) result }
 {
     match init {
-        Init::Value(e) => whole_value(alloc, cx, scopes, at, tag, shape, e),
-        Init::Braces(_, list, goes_on) => {
-            listed(alloc, cx, scopes, at, tag, shape, list, *goes_on)
-        }
+        Init::Value(e) => whole_value(alloc, here, tag, shape, e),
+        Init::Braces(_, list, goes_on) => { listed(alloc, here, tag, shape, list, *goes_on) }
     }
 }
 
@@ -294,26 +258,25 @@ pub fn first_cells(
 #[tactic(auto, using(check_nodes::proofs::PartLaws::parts))]
 fn listed(
     alloc: Global,
-    cx: &Context,
-    scopes: &Scopes,
-    at: At,
+    here: Here,
     tag: u32,
     shape: &Shape,
     list: &List<Init>,
     goes_on: bool,
 ) -> Result<First, PartFault>
-    ensures { PartAnswers first_view (listed_by (around_view cx.now) (scope_view scopes.now) at tag
-        (sizes shape.now) (inits (map init_view list.now)) goes_on) result }
+    ensures { PartAnswers first_view (listed_by (around_view here.entry.cx.now)
+        (scope_view here.entry.scopes.now) here.entry.at tag (sizes shape.now)
+        (inits (map init_view list.now)) goes_on) result }
 {
     match shape.second {
-        None => line_of_list(alloc, cx, scopes, at, tag, shape.first, list, goes_on),
+        None => line_of_list(alloc, here, tag, shape.first, list, goes_on),
         Some(second) => {
             if goes_on {
-                return Err(part_broken(SIZES_DIFFER, at));
+                return Err(part_broken(SIZES_DIFFER, here.at));
             }
             let part = part_of(second, shape.third);
-            let values = rows(alloc, cx, scopes, at, tag, &part, list)?;
-            Ok(filled_rows(at, shape, values)?)
+            let values = rows(alloc, here, tag, &part, list)?;
+            Ok(filled_rows(here.at, shape, values)?)
         }
     }
 }
@@ -322,20 +285,19 @@ fn listed(
 #[cycle(first)]
 fn rows(
     alloc: Global,
-    cx: &Context,
-    scopes: &Scopes,
-    at: At,
+    here: Here,
     tag: u32,
     part: &Shape,
     list: &List<Init>,
 ) -> Result<First, PartFault>
-    ensures { PartAnswers first_view (spec.rows (around_view cx.now) (scope_view scopes.now) at tag
-        (sizes part.now) (inits (map init_view list.now))) result }
+    ensures { PartAnswers first_view (spec.rows (around_view here.entry.cx.now)
+        (scope_view here.entry.scopes.now) here.entry.at tag (sizes part.now)
+        (inits (map init_view list.now))) result }
 {
     let items = list.as_slice();
     let mut done = Some(First::nothing(alloc));
     for i in 0..items.len() {
-        let row = first_cells(alloc, cx, scopes, at, tag, part, &items[i]);
+        let row = first_cells(alloc, here, tag, part, &items[i]);
         done = joined(done, row)?;
     }
     all_joined(done)
@@ -358,18 +320,17 @@ fn zeros(alloc: Global, shape: &Shape) -> Result<First, Memory>
 /// The first cells of an array, which is zero without values.
 pub fn cells_or_zeros(
     alloc: Global,
-    cx: &Context,
-    scopes: &Scopes,
-    at: At,
+    here: Here,
     tag: u32,
     shape: &Shape,
     init: &Option<Init>,
 ) -> Result<First, PartFault>
-    ensures { PartAnswers first_view (spec.cells_or_zeros (around_view cx.now)
-        (scope_view scopes.now) at tag (sizes shape.now) (option_map init_view init.now)) result }
+    ensures { PartAnswers first_view (spec.cells_or_zeros (around_view here.entry.cx.now)
+        (scope_view here.entry.scopes.now) here.entry.at tag (sizes shape.now)
+        (option_map init_view init.now)) result }
 {
     match init {
-        Some(init) => first_cells(alloc, cx, scopes, at, tag, shape, init),
+        Some(init) => first_cells(alloc, here, tag, shape, init),
         None => Ok(zeros(alloc, shape)?),
     }
 }

@@ -12,7 +12,8 @@ ghost use Rattle.check_expressions.specs.ValueViews.{inner_view};
 
 use super::broken_part::part_broken;
 use super::constants::constant_value;
-use check_nodes::{Context, PartFault, Scopes};
+use super::here::Here;
+use check_nodes::PartFault;
 use pawn_base::{List, Memory};
 use pawn_tree::{At, Dim};
 use pawn_verdict::{CheckFault, broken};
@@ -87,15 +88,9 @@ fn characters_size(at: At, characters: i32, warned: List<At>) -> Result<Dimensio
 ///
 /// 57 for what is no constant, 68 for a size below 1.
 #[tactic(auto, using(check_nodes::proofs::PartLaws::parts))]
-fn dimension_of(
-    alloc: Global,
-    cx: &Context,
-    scopes: &Scopes,
-    at: At,
-    dim: &Dim,
-) -> Result<Dimension, PartFault>
-    ensures { PartAnswers dimension_view
-        (spec.dimension (around_view cx.now) (scope_view scopes.now) at (dim_view dim.now)) result }
+fn dimension_of(alloc: Global, here: Here, dim: &Dim) -> Result<Dimension, PartFault>
+    ensures { PartAnswers dimension_view (spec.dimension (around_view here.entry.cx.now)
+        (scope_view here.entry.scopes.now) here.entry.at (dim_view dim.now)) result }
 {
     match dim {
         Dim::Open => Ok(Dimension {
@@ -103,12 +98,12 @@ fn dimension_of(
             warned: List::new(alloc),
         }),
         Dim::Cells(e) => {
-            let it = constant_value(alloc, cx, scopes, at, e)?;
-            Ok(cells_size(at, it.value, it.warned)?)
+            let it = constant_value(alloc, here.cx, here.scopes, here.at, e)?;
+            Ok(cells_size(here.at, it.value, it.warned)?)
         }
         Dim::Chars(e) => {
-            let it = constant_value(alloc, cx, scopes, at, e)?;
-            Ok(characters_size(at, it.value, it.warned)?)
+            let it = constant_value(alloc, here.cx, here.scopes, here.at, e)?;
+            Ok(characters_size(here.at, it.value, it.warned)?)
         }
     }
 }
@@ -155,32 +150,22 @@ fn both_sizes(at: At, it: Dimension, last: Given) -> Result<Inner, CheckFault>
 
 /// The last size of an array.
 #[tactic(auto, using(check_nodes::proofs::PartLaws::parts))]
-fn last_dimension(
-    alloc: Global,
-    cx: &Context,
-    scopes: &Scopes,
-    at: At,
-    dim: &Dim,
-) -> Result<Given, PartFault>
-    ensures { PartAnswers given_view (after (spec.dimension (around_view cx.now)
-        (scope_view scopes.now) at (dim_view dim.now)) (λ it. single at it.warned it.size)) result }
+fn last_dimension(alloc: Global, here: Here, dim: &Dim) -> Result<Given, PartFault>
+    ensures { PartAnswers given_view (after (spec.dimension (around_view here.entry.cx.now)
+        (scope_view here.entry.scopes.now) here.entry.at (dim_view dim.now))
+        (λ it. single here.entry.at it.warned it.size)) result }
 {
-    let it = dimension_of(alloc, cx, scopes, at, dim)?;
-    Ok(last_size(at, it)?)
+    let it = dimension_of(alloc, here, dim)?;
+    Ok(last_size(here.at, it)?)
 }
 
 /// One size behind the first.
-fn one_inner(
-    alloc: Global,
-    cx: &Context,
-    scopes: &Scopes,
-    at: At,
-    dim: &Dim,
-) -> Result<Inner, PartFault>
-    ensures { PartAnswers inner_view (after (spec.dimension (around_view cx.now)
-        (scope_view scopes.now) at (dim_view dim.now)) (λ it. single at it.warned it.size)) result }
+fn one_inner(alloc: Global, here: Here, dim: &Dim) -> Result<Inner, PartFault>
+    ensures { PartAnswers inner_view (after (spec.dimension (around_view here.entry.cx.now)
+        (scope_view here.entry.scopes.now) here.entry.at (dim_view dim.now))
+        (λ it. single here.entry.at it.warned it.size)) result }
 {
-    let last = last_dimension(alloc, cx, scopes, at, dim)?;
+    let last = last_dimension(alloc, here, dim)?;
     Ok(Inner {
         second: Some(last.size),
         third: None,
@@ -190,27 +175,20 @@ fn one_inner(
 
 /// Two sizes behind the first. Where the first of them falls, the other is judged all the same.
 #[tactic(auto, using(check_nodes::proofs::PartLaws::parts))]
-fn two_inner(
-    alloc: Global,
-    cx: &Context,
-    scopes: &Scopes,
-    at: At,
-    second: &Dim,
-    third: &Dim,
-) -> Result<Inner, PartFault>
-    ensures { PartAnswers inner_view (both (spec.dimension (around_view cx.now)
-        (scope_view scopes.now) at (dim_view second.now)) (after (spec.dimension
-        (around_view cx.now) (scope_view scopes.now) at (dim_view third.now))
-        (λ it. single at it.warned it.size)) (λ it more. with_size at it.warned it.size more))
-        result }
+fn two_inner(alloc: Global, here: Here, second: &Dim, third: &Dim) -> Result<Inner, PartFault>
+    ensures { PartAnswers inner_view (both (spec.dimension (around_view here.entry.cx.now)
+        (scope_view here.entry.scopes.now) here.entry.at (dim_view second.now)) (after
+        (spec.dimension (around_view here.entry.cx.now) (scope_view here.entry.scopes.now)
+        here.entry.at (dim_view third.now)) (λ it. single here.entry.at it.warned it.size))
+        (λ it more. with_size here.entry.at it.warned it.size more)) result }
 {
-    match dimension_of(alloc, cx, scopes, at, second) {
+    match dimension_of(alloc, here, second) {
         Ok(it) => {
-            let last = last_dimension(alloc, cx, scopes, at, third)?;
-            Ok(both_sizes(at, it, last)?)
+            let last = last_dimension(alloc, here, third)?;
+            Ok(both_sizes(here.at, it, last)?)
         }
         Err(PartFault::Fallen) => {
-            let _last = last_dimension(alloc, cx, scopes, at, third)?;
+            let _last = last_dimension(alloc, here, third)?;
             Err(PartFault::Fallen)
         }
         Err(PartFault::Source { kind, place }) => Err(PartFault::Source { kind, place }),
@@ -219,16 +197,10 @@ fn two_inner(
 }
 
 /// The sizes behind the first.
-fn sizes_behind(
-    alloc: Global,
-    cx: &Context,
-    scopes: &Scopes,
-    at: At,
-    dims: &[Dim],
-) -> Result<Inner, PartFault>
+fn sizes_behind(alloc: Global, here: Here, dims: &[Dim]) -> Result<Inner, PartFault>
     requires { length dims.now ≤ 2 }
-    ensures { PartAnswers inner_view (spec.inner (around_view cx.now) (scope_view scopes.now) at
-        (map dim_view dims.now)) result }
+    ensures { PartAnswers inner_view (spec.inner (around_view here.entry.cx.now)
+        (scope_view here.entry.scopes.now) here.entry.at (map dim_view dims.now)) result }
 {
     let count = dims.len();
     if count == 0 {
@@ -238,9 +210,9 @@ fn sizes_behind(
             warned: List::new(alloc),
         })
     } else if count == 1 {
-        one_inner(alloc, cx, scopes, at, &dims[0])
+        one_inner(alloc, here, &dims[0])
     } else {
-        two_inner(alloc, cx, scopes, at, &dims[0], &dims[1])
+        two_inner(alloc, here, &dims[0], &dims[1])
     }
 }
 
@@ -264,23 +236,22 @@ fn all_sizes(it: Dimension, more: Inner) -> Result<Dimensions, Memory>
 #[tactic(auto, using(check_nodes::proofs::PartLaws::parts))]
 fn few_dimensions(
     alloc: Global,
-    cx: &Context,
-    scopes: &Scopes,
-    at: At,
+    here: Here,
     dim: &Dim,
     dims: &[Dim],
 ) -> Result<Dimensions, PartFault>
     requires { length dims.now ≤ 2 }
-    ensures { PartAnswers dimensions_view (spec.dimensions_of (around_view cx.now)
-        (scope_view scopes.now) at (dim_view dim.now) (map dim_view dims.now)) result }
+    ensures { PartAnswers dimensions_view (spec.dimensions_of (around_view here.entry.cx.now)
+        (scope_view here.entry.scopes.now) here.entry.at (dim_view dim.now)
+        (map dim_view dims.now)) result }
 {
-    match dimension_of(alloc, cx, scopes, at, dim) {
+    match dimension_of(alloc, here, dim) {
         Ok(it) => {
-            let more = sizes_behind(alloc, cx, scopes, at, dims)?;
+            let more = sizes_behind(alloc, here, dims)?;
             Ok(all_sizes(it, more)?)
         }
         Err(PartFault::Fallen) => {
-            let _more = sizes_behind(alloc, cx, scopes, at, dims)?;
+            let _more = sizes_behind(alloc, here, dims)?;
             Err(PartFault::Fallen)
         }
         Err(PartFault::Source { kind, place }) => Err(PartFault::Source { kind, place }),
@@ -296,19 +267,18 @@ fn few_dimensions(
 /// 68 for a size below 1.
 pub fn array_dimensions(
     alloc: Global,
-    cx: &Context,
-    scopes: &Scopes,
-    at: At,
+    here: Here,
     dim: &Dim,
     dims: &[Dim],
 ) -> Result<Dimensions, PartFault>
-    ensures { PartAnswers dimensions_view (spec.dimensions (around_view cx.now)
-        (scope_view scopes.now) at (dim_view dim.now) (map dim_view dims.now)) result }
+    ensures { PartAnswers dimensions_view (spec.dimensions (around_view here.entry.cx.now)
+        (scope_view here.entry.scopes.now) here.entry.at (dim_view dim.now)
+        (map dim_view dims.now)) result }
 {
     let count = dims.len();
     if count <= 2 {
-        few_dimensions(alloc, cx, scopes, at, dim, dims)
+        few_dimensions(alloc, here, dim, dims)
     } else {
-        Err(part_broken(SIZES_DIFFER, at))
+        Err(part_broken(SIZES_DIFFER, here.at))
     }
 }

@@ -7,7 +7,7 @@ ghost use Rattle.check_nodes.specs.MeaningView.{meaning_view};
 ghost use Rattle.check_source.specs.KeyView.{key_view};
 ghost use Rattle.check_source.specs.GroupsView.{groups_view};
 ghost use Rattle.check_source.specs.declared.groups.Group.{Group as HeldGroup};
-ghost use Rattle.check_nodes.specs.Scopes.{scope_view};
+ghost use Rattle.check_nodes.specs.Scopes.{nothing_declared, scope_view};
 ghost use Rattle.check_source.specs.HeadingView.{heading_view, role_view};
 ghost use Rattle.check_source.specs.SourceView.{source_view};
 ghost use Rattle.check_functions.specs.Declares.{Declares, forward_by, function_by, entering_by};
@@ -184,12 +184,29 @@ fn declare_entry(scopes: &mut Scopes, tag: Option<u32>) -> Result<(), Memory>
     }
 }
 
+/// The names that are known everywhere in a source, where none is declared yet.
+#[tactic(auto, using(crate::proofs::DeclaresLaws::four))]
+fn declare_all<'a>(
+    scopes: &mut Scopes<'a>,
+    source: &Source<'a>,
+    firsts: &Firsts,
+) -> Result<(), Memory>
+    requires firsts { AreFirstsOf source.now firsts.now }
+    requires empty { scopes.old ≡ nothing_declared }
+    ensures { OnOk result (scope_view scopes.new ≡
+        (spec.beginning (source_view source.now)).scope) }
+{
+    declare_forwards(scopes, source)?;
+    declare_natives(scopes, source)?;
+    declare_functions(scopes, source, firsts)?;
+    declare_entry(scopes, entering_tag(source, firsts))
+}
+
 /// The names that are known everywhere in a source.
 ///
 /// # Errors
 ///
 /// `Memory` for want of memory.
-#[tactic(auto, using(crate::proofs::DeclaresLaws::four))]
 pub fn begin<'a>(alloc: Global, source: &Source<'a>, firsts: &Firsts) -> Result<Scopes<'a>, Memory>
     requires { AreFirsts source.now.tags source.now.fallback.now
         (groups_view source.now.groups) (map heading_view source.now.headings)
@@ -198,9 +215,6 @@ pub fn begin<'a>(alloc: Global, source: &Source<'a>, firsts: &Firsts) -> Result<
         (spec.beginning (source_view source.now)).scope) }
 {
     let mut scopes = Scopes::new(alloc);
-    declare_forwards(&mut scopes, source)?;
-    declare_natives(&mut scopes, source)?;
-    declare_functions(&mut scopes, source, firsts)?;
-    declare_entry(&mut scopes, entering_tag(source, firsts))?;
+    declare_all(&mut scopes, source, firsts)?;
     Ok(scopes)
 }

@@ -1,6 +1,6 @@
 -- Parameters as a list whose elements are known to those behind them.
 use Rattle.std.proofs.Common.{◌≡◌, ◌+◌, ℕ, List, [], ◌∷◌, ◌++◌, Option, None, Some, refl, ap}
-use Rattle.std.proofs.Common.{append_assoc, append-nil}
+use Rattle.std.proofs.Common.{append_assoc, append-nil, ◌∙◌}
 use Rattle.pawn_tree.specs.declared.name.At.{At}
 use Rattle.pawn_tree.specs.Declarations.{Param, Plain, Rest}
 use Rattle.names_rules.specs.Verdict.{Verdict}
@@ -54,6 +54,14 @@ module _ (cx : Around) (at : At) where
   -- behind a parameter
   abbrev pub past : Spot → Param → Spot
   past spot param = (with_entries spot.0 (param_entries cx at spot.0 spot.1 param), spot.1 + 1)
+
+  -- and it is reached by declaring the parameter
+  pub spot_behind : (old : Scope) (n i : ℕ) (new : Scope) (param : Param) → n ≡ i
+      → new ≡ with_entries old (param_entries cx at old n param)
+      → (new, i + 1) ≡ past (old, i) param
+  spot_behind old n i new param same behind =
+      ap (λ (s : Scope). (s, i + 1))
+      (behind ∙ ap (λ (m : ℕ). with_entries old (param_entries cx at old m param)) same)
 
   -- the expressions in parameters
   abbrev pub parts_fold : Fold Judged Spot Param Scope

@@ -14,7 +14,7 @@ ghost use Rattle.check_nodes.specs.TypedView.{typed_view};
 ghost use Rattle.check_nodes.specs.Scopes.{scope_view, sight_view};
 ghost use Rattle.check_heads.specs.HeadedView.{defaulted_view};
 
-use check_expressions::expr;
+use check_expressions::{Here, expr};
 use check_nodes::{
     ArrayAt, CellAt, Context, Meaning, ParamDefault, PartFault, Scopes, Sight, Typed, converter_to,
 };
@@ -161,22 +161,21 @@ fn default_fits(cx: &Context, reference: bool, tags: &[u32], x: &Typed) -> bool
 #[tactic(auto, using(crate::proofs::RuleLaws::afters))]
 fn default_given(
     alloc: Global,
-    cx: &Context,
-    scopes: &Scopes,
-    at: At,
+    here: Here,
     reference: bool,
     tags: &[u32],
     e: &Expr,
 ) -> Result<Defaulted, PartFault>
-    ensures { PartAnswers defaulted_view
-        (after (expr_rule (around_view cx.now) (scope_view scopes.now) 0 (expr_view e.now)) (λ x.
-        after (spec.default_by at x (spec.computed (scope_view scopes.now) (expr_view e.now)))
-        (λ it. Stands (spec.defaulted (around_view cx.now) reference tags.now x it)))) result }
+    ensures { PartAnswers defaulted_view (after (expr_rule (around_view here.entry.cx.now)
+        (scope_view here.entry.scopes.now) 0 (expr_view e.now)) (λ x. after
+        (spec.default_by here.entry.at x (spec.computed (scope_view here.entry.scopes.now)
+        (expr_view e.now))) (λ it. Stands (spec.defaulted (around_view here.entry.cx.now) reference
+        tags.now x it)))) result }
 {
     let mut objects = 0;
-    let x = expr(alloc, cx, scopes, &mut objects, e)?;
-    let default = default_by(at, &x, computed(scopes, e))?;
-    let passed = default_fits(cx, reference, tags, &x);
+    let x = expr(alloc, here.cx, here.scopes, &mut objects, e)?;
+    let default = default_by(here.at, &x, computed(here.scopes, e))?;
+    let passed = default_fits(here.cx, reference, tags, &x);
     let made = x.made.tested_first(alloc, passed, x.at)?;
     Ok(Defaulted {
         default,
@@ -191,21 +190,20 @@ fn default_given(
 /// 57 for what is neither a constant nor computed from a parameter before.
 pub fn default_rule(
     alloc: Global,
-    cx: &Context,
-    scopes: &Scopes,
-    at: At,
+    here: Here,
     reference: bool,
     tags: &[u32],
     value: &Option<Expr>,
 ) -> Result<Defaulted, PartFault>
-    ensures { PartAnswers defaulted_view (spec.default_rule (around_view cx.now)
-        (scope_view scopes.now) at reference tags.now (option_map expr_view value.now)) result }
+    ensures { PartAnswers defaulted_view (spec.default_rule (around_view here.entry.cx.now)
+        (scope_view here.entry.scopes.now) here.entry.at reference tags.now
+        (option_map expr_view value.now)) result }
 {
     match value {
         None => Ok(Defaulted {
             default: ParamDefault::Nothing,
             warned: List::new(alloc),
         }),
-        Some(e) => default_given(alloc, cx, scopes, at, reference, tags, e),
+        Some(e) => default_given(alloc, here, reference, tags, e),
     }
 }

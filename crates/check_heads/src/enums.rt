@@ -17,6 +17,14 @@ use pawn_base::{List, Memory};
 use pawn_tree::{At, Item, Name};
 use std::alloc::Global;
 
+/// The constants of an enumeration with its token and its tag.
+#[derive(Clone, Copy)]
+struct Items<'a> {
+    at: At,
+    tag: u32,
+    items: &'a [Item],
+}
+
 // ---- the expressions in constants
 
 /// The expressions in constants, each of which is known to those behind it, and stays declared.
@@ -24,14 +32,14 @@ fn judge_items<'a>(
     alloc: Global,
     cx: &Context,
     scopes: &mut Scopes<'a>,
-    at: At,
-    tag: u32,
-    items: &'a [Item],
+    them: Items<'a>,
 ) -> Result<(), PartFault>
-    ensures verdict { PartAnswers judged_view (spec.items_parts (around_view cx.now) at tag
-        (spec.nothing_counted (scope_view scopes.old)) (map item_view items.now)) result }
-    ensures scope { Judged result (without (length items.now) scopes.new ≡ scopes.old) }
+    ensures verdict { PartAnswers judged_view (spec.items_parts
+        (around_view cx.now) them.entry.at them.entry.tag (spec.nothing_counted
+        (scope_view scopes.old)) (map item_view them.entry.items.now)) result }
+    ensures scope { Judged result (without (length them.entry.items.now) scopes.new ≡ scopes.old) }
 {
+    let Items { at, tag, items } = them;
     let mut fell = false;
     let mut next = Some(0);
     for i in 0..items.len() {
@@ -43,24 +51,6 @@ fn judge_items<'a>(
     all_parts(fell)
 }
 
-/// The same, with nothing declared behind it.
-fn judge_enum<'a>(
-    alloc: Global,
-    cx: &Context,
-    scopes: &mut Scopes<'a>,
-    at: At,
-    tag: u32,
-    items: &'a [Item],
-) -> Result<(), PartFault>
-    ensures verdict { PartAnswers judged_view (spec.items_parts (around_view cx.now) at tag
-        (spec.nothing_counted (scope_view scopes.old)) (map item_view items.now)) result }
-    ensures scope { Judged result (scopes.new ≡ scopes.old) }
-{
-    let result = judge_items(alloc, cx, scopes, at, tag, items);
-    scopes.forget(items.len());
-    result
-}
-
 // ---- what an enumeration is
 
 /// Constants, each of which is known to those behind it.
@@ -68,16 +58,15 @@ fn items_in<'a>(
     alloc: Global,
     cx: &Context,
     scopes: &mut Scopes<'a>,
-    at: At,
-    tag: u32,
-    items: &'a [Item],
+    them: Items<'a>,
 ) -> Result<Counting, PartFault>
-    ensures verdict { Told (spec.items_rule (around_view cx.now) at tag
-        (spec.nothing_counted (scope_view scopes.old)) (map item_view items.now)) result }
-    ensures scope { IfOk result (λ it. counted (scope_view scopes.new) it.next
-        ≡ spec.behind_items (around_view cx.now) at tag
-        (spec.nothing_counted (scope_view scopes.old)) (map item_view items.now)) }
+    ensures verdict { Told (spec.items_rule (around_view cx.now) them.entry.at them.entry.tag
+        (spec.nothing_counted (scope_view scopes.old)) (map item_view them.entry.items.now)) result }
+    ensures scope { IfOk result (λ it. counted (scope_view scopes.new) it.next ≡ spec.behind_items
+        (around_view cx.now) them.entry.at them.entry.tag (spec.nothing_counted
+        (scope_view scopes.old)) (map item_view them.entry.items.now)) }
 {
+    let Items { at, tag, items } = them;
     let mut done = Progress::nothing(alloc);
     let mut next = Some(0);
     for i in 0..items.len() {
@@ -110,18 +99,18 @@ fn enum_in<'a>(
     alloc: Global,
     cx: &Context,
     scopes: &mut Scopes<'a>,
-    at: At,
-    tag: u32,
     name: &'a Option<Name>,
-    items: &'a [Item],
+    them: Items<'a>,
 ) -> Result<List<At>, PartFault>
-    ensures verdict { PartAnswers (λ warned. warned) (spec.items_rule (around_view cx.now) at tag
-        (spec.nothing_counted (scope_view scopes.old)) (map item_view items.now)) result }
+    ensures verdict { PartAnswers (λ warned. warned) (spec.items_rule
+        (around_view cx.now) them.entry.at them.entry.tag (spec.nothing_counted
+        (scope_view scopes.old)) (map item_view them.entry.items.now)) result }
     ensures scope { Judged result (scope_view scopes.new ≡ spec.behind_enum (around_view cx.now)
-        (scope_view scopes.old) at tag name.now (map item_view items.now)) }
+        (scope_view scopes.old) them.entry.at them.entry.tag name.now
+        (map item_view them.entry.items.now)) }
 {
-    let it = items_in(alloc, cx, scopes, at, tag, items)?;
-    declare_name(scopes, name, tag, it.next)?;
+    let it = items_in(alloc, cx, scopes, them)?;
+    declare_name(scopes, name, them.tag, it.next)?;
     it.done.all()
 }
 
@@ -146,9 +135,12 @@ pub fn enumeration<'a>(
     ensures scope { Judged result (scope_view scopes.new ≡ spec.behind_enum (around_view cx.now)
         (scope_view scopes.old) at tag name.now (map item_view items.now)) }
 {
-    match judge_enum(alloc, cx, scopes, at, tag, items) {
-        Ok(()) => enum_in(alloc, cx, scopes, at, tag, name, items),
-        Err(PartFault::Fallen) => enum_in(alloc, cx, scopes, at, tag, name, items),
+    let them = Items { at, tag, items };
+    let judged = judge_items(alloc, cx, scopes, them);
+    scopes.forget(items.len());
+    match judged {
+        Ok(()) => enum_in(alloc, cx, scopes, name, them),
+        Err(PartFault::Fallen) => enum_in(alloc, cx, scopes, name, them),
         Err(PartFault::Source { kind, place }) => Err(PartFault::Source { kind, place }),
         Err(PartFault::Memory) => Err(PartFault::Memory),
     }
@@ -161,14 +153,13 @@ fn declare_items<'a>(
     alloc: Global,
     cx: &Context,
     scopes: &mut Scopes<'a>,
-    at: At,
-    tag: u32,
-    items: &'a [Item],
+    them: Items<'a>,
 ) -> Result<Option<i32>, Memory>
-    ensures { IfOk result (λ next. counted (scope_view scopes.new) next
-        ≡ spec.behind_items (around_view cx.now) at tag
-        (spec.nothing_counted (scope_view scopes.old)) (map item_view items.now)) }
+    ensures { IfOk result (λ next. counted (scope_view scopes.new) next ≡ spec.behind_items
+        (around_view cx.now) them.entry.at them.entry.tag (spec.nothing_counted
+        (scope_view scopes.old)) (map item_view them.entry.items.now)) }
 {
+    let Items { at, tag, items } = them;
     let mut next = Some(0);
     for i in 0..items.len() {
         let item = &items[i];
@@ -194,6 +185,6 @@ pub fn declare_enum<'a>(
     ensures { OnOk result (scope_view scopes.new ≡ spec.behind_enum (around_view cx.now)
         (scope_view scopes.old) at tag name.now (map item_view items.now)) }
 {
-    let next = declare_items(alloc, cx, scopes, at, tag, items)?;
+    let next = declare_items(alloc, cx, scopes, Items { at, tag, items })?;
     declare_name(scopes, name, tag, next)
 }

@@ -14,8 +14,6 @@ mod passes;
 mod reaches;
 mod tags;
 
-pub use check_nodes::PartFault;
 pub use enums::{declare_enum, enumeration};
 pub use headed::Headed;
 pub use heads::{head_of, head_rule, judge_head};
-pub use meanings::declare_sight;

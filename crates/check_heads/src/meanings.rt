@@ -8,44 +8,55 @@ ghost use Rattle.check_nodes.specs.Scopes.{scope_view, sight_view, without};
 
 use super::reaches::array_reach;
 use super::tags::own_tag;
+use check_expressions::Here;
 use check_nodes::{ArrayAt, CellAt, Context, Meaning, PartFault, Scopes, Sight};
 use pawn_base::Memory;
 use pawn_tree::{At, Dim, Param};
 use std::alloc::Global;
 
-/// What a parameter of one cell with a number means.
-fn cell_means(number: u32, tag: u32, constant: bool, reference: bool) -> Meaning
-    ensures { meaning_view result ≡ spec.cell_param_means number tag constant reference }
-{
-    let place = if reference {
-        CellAt::Through(number)
-    } else {
-        CellAt::Slot(number)
-    };
-    Meaning::Variable(place, tag, constant)
+/// A parameter with its number and its tag, apart from its name and its dimensions.
+#[derive(Clone, Copy)]
+struct Numbered {
+    number: u32,
+    tag: u32,
+    constant: bool,
+    reference: bool,
 }
 
-/// What an array as a parameter with a number means.
+/// What a parameter of one cell means.
+fn cell_means(it: Numbered) -> Meaning
+    ensures { meaning_view result ≡
+        spec.cell_param_means it.number it.tag it.constant it.reference }
+{
+    let place = if it.reference {
+        CellAt::Through(it.number)
+    } else {
+        CellAt::Slot(it.number)
+    };
+    Meaning::Variable(place, it.tag, it.constant)
+}
+
+/// What an array as a parameter means.
 #[tactic(auto, using(crate::proofs::MeaningLaws::unknown_array))]
 fn array_means(
     alloc: Global,
     cx: &Context,
     scopes: &Scopes,
     at: At,
-    number: u32,
-    tag: u32,
-    constant: bool,
+    it: Numbered,
     dim: &Dim,
     dims: &[Dim],
 ) -> Result<Sight, Memory>
-    ensures { IfOk result (λ it. sight_view it ≡ spec.array_param_means number tag constant
+    ensures { IfOk result (λ sight. sight_view sight ≡
+        spec.array_param_means it.number it.tag it.constant
         (spec.reach (around_view cx.now) (scope_view scopes.now) at (dim_view dim.now)
         (map dim_view dims.now))) }
 {
-    match array_reach(alloc, cx, scopes, at, dim, dims) {
-        Ok(it) => {
-            let place = ArrayAt::Param(number, it.extent.first.is_some());
-            Ok(Sight::Means(Meaning::Array(place, it.extent, tag, constant)))
+    match array_reach(alloc, Here { cx, scopes, at }, dim, dims) {
+        Ok(reach) => {
+            let place = ArrayAt::Param(it.number, reach.extent.first.is_some());
+            let means = Meaning::Array(place, reach.extent, it.tag, it.constant);
+            Ok(Sight::Means(means))
         }
         Err(PartFault::Memory) => Err(Memory),
         Err(PartFault::Fallen) => Ok(Sight::Unknown),
@@ -53,26 +64,22 @@ fn array_means(
     }
 }
 
-/// What a parameter with a number means, by its dimensions.
+/// What a parameter means, by its dimensions.
 fn means_by(
     alloc: Global,
     cx: &Context,
     scopes: &Scopes,
     at: At,
-    number: u32,
-    constant: bool,
-    reference: bool,
-    tag: u32,
+    it: Numbered,
     dims: &[Dim],
 ) -> Result<Sight, Memory>
-    ensures { IfOk result (λ it. sight_view it ≡ spec.param_by (around_view cx.now) at
-        (scope_view scopes.now) number constant reference tag (map dim_view dims.now)) }
+    ensures { IfOk result (λ sight. sight_view sight ≡ spec.param_by (around_view cx.now) at
+        (scope_view scopes.now) it.number it.constant it.reference it.tag
+        (map dim_view dims.now)) }
 {
     match dims.split_first() {
-        None => Ok(Sight::Means(cell_means(number, tag, constant, reference))),
-        Some((dim, more)) => {
-            array_means(alloc, cx, scopes, at, number, tag, constant, dim, more)
-        }
+        None => Ok(Sight::Means(cell_means(it))),
+        Some((dim, more)) => array_means(alloc, cx, scopes, at, it, dim, more),
     }
 }
 
@@ -118,11 +125,13 @@ pub fn declare_param<'a>(
             dims,
             value: _,
         } => {
-            let tag = own_tag(cx, tags.as_slice());
-            let dims = dims.as_slice();
-            let means = means_by(
-                alloc, cx, scopes, at, number, *constant, *reference, tag, dims,
-            )?;
+            let it = Numbered {
+                number,
+                tag: own_tag(cx, tags.as_slice()),
+                constant: *constant,
+                reference: *reference,
+            };
+            let means = means_by(alloc, cx, scopes, at, it, dims.as_slice())?;
             declare_sight(scopes, name.bytes.as_slice(), means)
         }
         Param::Rest(_, _) => Ok(()),

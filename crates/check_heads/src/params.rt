@@ -19,6 +19,7 @@ use super::defaults::default_rule;
 use super::headed::Headed;
 use super::reaches::{array_reach, array_slot};
 use super::tags::tag_numbers;
+use check_expressions::Here;
 use check_nodes::{Context, Param as Typed, ParamDefault, PartFault, Scopes};
 use pawn_base::{Bytes, List};
 use pawn_meaning::Slot;
@@ -26,6 +27,15 @@ use pawn_tree::{At, Dim, Expr, Name, Param};
 use pawn_verdict::{CheckFault, broken};
 use std::alloc::Global;
 use types_rules::{ARGUMENT_KIND, CONSTANT_NEEDED, REDEFINED};
+
+/// A parameter that isn't `...`, apart from its dimensions and its default.
+#[derive(Clone, Copy)]
+struct Plain<'a> {
+    name: &'a Name,
+    constant: bool,
+    reference: bool,
+    tags: &'a [Name],
+}
 
 /// A name that the innermost block doesn't have yet.
 fn fresh_name(scopes: &Scopes, at: At, name: &[u8]) -> Result<(), CheckFault>
@@ -54,24 +64,24 @@ fn cell_slot(reference: bool) -> Slot
 #[tactic(auto, using(crate::proofs::RuleLaws::afters))]
 fn cell_param(
     alloc: Global,
-    cx: &Context,
-    scopes: &Scopes,
-    at: At,
-    name: &Name,
-    constant: bool,
-    reference: bool,
-    tags: List<u32>,
+    here: Here,
+    plain: Plain,
     value: &Option<Expr>,
 ) -> Result<Headed, PartFault>
-    ensures { PartAnswers headed_view (after (defaults.default_rule (around_view cx.now)
-        (scope_view scopes.now) at reference tags (option_map expr_view value.now)) (λ it.
-        Stands (spec.one_param (around_view cx.now) at name.now constant reference tags None
-        it.default (spec.cell_slot reference) it.warned))) result }
+    ensures { PartAnswers headed_view (after (defaults.default_rule (around_view here.entry.cx.now)
+        (scope_view here.entry.scopes.now) here.entry.at plain.entry.reference (spec.tag_numbers
+        (around_view here.entry.cx.now) plain.entry.tags.now) (option_map expr_view value.now))
+        (λ it. Stands (spec.one_param (around_view here.entry.cx.now) here.entry.at
+        plain.entry.name.now plain.entry.constant plain.entry.reference (spec.tag_numbers
+        (around_view here.entry.cx.now) plain.entry.tags.now) None it.default
+        (spec.cell_slot plain.entry.reference) it.warned))) result }
 {
-    let it = default_rule(alloc, cx, scopes, at, reference, tags.as_slice(), value)?;
+    let reference = plain.reference;
+    let tags = tag_numbers(alloc, here.cx, plain.tags)?;
+    let it = default_rule(alloc, here, reference, tags.as_slice(), value)?;
     let param = Typed {
-        name: Bytes::from_slice(alloc, name.bytes.as_slice())?,
-        constant,
+        name: Bytes::from_slice(alloc, plain.name.bytes.as_slice())?,
+        constant: plain.constant,
         reference,
         tags,
         extent: None,
@@ -107,25 +117,24 @@ fn no_reference(at: At, reference: bool) -> Result<bool, CheckFault>
 #[tactic(auto, using(crate::proofs::RuleLaws::afters))]
 fn array_alone(
     alloc: Global,
-    cx: &Context,
-    scopes: &Scopes,
-    at: At,
-    name: &Name,
-    constant: bool,
-    tags: List<u32>,
+    here: Here,
+    plain: Plain,
     dim: &Dim,
     dims: &[Dim],
 ) -> Result<Headed, PartFault>
-    ensures { PartAnswers headed_view (after (spec.reach (around_view cx.now)
-        (scope_view scopes.now) at (dim_view dim.now) (map dim_view dims.now)) (λ it.
-        Stands (spec.one_param (around_view cx.now) at name.now constant false tags
+    ensures { PartAnswers headed_view (after (spec.reach (around_view here.entry.cx.now)
+        (scope_view here.entry.scopes.now) here.entry.at (dim_view dim.now)
+        (map dim_view dims.now)) (λ it. Stands (spec.one_param
+        (around_view here.entry.cx.now) here.entry.at plain.entry.name.now plain.entry.constant
+        false (spec.tag_numbers (around_view here.entry.cx.now) plain.entry.tags.now)
         (Some it.extent) NoDefault (spec.array_slot it.extent it.extent.first) it.warned))) result }
 {
-    let it = array_reach(alloc, cx, scopes, at, dim, dims)?;
+    let it = array_reach(alloc, here, dim, dims)?;
+    let tags = tag_numbers(alloc, here.cx, plain.tags)?;
     let slot = array_slot(alloc, it.extent)?;
     let param = Typed {
-        name: Bytes::from_slice(alloc, name.bytes.as_slice())?,
-        constant,
+        name: Bytes::from_slice(alloc, plain.name.bytes.as_slice())?,
+        constant: plain.constant,
         reference: false,
         tags,
         extent: Some(it.extent),
@@ -138,29 +147,24 @@ fn array_alone(
 #[tactic(auto, using(crate::proofs::RuleLaws::afters))]
 fn array_param(
     alloc: Global,
-    cx: &Context,
-    scopes: &Scopes,
-    at: At,
-    name: &Name,
-    constant: bool,
-    reference: bool,
-    tags: List<u32>,
+    here: Here,
+    plain: Plain,
     dim: &Dim,
     dims: &[Dim],
     value: &Option<Expr>,
 ) -> Result<Headed, PartFault>
-    ensures { PartAnswers headed_view
-        (also (part.no_reference at reference)
-        (also (part.no_default at (option_map expr_view value.now))
-        (after (spec.reach (around_view cx.now)
-        (scope_view scopes.now) at (dim_view dim.now) (map dim_view dims.now)) (λ it.
-        Stands (spec.one_param (around_view cx.now) at name.now constant false tags
-        (Some it.extent) NoDefault (spec.array_slot it.extent it.extent.first) it.warned)))))
-        result }
+    ensures { PartAnswers headed_view (also (part.no_reference here.entry.at plain.entry.reference)
+        (also (part.no_default here.entry.at (option_map expr_view value.now)) (after
+        (spec.reach (around_view here.entry.cx.now) (scope_view here.entry.scopes.now)
+        here.entry.at (dim_view dim.now) (map dim_view dims.now)) (λ it. Stands
+        (spec.one_param (around_view here.entry.cx.now) here.entry.at plain.entry.name.now
+        plain.entry.constant false (spec.tag_numbers (around_view here.entry.cx.now)
+        plain.entry.tags.now) (Some it.extent) NoDefault (spec.array_slot it.extent
+        it.extent.first) it.warned))))) result }
 {
-    let it = array_alone(alloc, cx, scopes, at, name, constant, tags, dim, dims)?;
-    let _default = no_default(at, value)?;
-    let _reference = no_reference(at, reference)?;
+    let it = array_alone(alloc, here, plain, dim, dims)?;
+    let _default = no_default(here.at, value)?;
+    let _reference = no_reference(here.at, plain.reference)?;
     Ok(it)
 }
 
@@ -169,57 +173,20 @@ fn array_param(
 /// A parameter by its dimensions: one cell, or an array.
 fn param_of(
     alloc: Global,
-    cx: &Context,
-    scopes: &Scopes,
-    at: At,
-    name: &Name,
-    constant: bool,
-    reference: bool,
-    tags: List<u32>,
+    here: Here,
+    plain: Plain,
     dims: &[Dim],
     value: &Option<Expr>,
 ) -> Result<Headed, PartFault>
-    ensures { PartAnswers headed_view (spec.param_of (around_view cx.now) at
-        (scope_view scopes.now) name.now constant reference tags (map dim_view dims.now)
-        (option_map expr_view value.now)) result }
+    ensures { PartAnswers headed_view (spec.param_of (around_view here.entry.cx.now) here.entry.at
+        (scope_view here.entry.scopes.now) plain.entry.name.now plain.entry.constant
+        plain.entry.reference (spec.tag_numbers (around_view here.entry.cx.now)
+        plain.entry.tags.now) (map dim_view dims.now) (option_map expr_view value.now)) result }
 {
     match dims.split_first() {
-        None => cell_param(
-            alloc, cx, scopes, at, name, constant, reference, tags, value,
-        ),
-        Some((dim, more)) => array_param(
-            alloc, cx, scopes, at, name, constant, reference, tags, dim, more, value,
-        ),
+        None => cell_param(alloc, here, plain, value),
+        Some((dim, more)) => array_param(alloc, here, plain, dim, more, value),
     }
-}
-
-/// A parameter whose name is new.
-#[tactic(auto, using(crate::proofs::RuleLaws::afters))]
-fn plain_param(
-    alloc: Global,
-    cx: &Context,
-    scopes: &Scopes,
-    at: At,
-    name: &Name,
-    constant: bool,
-    reference: bool,
-    tags: &[Name],
-    dims: &[Dim],
-    value: &Option<Expr>,
-) -> Result<Headed, PartFault>
-    ensures { PartAnswers headed_view
-        (also (locals.fresh_name (scope_view scopes.now) at name.now.bytes)
-        (spec.param_of (around_view cx.now) at
-        (scope_view scopes.now) name.now constant reference
-        (spec.tag_numbers (around_view cx.now) tags.now) (map dim_view dims.now)
-        (option_map expr_view value.now))) result }
-{
-    let tags = tag_numbers(alloc, cx, tags)?;
-    let it = param_of(
-        alloc, cx, scopes, at, name, constant, reference, tags, dims, value,
-    )?;
-    fresh_name(scopes, at, name.bytes.as_slice())?;
-    Ok(it)
 }
 
 /// A parameter, or the tags of `...` (Language Guide, "Function arguments").
@@ -228,6 +195,7 @@ fn plain_param(
 ///
 /// 51 for a name that the head has, 57 for a default that is no constant or stands at an array, 58
 /// for a reference to an array, and those of dimensions.
+#[tactic(auto, using(crate::proofs::RuleLaws::afters))]
 pub fn param_rule(
     alloc: Global,
     cx: &Context,
@@ -246,18 +214,18 @@ pub fn param_rule(
             name,
             dims,
             value,
-        } => plain_param(
-            alloc,
-            cx,
-            scopes,
-            at,
-            name,
-            *constant,
-            *reference,
-            tags.as_slice(),
-            dims.as_slice(),
-            value,
-        ),
+        } => {
+            let plain = Plain {
+                name,
+                constant: *constant,
+                reference: *reference,
+                tags: tags.as_slice(),
+            };
+            let here = Here { cx, scopes, at };
+            let it = param_of(alloc, here, plain, dims.as_slice(), value)?;
+            fresh_name(scopes, at, name.bytes.as_slice())?;
+            Ok(it)
+        }
         Param::Rest(_, tags) => {
             let tags = tag_numbers(alloc, cx, tags.as_slice())?;
             Ok(Headed {

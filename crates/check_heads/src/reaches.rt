@@ -12,8 +12,8 @@ ghost use Rattle.check_nodes.specs.Scopes.{scope_view};
 ghost use Rattle.check_expressions.specs.ValueViews.{dimensions_view};
 ghost use Rattle.check_heads.specs.HeadedView.{reach_view};
 
-use check_expressions::{Dimensions, array_dimensions, within};
-use check_nodes::{Context, Extent, PartFault, Scopes};
+use check_expressions::{Dimensions, Here, array_dimensions, within};
+use check_nodes::{Extent, PartFault};
 use pawn_arrays::Shape;
 use pawn_base::{List, Memory};
 use pawn_meaning::Slot;
@@ -68,19 +68,13 @@ fn reach_by(at: At, it: Dimensions) -> Result<Reach, CheckFault>
 ///
 /// 55, 57 and 68 as the dimensions; 68 for more cells than any array has.
 #[tactic(auto, using(crate::proofs::RuleLaws::afters))]
-pub fn array_reach(
-    alloc: Global,
-    cx: &Context,
-    scopes: &Scopes,
-    at: At,
-    dim: &Dim,
-    dims: &[Dim],
-) -> Result<Reach, PartFault>
-    ensures { PartAnswers reach_view (spec.reach (around_view cx.now) (scope_view scopes.now) at
-        (dim_view dim.now) (map dim_view dims.now)) result }
+pub fn array_reach(alloc: Global, here: Here, dim: &Dim, dims: &[Dim]) -> Result<Reach, PartFault>
+    ensures { PartAnswers reach_view (spec.reach (around_view here.entry.cx.now)
+        (scope_view here.entry.scopes.now) here.entry.at (dim_view dim.now)
+        (map dim_view dims.now)) result }
 {
-    let it = array_dimensions(alloc, cx, scopes, at, dim, dims)?;
-    Ok(reach_by(at, it)?)
+    let it = array_dimensions(alloc, here, dim, dims)?;
+    Ok(reach_by(here.at, it)?)
 }
 
 /// With a further size, where there is one.

@@ -13,11 +13,12 @@ ghost use Rattle.check_locals.specs.PointView.{point_view};
 ghost use Rattle.check_locals.specs.Tells.{Tells};
 
 use super::answers::told;
+use super::declaring::{Declaring, Outcome};
 use super::means::tag_of;
 use super::point::Point;
 use super::stood::{Parts, Stood};
 use check_expressions::{ArrayValue, First, LocalValue, array_value, local_value, static_value};
-use check_nodes::{Context, Made};
+use check_nodes::Made;
 use pawn_arrays::Shape;
 use pawn_base::{List, Memory};
 use pawn_meaning::{Object, Slot, Stmt};
@@ -84,115 +85,6 @@ fn static_cell(alloc: Global, constant: bool, it: First) -> Result<Stood, Memory
     object_alone(alloc, object, it.warned)
 }
 
-/// What a cell of the body begins with.
-fn own_value(
-    alloc: Global,
-    cx: &Context,
-    point: &Point,
-    at: At,
-    tag: u32,
-    init: &Option<Init>,
-) -> Result<Option<LocalValue>, CheckFault>
-    ensures { Tells local_view (values.local_value (around_view cx.now) (point_view point.now).scope
-        point.now.objects at tag (option_map init_view init.now)) result }
-{
-    told(local_value(alloc, cx, &point.scopes, point.objects, at, tag, init))
-}
-
-/// A cell of the body.
-///
-/// # Errors
-///
-/// 53 for a list, 54 for an array.
-#[tactic(auto, using(crate::proofs::ToldLaws::parts))]
-fn own_cell(
-    alloc: Global,
-    cx: &Context,
-    point: &Point,
-    at: At,
-    tag: u32,
-    init: &Option<Init>,
-) -> Result<Option<Stood>, CheckFault>
-    ensures { Tells stood_view (after
-        (values.local_value (around_view cx.now) (point_view point.now).scope point.now.objects at
-        tag
-        (option_map init_view init.now))
-        (λ it. Stands (spec.new_cell (point_view point.now) it))) result }
-{
-    let it = own_value(alloc, cx, point, at, tag, init)?;
-    let Some(it) = it else {
-        return Ok(None);
-    };
-    Ok(Some(new_cell(alloc, point, it)?))
-}
-
-/// What a `static` of one cell begins with.
-fn kept_value(
-    alloc: Global,
-    cx: &Context,
-    point: &Point,
-    at: At,
-    tag: u32,
-    init: &Option<Init>,
-) -> Result<Option<First>, CheckFault>
-    ensures { Tells first_view (values.static_value (around_view cx.now)
-        (point_view point.now).scope at tag (option_map init_view init.now)) result }
-{
-    told(static_value(alloc, cx, &point.scopes, at, tag, init))
-}
-
-/// A cell of the source that a body alone sees.
-///
-/// # Errors
-///
-/// 53 for a list, 54 for an array, 57 for what is no constant.
-#[tactic(auto, using(crate::proofs::ToldLaws::parts))]
-fn kept_cell(
-    alloc: Global,
-    cx: &Context,
-    point: &Point,
-    at: At,
-    constant: bool,
-    tag: u32,
-    init: &Option<Init>,
-) -> Result<Option<Stood>, CheckFault>
-    ensures { Tells stood_view (after
-        (values.static_value (around_view cx.now) (point_view point.now).scope at tag
-        (option_map init_view init.now))
-        (λ it. Stands (spec.static_cell constant it))) result }
-{
-    let it = kept_value(alloc, cx, point, at, tag, init)?;
-    let Some(it) = it else {
-        return Ok(None);
-    };
-    Ok(Some(static_cell(alloc, constant, it)?))
-}
-
-/// A variable of one cell.
-///
-/// # Errors
-///
-/// 53 for a list, 54 for an array; 57 for a `static` that begins with no constant.
-fn local_cell(
-    alloc: Global,
-    cx: &Context,
-    point: &Point,
-    at: At,
-    kind: Storage,
-    constant: bool,
-    x: &Var,
-) -> Result<Option<Stood>, CheckFault>
-    ensures { Tells stood_view (spec.local_cell (around_view cx.now) (point_view point.now)
-        at kind constant (var_view x.now)) result }
-{
-    let tag = tag_of(cx, &x.tag);
-    match kind {
-        Storage::New => own_cell(alloc, cx, point, at, tag, &x.init),
-        Storage::Static => kept_cell(alloc, cx, point, at, constant, tag, &x.init),
-        Storage::Stock => own_cell(alloc, cx, point, at, tag, &x.init),
-    }
-}
-
 // ---- arrays
 
 /// An array of the body: its first cells are an object that isn't constant.
@@ -228,73 +120,152 @@ fn static_array(alloc: Global, constant: bool, it: ArrayValue) -> Result<Stood, 
     object_alone(alloc, object, it.warned)
 }
 
-/// The sizes and first cells of an array.
-fn whole_value(
-    alloc: Global,
-    cx: &Context,
-    point: &Point,
-    at: At,
-    tag: u32,
-    dim: &Dim,
-    dims: &[Dim],
-    init: &Option<Init>,
-) -> Result<Option<ArrayValue>, CheckFault>
-    ensures { Tells array_value_view (arrays.array_value (around_view cx.now)
-        (point_view point.now).scope at tag (dim_view dim.now) (map dim_view dims.now)
-        (option_map init_view init.now)) result }
-{
-    told(array_value(alloc, cx, &point.scopes, at, tag, dim, dims, init))
-}
+// ---- what is declared
 
-/// A variable that is an array.
-///
-/// # Errors
-///
-/// 55, 57 and 68 as its sizes and first cells.
-#[tactic(auto, using(crate::proofs::ToldLaws::parts))]
-fn local_array(
-    alloc: Global,
-    cx: &Context,
-    point: &Point,
-    at: At,
-    kind: Storage,
-    constant: bool,
-    x: &Var,
-    dim: &Dim,
-    dims: &[Dim],
-) -> Result<Option<Stood>, CheckFault>
-    ensures { Tells stood_view (spec.local_by (around_view cx.now) (point_view point.now)
-        at kind constant (var_view x.now) (dim_view dim.now ∷ map dim_view dims.now)) result }
-{
-    let tag = tag_of(cx, &x.tag);
-    let it = whole_value(alloc, cx, point, at, tag, dim, dims, &x.init)?;
-    let Some(it) = it else {
-        return Ok(None);
-    };
-    match kind {
-        Storage::New => Ok(Some(new_array(alloc, point, it)?)),
-        Storage::Static => Ok(Some(static_array(alloc, constant, it)?)),
-        Storage::Stock => Ok(Some(new_array(alloc, point, it)?)),
+impl<'v> Declaring<'v> {
+    /// What a cell of the body begins with.
+    fn own_value(
+        &self,
+        point: &Point,
+        tag: u32,
+        init: &Option<Init>,
+    ) -> Result<Option<LocalValue>, CheckFault>
+        ensures { Tells local_view (values.local_value (around_view self.now.cx.now)
+            (point_view point.now).scope point.now.objects self.now.at tag
+            (option_map init_view init.now)) result }
+    {
+        let scopes = &point.scopes;
+        told(local_value(
+            self.alloc,
+            self.cx,
+            scopes,
+            point.objects,
+            self.at,
+            tag,
+            init,
+        ))
     }
-}
 
-/// A variable with these dimensions.
-fn local_with(
-    alloc: Global,
-    cx: &Context,
-    point: &Point,
-    at: At,
-    kind: Storage,
-    constant: bool,
-    x: &Var,
-    dims: &[Dim],
-) -> Result<Option<Stood>, CheckFault>
-    ensures { Tells stood_view (spec.local_by (around_view cx.now) (point_view point.now)
-        at kind constant (var_view x.now) (map dim_view dims.now)) result }
-{
-    match dims.split_first() {
-        None => local_cell(alloc, cx, point, at, kind, constant, x),
-        Some((dim, dims)) => local_array(alloc, cx, point, at, kind, constant, x, dim, dims),
+    /// A cell of the body.
+    ///
+    /// # Errors
+    ///
+    /// 53 for a list, 54 for an array.
+    #[tactic(auto, using(crate::proofs::ToldLaws::parts))]
+    fn own_cell(&self, point: &Point, tag: u32, init: &Option<Init>) -> Outcome
+        ensures { Tells stood_view (after
+            (values.local_value (around_view self.now.cx.now) (point_view point.now).scope
+            point.now.objects self.now.at tag (option_map init_view init.now))
+            (λ it. Stands (spec.new_cell (point_view point.now) it))) result }
+    {
+        let it = self.own_value(point, tag, init)?;
+        let Some(it) = it else {
+            return Ok(None);
+        };
+        Ok(Some(new_cell(self.alloc, point, it)?))
+    }
+
+    /// What a `static` of one cell begins with.
+    fn kept_value(
+        &self,
+        point: &Point,
+        tag: u32,
+        init: &Option<Init>,
+    ) -> Result<Option<First>, CheckFault>
+        ensures { Tells first_view (values.static_value (around_view self.now.cx.now)
+            (point_view point.now).scope self.now.at tag
+            (option_map init_view init.now)) result }
+    {
+        told(static_value(self.alloc, self.cx, &point.scopes, self.at, tag, init))
+    }
+
+    /// A cell of the source that a body alone sees.
+    ///
+    /// # Errors
+    ///
+    /// 53 for a list, 54 for an array, 57 for what is no constant.
+    #[tactic(auto, using(crate::proofs::ToldLaws::parts))]
+    fn kept_cell(&self, point: &Point, tag: u32, init: &Option<Init>) -> Outcome
+        ensures { Tells stood_view (after
+            (values.static_value (around_view self.now.cx.now) (point_view point.now).scope
+            self.now.at tag (option_map init_view init.now))
+            (λ it. Stands (spec.static_cell self.now.constant it))) result }
+    {
+        let it = self.kept_value(point, tag, init)?;
+        let Some(it) = it else {
+            return Ok(None);
+        };
+        Ok(Some(static_cell(self.alloc, self.constant, it)?))
+    }
+
+    /// A variable of one cell.
+    ///
+    /// # Errors
+    ///
+    /// 53 for a list, 54 for an array; 57 for a `static` that begins with no constant.
+    fn local_cell(&self, point: &Point, x: &Var) -> Outcome
+        ensures { Tells stood_view (spec.local_cell (around_view self.now.cx.now)
+            (point_view point.now) self.now.at self.now.kind self.now.constant
+            (var_view x.now)) result }
+    {
+        let tag = tag_of(self.cx, &x.tag);
+        match self.kind {
+            Storage::New => self.own_cell(point, tag, &x.init),
+            Storage::Static => self.kept_cell(point, tag, &x.init),
+            Storage::Stock => self.own_cell(point, tag, &x.init),
+        }
+    }
+
+    /// The sizes and first cells of an array.
+    fn array_cells(
+        &self,
+        point: &Point,
+        tag: u32,
+        dim: &Dim,
+        dims: &[Dim],
+        init: &Option<Init>,
+    ) -> Result<Option<ArrayValue>, CheckFault>
+        ensures { Tells array_value_view (arrays.array_value (around_view self.now.cx.now)
+            (point_view point.now).scope self.now.at tag (dim_view dim.now)
+            (map dim_view dims.now) (option_map init_view init.now)) result }
+    {
+        let scopes = &point.scopes;
+        told(array_value(self.alloc, self.cx, scopes, self.at, tag, dim, dims, init))
+    }
+
+    /// A variable that is an array.
+    ///
+    /// # Errors
+    ///
+    /// 55, 57 and 68 as its sizes and first cells.
+    #[tactic(auto, using(crate::proofs::ToldLaws::parts))]
+    fn local_array(&self, point: &Point, x: &Var, dim: &Dim, dims: &[Dim]) -> Outcome
+        ensures { Tells stood_view (spec.local_by (around_view self.now.cx.now)
+            (point_view point.now) self.now.at self.now.kind self.now.constant
+            (var_view x.now) (dim_view dim.now ∷ map dim_view dims.now)) result }
+    {
+        let tag = tag_of(self.cx, &x.tag);
+        let it = self.array_cells(point, tag, dim, dims, &x.init)?;
+        let Some(it) = it else {
+            return Ok(None);
+        };
+        match self.kind {
+            Storage::New => Ok(Some(new_array(self.alloc, point, it)?)),
+            Storage::Static => Ok(Some(static_array(self.alloc, self.constant, it)?)),
+            Storage::Stock => Ok(Some(new_array(self.alloc, point, it)?)),
+        }
+    }
+
+    /// A variable with these dimensions.
+    fn local_with(&self, point: &Point, x: &Var, dims: &[Dim]) -> Outcome
+        ensures { Tells stood_view (spec.local_by (around_view self.now.cx.now)
+            (point_view point.now) self.now.at self.now.kind self.now.constant
+            (var_view x.now) (map dim_view dims.now)) result }
+    {
+        match dims.split_first() {
+            None => self.local_cell(point, x),
+            Some((dim, dims)) => self.local_array(point, x, dim, dims),
+        }
     }
 }
 
@@ -304,17 +275,10 @@ fn local_with(
 /// # Errors
 ///
 /// 53, 54, 55, 57 and 68 as its sizes and its first value.
-pub fn local_by(
-    alloc: Global,
-    cx: &Context,
-    point: &Point,
-    at: At,
-    kind: Storage,
-    constant: bool,
-    x: &Var,
-) -> Result<Option<Stood>, CheckFault>
-    ensures { Tells stood_view (spec.local_by (around_view cx.now) (point_view point.now)
-        at kind constant (var_view x.now) (map dim_view x.now.dims)) result }
+pub fn local_by(here: &Declaring, point: &Point, x: &Var) -> Outcome
+    ensures { Tells stood_view (spec.local_by (around_view here.now.cx.now) (point_view point.now)
+        here.now.at here.now.kind here.now.constant (var_view x.now)
+        (map dim_view x.now.dims)) result }
 {
-    local_with(alloc, cx, point, at, kind, constant, x, x.dims.as_slice())
+    here.local_with(point, x, x.dims.as_slice())
 }

@@ -15,6 +15,7 @@ ghost use Rattle.check_locals.specs.Tells.{Tells, told as plain_told};
 
 use super::answers::told;
 use super::cells::local_by;
+use super::declaring::{Declaring, Outcome};
 use super::judged_variables::judge_vars;
 use super::means::{declare_var, tag_of};
 use super::point::Point;
@@ -22,7 +23,7 @@ use super::stood::{Parts, Stood};
 use check_expressions::{Constant as Value, constant_value, constant_warned};
 use check_nodes::{Context, Made, Meaning, Scopes, Sight};
 use pawn_base::{List, Memory};
-use pawn_tree::{At, Constant, Expr, Storage, Var, Variables};
+use pawn_tree::{At, Constant, Expr, Var, Variables};
 use pawn_verdict::{CheckFault, broken};
 use std::alloc::Global;
 use types_rules::REDEFINED;
@@ -43,23 +44,16 @@ pub fn fresh_name(scopes: &Scopes, at: At, name: &[u8]) -> Result<(), CheckFault
 
 /// A variable of a block.
 #[tactic(auto, using(crate::proofs::ToldLaws::parts))]
-fn local(
-    alloc: Global,
-    cx: &Context,
-    point: &Point,
-    at: At,
-    kind: Storage,
-    constant: bool,
-    x: &Var,
-) -> Result<Option<Stood>, CheckFault>
-    ensures { Tells stood_view (spec.local (around_view cx.now) (point_view point.now)
-        at kind constant (var_view x.now)) result }
+fn local(here: &Declaring, point: &Point, x: &Var) -> Outcome
+    ensures { Tells stood_view (spec.local (around_view here.now.cx.now)
+        (point_view point.now) here.now.at here.now.kind here.now.constant
+        (var_view x.now)) result }
 {
-    let it = local_by(alloc, cx, point, at, kind, constant, x)?;
+    let it = local_by(here, point, x)?;
     let Some(it) = it else {
         return Ok(None);
     };
-    fresh_name(&point.scopes, at, x.name.bytes.as_slice())?;
+    fresh_name(&point.scopes, here.at, x.name.bytes.as_slice())?;
     Ok(Some(it))
 }
 
@@ -82,26 +76,19 @@ pub fn then_maybe(done: Option<Stood>, more: Option<Stood>) -> Result<Option<Sto
 /// # Errors
 ///
 /// 51 for a name that the block has, and 53, 54, 55, 57, 68 as sizes and first values.
-pub fn locals<'a>(
-    alloc: Global,
-    cx: &Context,
-    point: &mut Point<'a>,
-    at: At,
-    kind: Storage,
-    constant: bool,
-    vars: &'a [Var],
-) -> Result<Option<Stood>, CheckFault>
-    ensures tells { Tells stood_view (spec.locals (around_view cx.now) (point_view point.old)
-        at kind constant (map var_view vars.now)) result }
+pub fn locals<'a>(here: &Declaring, point: &mut Point<'a>, vars: &'a [Var]) -> Outcome
+    ensures tells { Tells stood_view (spec.locals (around_view here.now.cx.now)
+        (point_view point.old) here.now.at here.now.kind here.now.constant
+        (map var_view vars.now)) result }
     ensures behind { IfOk result (λ it. point_view point.new ≡
-        points.behind_vars (around_view cx.now) (point_view point.old) at kind constant
-        (map var_view vars.now)) }
+        points.behind_vars (around_view here.now.cx.now) (point_view point.old) here.now.at
+        here.now.kind here.now.constant (map var_view vars.now)) }
 {
-    let mut done = Some(Stood::nothing(alloc));
+    let mut done = Some(Stood::nothing(here.alloc));
     for i in 0..vars.len() {
         let x = &vars[i];
-        let it = local(alloc, cx, point, at, kind, constant, x)?;
-        declare_var(alloc, cx, point, at, kind, constant, x)?;
+        let it = local(here, point, x)?;
+        declare_var(here, point, x)?;
         done = then_maybe(done, it)?;
     }
     Ok(done)
@@ -121,7 +108,7 @@ pub fn local_vars<'a>(
     point: &mut Point<'a>,
     at: At,
     it: &'a Variables,
-) -> Result<Option<Stood>, CheckFault>
+) -> Outcome
     ensures tells { Tells stood_view (spec.local_vars (around_view cx.now) (point_view point.old) at
         it.now.storage it.now.constant (map var_view it.now.vars)) result }
     ensures behind { IfOk result (λ x. point_view point.new ≡
@@ -129,14 +116,25 @@ pub fn local_vars<'a>(
         it.now.storage it.now.constant (map var_view it.now.vars)) }
 {
     let vars = it.vars.as_slice();
-    judge_vars(alloc, cx, point, at, it.storage, it.constant, vars)?;
-    locals(alloc, cx, point, at, it.storage, it.constant, vars)
+    let here = Declaring {
+        alloc,
+        cx,
+        at,
+        kind: it.storage,
+        constant: it.constant,
+    };
+    judge_vars(&here, point, vars)?;
+    locals(&here, point, vars)
 }
 
 // ---- constants
 
-/// A constant expression, told.
-fn value(
+/// The value of a constant expression; None where it falls.
+///
+/// # Errors
+///
+/// 57 for what is no constant, and what breaks a rule in it.
+pub fn told_constant(
     alloc: Global,
     cx: &Context,
     point: &Point,
@@ -177,7 +175,7 @@ pub fn local_constant<'a>(
     point: &mut Point<'a>,
     at: At,
     it: &'a Constant,
-) -> Result<Option<Stood>, CheckFault>
+) -> Outcome
     ensures tells { Tells stood_view
         (spec.local_constant (around_view cx.now) (point_view point.old)
         at (constant_view it.now)) result }
@@ -187,7 +185,7 @@ pub fn local_constant<'a>(
 {
     let name = it.name.bytes.as_slice();
     let tag = tag_of(cx, &it.tag);
-    let x = value(alloc, cx, point, at, &it.value)?;
+    let x = told_constant(alloc, cx, point, at, &it.value)?;
     let Some(x) = x else {
         point.declare(name, Sight::Unknown)?;
         return Ok(None);

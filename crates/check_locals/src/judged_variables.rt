@@ -10,11 +10,12 @@ ghost use Rattle.check_locals.specs.Rows.{joined};
 ghost use Rattle.check_locals.specs.Tells.{Tells, told as plain_told};
 
 use super::answers::told;
+use super::declaring::{Declaring, Judging};
 use super::means::declare_var;
 use super::point::Point;
 use check_expressions::judge_var;
 use check_nodes::Context;
-use pawn_tree::{At, Storage, Var};
+use pawn_tree::Var;
 use pawn_verdict::CheckFault;
 use std::alloc::Global;
 
@@ -43,26 +44,19 @@ fn judge(alloc: Global, cx: &Context, point: &Point, x: &Var) -> Result<Option<(
 /// # Errors
 ///
 /// What breaks a rule in one of them.
-pub fn judge_behind<'a>(
-    alloc: Global,
-    cx: &Context,
-    point: &mut Point<'a>,
-    at: At,
-    kind: Storage,
-    constant: bool,
-    vars: &'a [Var],
-) -> Result<Option<()>, CheckFault>
-    ensures tells { Tells judged_view (spec.vars_parts (around_view cx.now) (point_view point.old)
-        at kind constant (map var_view vars.now)) result }
+pub fn judge_behind<'a>(here: &Declaring, point: &mut Point<'a>, vars: &'a [Var]) -> Judging
+    ensures tells { Tells judged_view (spec.vars_parts (around_view here.now.cx.now)
+        (point_view point.old) here.now.at here.now.kind here.now.constant
+        (map var_view vars.now)) result }
     ensures behind { IfOk result (λ it. point_view point.new ≡
-        points.behind_vars (around_view cx.now) (point_view point.old) at kind constant
-        (map var_view vars.now)) }
+        points.behind_vars (around_view here.now.cx.now) (point_view point.old) here.now.at
+        here.now.kind here.now.constant (map var_view vars.now)) }
 {
     let mut done = Some(());
     for i in 0..vars.len() {
         let x = &vars[i];
-        let it = judge(alloc, cx, point, x)?;
-        declare_var(alloc, cx, point, at, kind, constant, x)?;
+        let it = judge(here.alloc, here.cx, point, x)?;
+        declare_var(here, point, x)?;
         done = judged_both(done, it);
     }
     Ok(done)
@@ -73,22 +67,15 @@ pub fn judge_behind<'a>(
 /// # Errors
 ///
 /// What breaks a rule in one of them.
-pub fn judge_vars<'a>(
-    alloc: Global,
-    cx: &Context,
-    point: &mut Point<'a>,
-    at: At,
-    kind: Storage,
-    constant: bool,
-    vars: &'a [Var],
-) -> Result<Option<()>, CheckFault>
-    ensures tells { Tells judged_view (spec.vars_parts (around_view cx.now) (point_view point.old)
-        at kind constant (map var_view vars.now)) result }
+pub fn judge_vars<'a>(here: &Declaring, point: &mut Point<'a>, vars: &'a [Var]) -> Judging
+    ensures tells { Tells judged_view (spec.vars_parts (around_view here.now.cx.now)
+        (point_view point.old) here.now.at here.now.kind here.now.constant
+        (map var_view vars.now)) result }
     ensures behind { IfOk result (λ it. point_view point.new ≡ point_view point.old) }
 {
     let objects = point.objects;
     let slots = point.slots;
-    let it = judge_behind(alloc, cx, point, at, kind, constant, vars)?;
+    let it = judge_behind(here, point, vars)?;
     point.forget(vars.len());
     point.objects = objects;
     point.slots = slots;

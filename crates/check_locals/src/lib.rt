@@ -5,6 +5,7 @@ mod answers;
 mod cells;
 mod counts;
 mod declarations;
+mod declaring;
 mod judged_variables;
 mod means;
 mod objects;
@@ -15,7 +16,8 @@ mod used;
 
 pub use answers::{answer, told};
 pub use cells::local_by;
-pub use declarations::{local_constant, local_vars, locals, then_maybe};
+pub use declarations::{local_constant, local_vars, locals, then_maybe, told_constant};
+pub use declaring::{Declaring, Judging, Outcome};
 pub use judged_variables::{judge_behind, judge_vars};
 pub use means::{declare_var, tag_of};
 pub use objects::objects_in;

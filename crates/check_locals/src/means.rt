@@ -10,6 +10,7 @@ ghost use Rattle.check_nodes.specs.Scopes.{sight_view};
 ghost use Rattle.check_locals.specs.PointView.{point_view};
 
 use super::counts::{objects_of_var, slots_of};
+use super::declaring::Declaring;
 use super::point::Point;
 use check_expressions::array_shape;
 use check_nodes::{
@@ -17,7 +18,7 @@ use check_nodes::{
 };
 use pawn_arrays::Shape;
 use pawn_base::Memory;
-use pawn_tree::{At, Dim, Init, Name, Storage, Var};
+use pawn_tree::{Dim, Init, Name, Storage, Var};
 use std::alloc::Global;
 
 /// The number of a tag that may be left out.
@@ -66,54 +67,44 @@ fn whole_means(at: ArrayAt, shape: Shape, tag: u32, constant: bool) -> Meaning
     Meaning::Array(at, extent, tag, constant)
 }
 
-/// What an array means: nothing where its sizes don't stand.
-#[tactic(auto, using(crate::proofs::MeansLaws::meanings))]
-fn array_means(
-    alloc: Global,
-    cx: &Context,
-    point: &Point,
-    at: At,
-    place: ArrayAt,
-    tag: u32,
-    constant: bool,
-    dim: &Dim,
-    dims: &[Dim],
-    init: &Option<Init>,
-) -> Result<Sight, Memory>
-    ensures { IfOk result (λ it. sight_view it ≡ spec.array_means (place_view place) tag constant
-        (shaped (around_view cx.now) (point_view point.now).scope at (dim_view dim.now)
-        (map dim_view dims.now) (option_map init_view init.now))) }
-{
-    match array_shape(alloc, cx, &point.scopes, at, dim, dims, init) {
-        Ok(it) => Ok(Sight::Means(whole_means(place, it.shape, tag, constant))),
-        Err(PartFault::Fallen) => Ok(Sight::Unknown),
-        Err(PartFault::Source { .. }) => Ok(Sight::Unknown),
-        Err(PartFault::Memory) => Err(Memory),
+impl<'v> Declaring<'v> {
+    /// What an array means: nothing where its sizes don't stand.
+    #[tactic(auto, using(crate::proofs::MeansLaws::meanings))]
+    fn array_means(
+        &self,
+        point: &Point,
+        place: ArrayAt,
+        tag: u32,
+        dim: &Dim,
+        dims: &[Dim],
+        init: &Option<Init>,
+    ) -> Result<Sight, Memory>
+        ensures { IfOk result (λ it. sight_view it ≡ spec.array_means (place_view place) tag
+            self.now.constant (shaped (around_view self.now.cx.now)
+            (point_view point.now).scope self.now.at (dim_view dim.now)
+            (map dim_view dims.now) (option_map init_view init.now))) }
+    {
+        match array_shape(self.alloc, self.cx, &point.scopes, self.at, dim, dims, init) {
+            Ok(it) => Ok(Sight::Means(whole_means(place, it.shape, tag, self.constant))),
+            Err(PartFault::Fallen) => Ok(Sight::Unknown),
+            Err(PartFault::Source { .. }) => Ok(Sight::Unknown),
+            Err(PartFault::Memory) => Err(Memory),
+        }
     }
-}
 
-/// What a variable with these dimensions means behind it.
-fn means_by(
-    alloc: Global,
-    cx: &Context,
-    point: &Point,
-    at: At,
-    kind: Storage,
-    constant: bool,
-    x: &Var,
-    dims: &[Dim],
-) -> Result<Sight, Memory>
-    ensures { IfOk result (λ it. sight_view it ≡ spec.var_by (around_view cx.now)
-        (point_view point.now) at kind constant (var_view x.now) (map dim_view dims.now)) }
-{
-    let tag = tag_of(cx, &x.tag);
-    match dims.split_first() {
-        None => Ok(Sight::Means(cell_means(point, kind, tag, constant))),
-        Some((dim, dims)) => {
-            let place = array_place(point, kind);
-            array_means(
-                alloc, cx, point, at, place, tag, constant, dim, dims, &x.init,
-            )
+    /// What a variable with these dimensions means behind it.
+    fn means_by(&self, point: &Point, x: &Var, dims: &[Dim]) -> Result<Sight, Memory>
+        ensures { IfOk result (λ it. sight_view it ≡ spec.var_by (around_view self.now.cx.now)
+            (point_view point.now) self.now.at self.now.kind self.now.constant
+            (var_view x.now) (map dim_view dims.now)) }
+    {
+        let tag = tag_of(self.cx, &x.tag);
+        match dims.split_first() {
+            None => Ok(Sight::Means(cell_means(point, self.kind, tag, self.constant))),
+            Some((dim, dims)) => {
+                let place = array_place(point, self.kind);
+                self.array_means(point, place, tag, dim, dims, &x.init)
+            }
         }
     }
 }
@@ -123,19 +114,12 @@ fn means_by(
 /// # Errors
 ///
 /// `Memory` for want of memory, and for more objects or slots than a u32 counts.
-pub fn declare_var<'a>(
-    alloc: Global,
-    cx: &Context,
-    point: &mut Point<'a>,
-    at: At,
-    kind: Storage,
-    constant: bool,
-    x: &'a Var,
-) -> Result<(), Memory>
-    ensures { OnOk result (point_view point.new ≡ spec.behind_var (around_view cx.now)
-        (point_view point.old) at kind constant (var_view x.now)) }
+pub fn declare_var<'a>(here: &Declaring, point: &mut Point<'a>, x: &'a Var) -> Result<(), Memory>
+    ensures { OnOk result (point_view point.new ≡ spec.behind_var (around_view here.now.cx.now)
+        (point_view point.old) here.now.at here.now.kind here.now.constant (var_view x.now)) }
 {
-    let means = means_by(alloc, cx, point, at, kind, constant, x, x.dims.as_slice())?;
+    let kind = here.kind;
+    let means = here.means_by(point, x, x.dims.as_slice())?;
     point.pass(objects_of_var(kind, x)?, slots_of(kind))?;
     point.declare(x.name.bytes.as_slice(), means)
 }

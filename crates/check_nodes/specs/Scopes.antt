@@ -1,8 +1,7 @@
 -- The declarations in sight as code holds them: each name with what it means, block by block with
 -- the innermost first; and as one list, the latest first, with None where a block begins.
-use Rattle.std.specs.Prelude.{◌≡◌, ℕ, suc, ◌-◌, nat_eq, if◌then◌else◌, List, [], ◌∷◌, ◌++◌, length}
-use Rattle.std.specs.Prelude.{map, take, Option, Some, None}
-use Rattle.std.specs.Str.{bytes_eq}
+use Rattle.std.specs.Prelude.{ℕ, ◌-◌, nat_eq, if◌then◌else◌, List, [], ◌∷◌, ◌++◌, length, map, take}
+use Rattle.std.specs.Prelude.{Option, Some, None}
 use Rattle.types_rules.specs.Scope.{Scope, Meaning, Unknown, Entry, with_block, with_entries}
 use Rattle.check_nodes.specs.MeaningView.{meaning_view}
 use Rattle.check_nodes.specs.declared.scopes.Sight.{Sight}
@@ -70,12 +69,6 @@ outer_of blocks = outer_by blocks.outer
 abbrev pub Stack : Type 0
 Stack = List (Option Hidden)
 
--- how many blocks begin
-abbrev pub depth_of : Stack → ℕ
-depth_of [] = 0
-depth_of (None ∷ more) = suc (depth_of more)
-depth_of (Some it ∷ more) = depth_of more
-
 -- block by block; the outermost one begins by itself
 abbrev pub blocks_of : Stack → Blocks
 blocks_of [] = nothing_declared
@@ -92,21 +85,7 @@ scope_of [] = [] ∷ []
 scope_of (None ∷ more) = with_block (scope_of more)
 scope_of (Some it ∷ more) = with_entries (scope_of more) (entry_of it ∷ [])
 
--- what a name means
-abbrev pub meant_by : Stack → List ℕ → Option Declared
-meant_by [] name = None
-meant_by (None ∷ more) name = meant_by more name
-meant_by (Some it ∷ more) name =
-    if bytes_eq it.name.now name then Some it.declared else meant_by more name
-
 -- what a declaration means, if it stands in so many blocks
 abbrev pub here_in : Option Declared → ℕ → Option Meaning
 here_in None depth = None
 here_in (Some it) depth = if nat_eq it.depth depth then Some (sight_view it.means) else None
-
--- each declaration keeps what its name meant before it, and in how many blocks it stands
-abbrev pub IsChain : Stack → Type 0
-IsChain [] = Unit {0}
-IsChain (None ∷ more) = IsChain more
-IsChain (Some it ∷ more) =
-    (it.before ≡ meant_by more it.name.now) × (it.declared.depth ≡ depth_of more) × IsChain more

@@ -13,13 +13,13 @@ ghost use Rattle.check_nodes.specs.Begun.{begun_view, link_step};
 
 use super::context::Context;
 use super::made::Made;
-use super::tags::{TRUTH_TAG, function_tag, takes_either};
+use super::tags::{function_tag, takes_either};
 use super::typed::{Form, Typed};
 use super::wanted_cell::cell;
 use pawn_base::{List, Memory};
 use pawn_cells::{Cell, Comparison};
 use pawn_meaning::{Expr, Link};
-use pawn_tags::{Choice, Op};
+use pawn_tags::{Choice, Op, TRUTH_TAG};
 use pawn_token::Sign;
 use pawn_tree::At;
 use pawn_verdict::{CheckFault, LinkSign, broken, link_of};

@@ -31,13 +31,12 @@ pub use named_values::{make_number, name, paren, tagged};
 pub use operands::Operand;
 pub use operators::{binary, chosen, divides_by_zero, make_value};
 pub use pawn_base::Memory;
+pub use pawn_tags::UNTAGGED;
 pub use prefixes::{postfix, prefix};
 pub use scopes::{Scopes, Sight};
 pub use sizes::{sizeof_name, sizeof_text, tagof_name, tagof_tag};
 pub use steps::target;
-pub use tags::{
-    UNTAGGED, converter, converter_to, first_tag, function_tag, send, tag_number, takes_either,
-};
+pub use tags::{converter, converter_to, first_tag, function_tag, send, tag_number, takes_either};
 pub use text_sizes::text_size;
 pub use typed::{Form, Typed};
 pub use wanted_cell::{cell, line};

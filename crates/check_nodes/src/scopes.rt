@@ -4,10 +4,10 @@ ghost use Rattle.check_nodes.specs.Scopes.{entered, here_in, nothing_declared, o
 ghost use Rattle.check_nodes.specs.Scopes.{scope_view, sight_view, with_name, without};
 
 use super::meaning::Meaning;
-use super::tags::{TRUTH_TAG, UNTAGGED};
 use indexmap::IndexMap;
 use pawn_base::Memory;
 use pawn_cells::predefined;
+use pawn_tags::{TRUTH_TAG, UNTAGGED};
 use std::alloc::Global;
 use std::marker::Model;
 

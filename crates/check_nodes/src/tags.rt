@@ -10,14 +10,8 @@ ghost use Rattle.check_nodes.specs.ContextView.{around_view};
 use super::context::Context;
 use pawn_base::Memory;
 use pawn_meaning::Expr;
-use pawn_tags::{Op, matches};
+use pawn_tags::{Op, UNTAGGED, matches};
 use std::alloc::Global;
-
-/// The number of `_`, which is no tag.
-pub const UNTAGGED: u32 = 0;
-
-/// The number of `bool`.
-pub const TRUTH_TAG: u32 = 1;
 
 /// The number of a tag's name.
 pub fn tag_number(cx: &Context, name: &[u8]) -> u32

@@ -1,14 +1,10 @@
 -- Keys as code finds them.
-use Rattle.std.proofs.Common.{◌≡◌, ◌≤◌, ◌∙◌, ℕ, Bool, true, false, List, [], ◌∷◌, map, length}
+use Rattle.std.proofs.Common.{◌≡◌, ◌≤◌, ◌∙◌, ℕ, List, [], ◌∷◌, map, length}
 use Rattle.std.proofs.Common.{get_or, Option, Some, None, refl, sym, ap, arith}
 use Rattle.std.proofs.lemmas.List.{length-map}
 use Rattle.pawn_token.specs.declared.sign.Sign.{Sign}
-use Rattle.pawn_tree.specs.declared.name.Name.{Name}
 use Rattle.pawn_tree.specs.declared.name.StateName.{StateName}
-use Rattle.pawn_tree.specs.declared.expression.Expr.{Expr}
-use Rattle.pawn_tree.specs.declared.variable.Dim.{Dim}
 use Rattle.pawn_tree.specs.declared.declaration.Param.{Param}
-use Rattle.pawn_tree.specs.declared.declaration.Param.TheVariants as held
 use Rattle.pawn_tree.specs.View.{param_view}
 use Rattle.names_rules.specs.Overloads.{op_of, plain_tag, plain_tags, with_tag}
 use Rattle.pawn_tags.specs.declared.op.Op.{Op}
@@ -81,12 +77,3 @@ many_tags sign right names (x ∷ y ∷ []) h = absurd (omega (arith, h))
 many_tags sign right names (x ∷ y ∷ z ∷ more) h =
     three_tags sign right (plain_tag names (param_view x)) (plain_tag names (param_view y))
     (plain_tag names (param_view z)) (plain_tags names (map param_view more))
-
--- ---- parameters that take no plain value
-
-pub has_dims : (names : List (List ℕ)) (constant reference : Bool) (tags : List Name) (name : Name)
-    (dims : List Dim) (value : Option Expr) → (dims ≡ [] → ⊥)
-    → plain_tag names (param_view (held.Plain constant reference tags name dims value)) ≡ None
-has_dims names constant true tags name dims value h = refl
-has_dims names constant false tags name [] value h = absurd (h refl)
-has_dims names constant false tags name (x ∷ dims) value h = refl

@@ -187,13 +187,13 @@ value_last p p1 p2 a b c h k = k ∙ ap (λ q. beyond q a 0) h ∙ beyond_body p
 
 -- ---- for
 
-module _ (cx : Around) (at : At) (first : tree.First) (old entered p1 p2 p3 p4 : held.Point)
-    (c step n m : ℕ)
+module _ (cx : Around) (at : At) (first : tree.First) {p1 p2 p3 : Point}
+    (old entered p4 : held.Point) (c step n m : ℕ)
     (e : point_view entered ≡ inside (point_view old))
-    (h : point_view p1 ≡ behind_first cx (point_view entered) at first)
-    (k : point_view p2 ≡ beyond (point_view p1) c 0)
-    (l : point_view p3 ≡ beyond (point_view p2) step 0)
-    (b : point_view p4 ≡ beyond (point_view p3) n m) where
+    (h : p1 ≡ behind_first cx (point_view entered) at first)
+    (k : p2 ≡ beyond p1 c 0)
+    (l : p3 ≡ beyond p2 step 0)
+    (b : point_view p4 ≡ beyond p3 n m) where
   scope_is : scope_view p4.scopes ≡ (behind_first cx (point_view entered) at first).scope
   scope_is =
       ap (λ (q : Point). q.scope) b ∙ ap (λ (q : Point). q.scope) l ∙ ap (λ (q : Point). q.scope) k

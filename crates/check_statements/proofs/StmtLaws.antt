@@ -1,5 +1,5 @@
 -- A statement by what its parts told, each at its place.
-use Rattle.std.proofs.Common.{◌≡◌, ℕ, ◌+◌, Bool, true, List, [], ◌∷◌, Option, refl, sym, ap, ◌∙◌}
+use Rattle.std.proofs.Common.{◌≡◌, ℕ, Bool, true, List, [], ◌∷◌, Option, refl, sym, ap, ◌∙◌}
 use Rattle.std.proofs.Common.{subst}
 use Rattle.pawn_tree.specs.declared.name.At.{At}
 use Rattle.pawn_tree.specs.Expressions.{Expr}
@@ -17,10 +17,10 @@ use Rattle.types_rules.specs.Counts.{slots_in_cases}
 use Rattle.types_rules.specs.Points.{Point, beyond, inside}
 use Rattle.types_rules.specs.Stood.{Stood}
 use Rattle.types_rules.specs.Statements as rules
-use Rattle.types_rules.specs.Statements.{Other, CasePart, Cased, if_rule, while_rule, do_while_rule}
-use Rattle.types_rules.specs.Switches.{Ends, ends}
+use Rattle.types_rules.specs.Statements.{Other, CasePart, if_rule, while_rule, do_while_rule}
+use Rattle.types_rules.specs.Switches.{ends}
 use Rattle.check_locals.specs.Tells.{told}
-use Rattle.check_locals.proofs.ToldLaws.{fails_unless, unless_told}
+use Rattle.check_locals.proofs.ToldLaws.{fails_unless}
 use Rattle.check_nodes.specs.ContextView.{around_view}
 use Rattle.check_source.specs.AutomataView.{automata_view}
 use Rattle.check_switches.specs.Switching.{switch_in}
@@ -258,6 +258,24 @@ module _ (it : Setting) (in_loop : Bool) (p : Point) (at : At) (first : tree.Fir
     pub step_told : maybe_part_in it p2 step ≡ told b z
     pub step_place : p3 ≡ beyond p2 (literals_of step) 0
     pub s_told : stmt_in it p3 true s ≡ told d w
+
+  pub for_so : {X Y W : Type 0} {a : X → Judged} {b : Y → Option Typed} {d : W → Stood}
+      {p0 p1 p2 p3 : Point} {x : Option X} {y z : Option Y} {w : Option W}
+      → p0 ≡ inside p → first_part_in it p0 at first ≡ told a x
+      → p1 ≡ behind_first_in it p0 at first → maybe_part_in it p1 c ≡ told b y
+      → p2 ≡ beyond p1 (literals_of c) 0 → maybe_part_in it p2 step ≡ told b z
+      → p3 ≡ beyond p2 (literals_of step) 0 → stmt_in it p3 true s ≡ told d w
+      → ForSo a b d p0 p1 p2 p3 x y z w
+  for_so e f g h i j k l = record {
+    entered = e;
+    first_told = f;
+    first_place = g;
+    c_told = h;
+    c_place = i;
+    step_told = j;
+    step_place = k;
+    s_told = l;
+  }
 
   module _ {X Y W : Type 0} (a : X → Judged) (b : Y → Option Typed) (d : W → Stood)
       (p0 p1 p2 p3 : Point)

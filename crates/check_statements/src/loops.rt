@@ -12,7 +12,7 @@ ghost use Rattle.check_statements.specs.BodyJudging.{for_by_in, maybe_use_in, us
 
 use super::setting::Setting;
 use check_locals::{
-    Maybe, Stood, block_rule, do_while_rule, for_rule, if_rule, use_at, while_rule,
+    Maybe, Outcome, Stood, block_rule, do_while_rule, for_rule, if_rule, use_at, while_rule,
 };
 use check_nodes::Typed;
 use pawn_tree::At;
@@ -21,7 +21,7 @@ use std::alloc::Global;
 
 /// A block by its statements.
 #[tactic(auto, using(check_locals::proofs::ToldLaws::parts))]
-pub fn block_told(alloc: Global, it: Option<Stood>) -> Result<Option<Stood>, CheckFault>
+pub fn block_told(alloc: Global, it: Option<Stood>) -> Outcome
     ensures { Tells stood_view
         (after (told stood_view it) (λ x. Stands (spec.block_rule x))) result }
 {
@@ -45,7 +45,6 @@ pub fn other_of(it: Option<Stood>) -> Option<Option<Stood>>
 /// An `if` by its parts.
 #[tactic(auto, using(pawn_verdict::proofs::VerdictLaws::verdicts))]
 fn if_by(
-    alloc: Global,
     setting: &Setting,
     at: At,
     c: Typed,
@@ -55,19 +54,18 @@ fn if_by(
     ensures { Answers stood_view (after (use_in setting.now at (typed_view c))
         (λ c. Stands (spec.if_rule c (stood_view s) (other_view other)))) result }
 {
-    let c = use_at(alloc, at, c)?;
-    Ok(if_rule(alloc, c, s, other)?)
+    let c = use_at(setting.alloc, at, c)?;
+    Ok(if_rule(setting.alloc, c, s, other)?)
 }
 
 /// An `if` by its parts, which stand or fall.
 pub fn if_told(
-    alloc: Global,
     setting: &Setting,
     at: At,
     c: Option<Typed>,
     s: Option<Stood>,
     other: Option<Option<Stood>>,
-) -> Result<Option<Stood>, CheckFault>
+) -> Outcome
     ensures { Tells stood_view (both (told typed_view c)
         (pair (told stood_view s) (told other_view other))
         (λ x parts. after (use_in setting.now at x)
@@ -82,33 +80,21 @@ pub fn if_told(
     let Some(c) = c else {
         return Ok(None);
     };
-    Ok(Some(if_by(alloc, setting, at, c, s, other)?))
+    Ok(Some(if_by(setting, at, c, s, other)?))
 }
 
 /// A `while` by its parts.
 #[tactic(auto, using(pawn_verdict::proofs::VerdictLaws::verdicts))]
-fn while_by(
-    alloc: Global,
-    setting: &Setting,
-    at: At,
-    c: Typed,
-    s: Stood,
-) -> Result<Stood, CheckFault>
+fn while_by(setting: &Setting, at: At, c: Typed, s: Stood) -> Result<Stood, CheckFault>
     ensures { Answers stood_view (after (use_in setting.now at (typed_view c))
         (λ c. Stands (spec.while_rule c (stood_view s)))) result }
 {
-    let c = use_at(alloc, at, c)?;
-    Ok(while_rule(alloc, c, s)?)
+    let c = use_at(setting.alloc, at, c)?;
+    Ok(while_rule(setting.alloc, c, s)?)
 }
 
 /// A `while` by its parts, which stand or fall.
-pub fn while_told(
-    alloc: Global,
-    setting: &Setting,
-    at: At,
-    c: Option<Typed>,
-    s: Option<Stood>,
-) -> Result<Option<Stood>, CheckFault>
+pub fn while_told(setting: &Setting, at: At, c: Option<Typed>, s: Option<Stood>) -> Outcome
     ensures { Tells stood_view (both (told typed_view c) (told stood_view s)
         (λ x y. after (use_in setting.now at x) (λ c. Stands (spec.while_rule c y)))) result }
 {
@@ -118,33 +104,21 @@ pub fn while_told(
     let Some(c) = c else {
         return Ok(None);
     };
-    Ok(Some(while_by(alloc, setting, at, c, s)?))
+    Ok(Some(while_by(setting, at, c, s)?))
 }
 
 /// A `do` by its parts.
 #[tactic(auto, using(pawn_verdict::proofs::VerdictLaws::verdicts))]
-fn do_while_by(
-    alloc: Global,
-    setting: &Setting,
-    at: At,
-    s: Stood,
-    c: Typed,
-) -> Result<Stood, CheckFault>
+fn do_while_by(setting: &Setting, at: At, s: Stood, c: Typed) -> Result<Stood, CheckFault>
     ensures { Answers stood_view (after (use_in setting.now at (typed_view c))
         (λ c. Stands (spec.do_while_rule (stood_view s) c))) result }
 {
-    let c = use_at(alloc, at, c)?;
-    Ok(do_while_rule(alloc, s, c)?)
+    let c = use_at(setting.alloc, at, c)?;
+    Ok(do_while_rule(setting.alloc, s, c)?)
 }
 
 /// A `do` by its parts, which stand or fall.
-pub fn do_while_told(
-    alloc: Global,
-    setting: &Setting,
-    at: At,
-    s: Option<Stood>,
-    c: Option<Typed>,
-) -> Result<Option<Stood>, CheckFault>
+pub fn do_while_told(setting: &Setting, at: At, s: Option<Stood>, c: Option<Typed>) -> Outcome
     ensures { Tells stood_view (both (told stood_view s) (told typed_view c)
         (λ x y. after (use_in setting.now at y) (λ c. Stands (spec.do_while_rule x c)))) result }
 {
@@ -154,32 +128,26 @@ pub fn do_while_told(
     let Some(c) = c else {
         return Ok(None);
     };
-    Ok(Some(do_while_by(alloc, setting, at, s, c)?))
+    Ok(Some(do_while_by(setting, at, s, c)?))
 }
 
 // ---- for
 
 /// One cell, where there is a part.
 #[tactic(auto, using(pawn_verdict::proofs::VerdictLaws::verdicts))]
-fn maybe_use(
-    alloc: Global,
-    setting: &Setting,
-    at: At,
-    x: Option<Typed>,
-) -> Result<Maybe, CheckFault>
+fn maybe_use(setting: &Setting, at: At, x: Option<Typed>) -> Result<Maybe, CheckFault>
     ensures { Answers maybe_view
         (maybe_use_in setting.now at (option_map typed_view x)) result }
 {
     let Some(x) = x else {
-        return Ok(Maybe::absent(alloc));
+        return Ok(Maybe::absent(setting.alloc));
     };
-    Ok(Maybe::present(use_at(alloc, at, x)?))
+    Ok(Maybe::present(use_at(setting.alloc, at, x)?))
 }
 
 /// A `for` by its parts, whose values are one cell each.
 #[tactic(auto, using(pawn_verdict::proofs::VerdictLaws::verdicts))]
 fn for_by(
-    alloc: Global,
     setting: &Setting,
     at: At,
     first: Stood,
@@ -190,21 +158,20 @@ fn for_by(
     ensures { Answers stood_view (for_by_in setting.now at (stood_view first)
         (option_map typed_view c) (option_map typed_view step) (stood_view s)) result }
 {
-    let c = maybe_use(alloc, setting, at, c)?;
-    let step = maybe_use(alloc, setting, at, step)?;
-    Ok(for_rule(alloc, first, c, step, s)?)
+    let c = maybe_use(setting, at, c)?;
+    let step = maybe_use(setting, at, step)?;
+    Ok(for_rule(setting.alloc, first, c, step, s)?)
 }
 
 /// A `for` by its parts, which stand or fall.
 pub fn for_told(
-    alloc: Global,
     setting: &Setting,
     at: At,
     first: Option<Stood>,
     c: Option<Option<Typed>>,
     step: Option<Option<Typed>>,
     s: Option<Stood>,
-) -> Result<Option<Stood>, CheckFault>
+) -> Outcome
     ensures { Tells stood_view (both (told stood_view first)
         (pair (pair (told (option_map typed_view) c) (told (option_map typed_view) step))
         (told stood_view s))
@@ -222,5 +189,5 @@ pub fn for_told(
     let Some(s) = s else {
         return Ok(None);
     };
-    Ok(Some(for_by(alloc, setting, at, first, c, step, s)?))
+    Ok(Some(for_by(setting, at, first, c, step, s)?))
 }

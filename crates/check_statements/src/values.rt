@@ -22,11 +22,9 @@ use check_locals::{Maybe, Point, Used, told, use_at, zero_used};
 use check_nodes::{Scopes, Typed};
 use pawn_tree::{At, Expr};
 use pawn_verdict::CheckFault;
-use std::alloc::Global;
 
 /// An expression, told.
 fn told_expr(
-    alloc: Global,
     setting: &Setting,
     scopes: &Scopes,
     objects: &mut u32,
@@ -36,7 +34,7 @@ fn told_expr(
         (scope_view scopes.now) objects.old (expr_view e.now)) result }
     ensures behind { IfOk result (λ it. objects.new ≡ objects.old + literals (expr_view e.now)) }
 {
-    told(expr(alloc, setting.cx, scopes, objects, e))
+    told(expr(setting.alloc, setting.cx, scopes, objects, e))
 }
 
 /// A part of a statement; None where it falls.
@@ -44,19 +42,14 @@ fn told_expr(
 /// # Errors
 ///
 /// What breaks a rule in it.
-pub fn part(
-    alloc: Global,
-    setting: &Setting,
-    point: &mut Point,
-    e: &Expr,
-) -> Result<Option<Typed>, CheckFault>
+pub fn part(setting: &Setting, point: &mut Point, e: &Expr) -> Result<Option<Typed>, CheckFault>
     ensures tells { Tells typed_view
         (part_in setting.now (point_view point.old) (expr_view e.now)) result }
     ensures behind { IfOk result (λ it. point_view point.new ≡
         beyond (point_view point.old) (literals (expr_view e.now)) 0) }
 {
     let mut objects = point.objects;
-    let it = told_expr(alloc, setting, &point.scopes, &mut objects, e)?;
+    let it = told_expr(setting, &point.scopes, &mut objects, e)?;
     point.objects = objects;
     Ok(it)
 }
@@ -78,7 +71,6 @@ fn there(it: Option<Typed>) -> Option<Option<Typed>>
 ///
 /// What breaks a rule in it.
 pub fn maybe_part(
-    alloc: Global,
     setting: &Setting,
     point: &mut Point,
     e: &Option<Expr>,
@@ -91,7 +83,7 @@ pub fn maybe_part(
     match e {
         None => Ok(Some(None)),
         Some(e) => {
-            let it = part(alloc, setting, point, e)?;
+            let it = part(setting, point, e)?;
             Ok(there(it))
         }
     }
@@ -104,7 +96,6 @@ pub fn maybe_part(
 /// 54 for an array, and what breaks a rule in it.
 #[tactic(auto, using(check_locals::proofs::ToldLaws::parts))]
 pub fn value(
-    alloc: Global,
     setting: &Setting,
     point: &mut Point,
     at: At,
@@ -115,11 +106,11 @@ pub fn value(
     ensures behind { IfOk result (λ it. point_view point.new ≡
         beyond (point_view point.old) (literals (expr_view e.now)) 0) }
 {
-    let it = part(alloc, setting, point, e)?;
+    let it = part(setting, point, e)?;
     let Some(it) = it else {
         return Ok(None);
     };
-    Ok(Some(use_at(alloc, at, it)?))
+    Ok(Some(use_at(setting.alloc, at, it)?))
 }
 
 /// One cell, or 0 where none stands.
@@ -128,7 +119,6 @@ pub fn value(
 ///
 /// 54 for an array, and what breaks a rule in it.
 pub fn value_or_zero(
-    alloc: Global,
     setting: &Setting,
     point: &mut Point,
     at: At,
@@ -141,8 +131,8 @@ pub fn value_or_zero(
         beyond (point_view point.old) (literals_of (option_map expr_view e.now)) 0) }
 {
     match e {
-        None => Ok(Some(zero_used(alloc, at)?)),
-        Some(e) => value(alloc, setting, point, at, e),
+        None => Ok(Some(zero_used(setting.alloc, at)?)),
+        Some(e) => value(setting, point, at, e),
     }
 }
 
@@ -163,7 +153,6 @@ fn present(it: Option<Used>) -> Option<Maybe>
 ///
 /// 54 for an array, and what breaks a rule in it.
 pub fn perhaps(
-    alloc: Global,
     setting: &Setting,
     point: &mut Point,
     at: At,
@@ -175,9 +164,9 @@ pub fn perhaps(
         beyond (point_view point.old) (literals_of (option_map expr_view e.now)) 0) }
 {
     match e {
-        None => Ok(Some(Maybe::absent(alloc))),
+        None => Ok(Some(Maybe::absent(setting.alloc))),
         Some(e) => {
-            let it = value(alloc, setting, point, at, e)?;
+            let it = value(setting, point, at, e)?;
             Ok(present(it))
         }
     }

@@ -1,4 +1,4 @@
-ghost use Rattle.std.specs.Prelude.{◌≡◌, map, option_map, IfOk};
+ghost use Rattle.std.specs.Prelude.{◌≡◌, None, Some, map, option_map, IfOk};
 ghost use Rattle.pawn_tree.specs.declared.name.At.{At as Token};
 ghost use Rattle.types_rules.specs.Switches as spec;
 ghost use Rattle.pawn_verdict.specs.Answers.{Answers};
@@ -52,12 +52,45 @@ fn two_values(
     Ok(Labels { ranges, warned })
 }
 
+/// A range of one value by its end, which is a constant.
+#[tactic(auto, using(pawn_verdict::proofs::VerdictLaws::verdicts))]
+fn single_label(
+    alloc: Global,
+    cx: &Context,
+    at: At,
+    tag: u32,
+    first: Typed,
+) -> Result<Labels, CheckFault>
+    ensures { Answers labels_view
+        (spec.label_by (around_view cx.now) at tag (typed_view first) None) result }
+{
+    let first = constant_rule(at, first)?;
+    Ok(one_value(alloc, cx, tag, first)?)
+}
+
+/// A range by its two ends, which are constants.
+#[tactic(auto, using(pawn_verdict::proofs::VerdictLaws::verdicts))]
+fn double_label(
+    alloc: Global,
+    cx: &Context,
+    at: At,
+    tag: u32,
+    first: Typed,
+    last: Typed,
+) -> Result<Labels, CheckFault>
+    ensures { Answers labels_view (spec.label_by (around_view cx.now) at tag (typed_view first)
+        (Some (typed_view last))) result }
+{
+    let first = constant_rule(at, first)?;
+    let last = constant_rule(at, last)?;
+    Ok(two_values(alloc, cx, tag, first, last)?)
+}
+
 /// A range by its ends, which are constants.
 ///
 /// # Errors
 ///
 /// 57 for what is no constant.
-#[tactic(auto, using(pawn_verdict::proofs::VerdictLaws::verdicts))]
 fn label_by(
     alloc: Global,
     cx: &Context,
@@ -70,15 +103,8 @@ fn label_by(
         (option_map typed_view last)) result }
 {
     match last {
-        None => {
-            let first = constant_rule(at, first)?;
-            Ok(one_value(alloc, cx, tag, first)?)
-        }
-        Some(last) => {
-            let first = constant_rule(at, first)?;
-            let last = constant_rule(at, last)?;
-            Ok(two_values(alloc, cx, tag, first, last)?)
-        }
+        None => single_label(alloc, cx, at, tag, first),
+        Some(last) => double_label(alloc, cx, at, tag, first, last),
     }
 }
 

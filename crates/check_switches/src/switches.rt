@@ -153,6 +153,14 @@ fn switch_rule(alloc: Global, e: Used, it: Cases, other: Option<Stood>) -> Resul
     Ok(Stood::with(alloc, stmt, parts)?)
 }
 
+/// A `switch` whose parts stand: its value, its cases, and what stands behind `default`.
+#[derive(Drop)]
+struct Switch {
+    x: Typed,
+    parts: CaseParts,
+    other: Option<Stood>,
+}
+
 /// A `switch` by its parts, whose ranges don't touch.
 ///
 /// # Errors
@@ -160,19 +168,13 @@ fn switch_rule(alloc: Global, e: Used, it: Cases, other: Option<Stood>) -> Resul
 /// 54 for an array, 57 for what is no constant, 62 for a value that stands twice and for a range
 /// that ends below its start.
 #[tactic(auto, using(pawn_verdict::proofs::VerdictLaws::verdicts))]
-fn switch_bare(
-    alloc: Global,
-    cx: &Context,
-    at: At,
-    x: Typed,
-    parts: CaseParts,
-    other: Option<Stood>,
-) -> Result<Stood, CheckFault>
-    ensures { Answers stood_view (both (use_in (around_view cx.now) at (typed_view x))
-        (bare_verdict (cased_in (around_view cx.now) at x.tag (parts_view parts)))
+fn switch_bare(alloc: Global, cx: &Context, at: At, s: Switch) -> Result<Stood, CheckFault>
+    ensures { Answers stood_view (both (use_in (around_view cx.now) at (typed_view s.x))
+        (bare_verdict (cased_in (around_view cx.now) at s.x.tag (parts_view s.parts)))
         (λ e it. after (plain_apart at it.ranges)
-        (λ ranges. Stands (spec.switch_rule e it (other_view other))))) result }
+        (λ ranges. Stands (spec.switch_rule e it (other_view s.other))))) result }
 {
+    let Switch { x, parts, other } = s;
     let tag = x.tag;
     let e = use_at(alloc, at, x)?;
     let it = cased(alloc, cx, at, tag, parts.items)?;
@@ -181,18 +183,11 @@ fn switch_bare(
 }
 
 /// The same, by the rule of a `switch`.
-fn switch_by(
-    alloc: Global,
-    cx: &Context,
-    at: At,
-    x: Typed,
-    parts: CaseParts,
-    other: Option<Stood>,
-) -> Result<Stood, CheckFault>
-    ensures { Answers stood_view (switch_in (around_view cx.now) at (typed_view x)
-        (parts_view parts) (other_view other)) result }
+fn switch_by(alloc: Global, cx: &Context, at: At, s: Switch) -> Result<Stood, CheckFault>
+    ensures { Answers stood_view (switch_in (around_view cx.now) at (typed_view s.x)
+        (parts_view s.parts) (other_view s.other)) result }
 {
-    switch_bare(alloc, cx, at, x, parts, other)
+    switch_bare(alloc, cx, at, s)
 }
 
 /// A `switch` by its parts, which stand or fall (Language Guide, "Statements"); None where one
@@ -224,5 +219,5 @@ pub fn switch_told(
     let Some(other) = other else {
         return Ok(None);
     };
-    Ok(Some(switch_by(alloc, cx, at, x, parts, other)?))
+    Ok(Some(switch_by(alloc, cx, at, Switch { x, parts, other })?))
 }

@@ -1,6 +1,6 @@
 pub mod FaultCountLaws
 mod NumberLaws
-mod ReadCallLaws
+pub mod ReadCallLaws
 pub mod ReadLaws
-mod ValidLaws
+pub mod ValidLaws
 mod WordLaws

@@ -1,9 +1,7 @@
--- Calls that only read, one behind another.
-use Rattle.std.proofs.Common.{◌≡◌, ◌≤◌, ◌∙◌, ℕ, List, Option, Some, Err, Ok, Result, inl, inr, refl}
-use Rattle.std.proofs.Common.{sym, ap, subst, length}
+-- What bytes that are read by their name are.
+use Rattle.std.proofs.Common.{◌≡◌, ◌∙◌, ◌≤◌, ◌⊎◌, ℕ, List, Option, Some, Err, Ok, Result}
+use Rattle.std.proofs.Common.{inl, inr, sym, subst, length}
 use Rattle.pawn_outside.specs.Held.{Held, Tells}
-use Rattle.pawn_outside.specs.OnlyRead.{OnlyRead}
-use Rattle.pawn_outside.specs.Rose.{risen}
 use Rattle.host_script.specs.declared.script.Script.{Script}
 use Rattle.amx_ops.specs.declared.amx.Amx.{Amx}
 use Rattle.script_reader.specs.declared.fault.ScriptFault.{ScriptFault}
@@ -11,50 +9,25 @@ use Rattle.script_reader.specs.declared.fault.ScriptFault.TheVariants.{Json, Sha
 use Rattle.script_reader.specs.Reading.{ReadsScript}
 use Rattle.command_parts.specs.declared.stop.Stop.{Stop}
 use Rattle.command_parts.specs.declared.stop.Stop.TheVariants.{FileFault, NoMemory}
-use Rattle.command_parts.specs.declared.read.TheConstants.{FILE_LIMIT}
-use Rattle.command_parts.specs.Unread.{Unread, no_memory}
-use Rattle.command_parts.specs.ValidFile.{Broken, no_file, invalid_at}
-use Rattle.command_parts.specs.declared.program.Digested.{Digested}
+use Rattle.command_parts.specs.Unread.{IsRead, Unread, no_memory}
+use Rattle.command_parts.specs.ScriptFile.{IsScriptRead, IsScriptFileRead, IsScriptOf, IsNoScript}
+use Rattle.command_parts.specs.ScriptFile.{NoScript, stop_at}
 use Rattle.command_parts.specs.declared.script.TheConstants.{SCRIPT_LIMIT}
-use Rattle.command_parts.specs.ScriptFile.{IsScriptRead, IsScriptNamed, IsScriptOf, IsNoScript}
-use Rattle.command_parts.specs.ScriptFile.{stop_at}
-use Rattle.command_parts.specs.Program.{IsDigested, IsFileNamed, IsFileOf, IsFileRead, NoScript}
-use Rattle.command_parts.specs.Program.{NoProgram, no_script}
+use Rattle.command_parts.specs.Program.{IsFileNamed, NoProgram, no_script}
 
-module _ {F : Type 0} {held : F → Option Held} {faults : F → ℕ} {never_fails : F → Type 0}
-    {old new : F} where
-  -- another answer, which is a fault where this one is and nowhere else
-  pub only_as : {First Fails : Type 0} → (Fails → First) → (First → Fails)
-      → OnlyRead held faults never_fails old new First
-      → OnlyRead held faults never_fails old new Fails
-  only_as f back it = record {
-    same = it.same;
-    steady = λ none. it.steady (λ first. none (back first));
-    cause = λ fails. it.cause (f fails);
-    unfailing = λ never. ((it.unfailing never).0, λ fails. (it.unfailing never).1 (f fails));
-  }
+module _ {held : Option Held} {name bytes lent : List ℕ} {limit : ℕ}
+    (tells : Tells held name (Some bytes) × (length bytes ≤ limit)) (same : lent ≡ bytes) where
+  -- they keep this
+  pub read_is : (P : List ℕ → Type 0) → P lent → IsRead held name limit P
+  read_is P it =
+      record { bytes = bytes; tells = tells.0; within = tells.1; is = subst P same it }
 
-  -- another answer, which is no fault either
-  pub only_other : {T E Fails : Type 0} {t : T} {fault : E} → (Fails → ⊥)
-      → OnlyRead held faults never_fails old new (Ok t ≡ Err fault)
-      → OnlyRead held faults never_fails old new Fails
-  only_other never it = only_as (λ fails. absurd (never fails)) (λ e. absurd (cc e)) it
-
-  no_fault : {T E : Type 0} {t : T} {fault : E}
-      → OnlyRead held faults never_fails old new (Ok t ≡ Err fault) → faults new ≡ faults old
-  no_fault it = it.steady (λ e. absurd (cc e))
-
-  -- a call behind another that was good
-  pub only_then : {last : F} {T E Fails : Type 0} {t : T} {fault : E}
-      → OnlyRead held faults never_fails old new (Ok t ≡ Err fault)
-      → OnlyRead held faults never_fails new last Fails
-      → OnlyRead held faults never_fails old last Fails
-  only_then first second = record {
-    same = second.same ∙ first.same;
-    steady = λ none. second.steady none ∙ no_fault first;
-    cause = λ fails. second.cause fails ∙ ap risen (no_fault first);
-    unfailing = λ never. second.unfailing (first.unfailing never).0;
-  }
+  -- or stop a command
+  pub stops_so : (P : List ℕ → Type 0) (stop : Stop) → (stop ≡ NoMemory) ⊎ P lent
+      → Unread held name limit stop ⊎ IsRead held name limit P
+  stops_so P stop (inl memory) =
+      let Q : Stop → Type 0 = Unread held name limit in inl (subst Q (sym memory) no_memory)
+  stops_so P stop (inr it) = inr (read_is P it)
 
 -- ---- scripts
 
@@ -69,17 +42,12 @@ fault_found bytes (Range field) stop h e =
     inr (record { fault = Range field; has = h; refused = λ f. absurd (cc f); stop_is = e })
 fault_found bytes Memory stop h e = inl e
 
-pub script_named : (held : Option Held) (name bytes lent : List ℕ) (result : Result Script Stop)
+pub script_named : (held : Option Held) (name : List ℕ) {bytes lent : List ℕ}
+    (result : Result Script Stop)
     → Tells held name (Some bytes) × (length bytes ≤ SCRIPT_LIMIT) → lent ≡ bytes
-    → IsScriptRead lent result → IsScriptNamed held name result
-script_named held name bytes lent (Ok script) tells e it =
-    let P : List ℕ → Type 0 = λ b. IsScriptOf b script in
-    record { bytes = bytes; tells = tells.0; within = tells.1; is = subst P e it }
-script_named held name bytes lent (Err stop) tells e (inl memory) =
-    let P : Stop → Type 0 = Unread held name SCRIPT_LIMIT in inl (subst P (sym memory) no_memory)
-script_named held name bytes lent (Err stop) tells e (inr none) =
-    let P : List ℕ → Type 0 = λ b. IsNoScript b stop in
-    inr (record { bytes = bytes; tells = tells.0; within = tells.1; is = subst P e none })
+    → IsScriptRead lent result → IsScriptFileRead held name result
+script_named held name (Ok script) tells e it = read_is tells e (λ b. IsScriptOf b script) it
+script_named held name (Err stop) tells e it = stops_so tells e (λ b. IsNoScript b stop) stop it
 
 stop_no_fault : (fault : ScriptFault) → stop_at fault ≡ FileFault → ⊥
 stop_no_fault Json e = absurd (cc e)
@@ -97,32 +65,8 @@ script_no_fault bytes (Err stop) (inr none) e =
 -- behind a good file
 pub script_stops : (held mid : Option Held) (amx script : List ℕ) (stop : Stop) (file : Amx)
     (digest : List ℕ) → mid ≡ held
-    → IsFileNamed held amx file digest → IsScriptNamed mid script (Err stop)
+    → IsFileNamed held amx file digest → NoScript mid script stop
     → NoProgram held amx script stop
 script_stops held mid amx script stop file digest same good none =
     let P : Option Held → Type 0 = λ h. NoScript h script stop in
     no_script file digest good (subst P same none)
-
--- ---- files
-
-pub file_named : (held : Option Held) (name bytes lent : List ℕ) (result : Result Digested Stop)
-    → Tells held name (Some bytes) × (length bytes ≤ FILE_LIMIT) → lent ≡ bytes
-    → IsFileOf lent result → IsFileRead held name result
-file_named held name bytes lent (Ok it) tells e valid =
-    let P : List ℕ → Type 0 = λ b. IsDigested b it.file it.digest in
-    record { bytes = bytes; tells = tells.0; within = tells.1; is = subst P e valid }
-file_named held name bytes lent (Err stop) tells e (inl memory) =
-    let P : Stop → Type 0 = Unread held name FILE_LIMIT in inl (subst P (sym memory) no_memory)
-file_named held name bytes lent (Err stop) tells e (inr broken) =
-    let P : List ℕ → Type 0 = λ b. Broken b stop in
-    inr (record { bytes = bytes; tells = tells.0; within = tells.1; is = subst P e broken })
-
-broken_no_fault : {bytes : List ℕ} {stop : Stop} → Broken bytes stop → stop ≡ FileFault → ⊥
-broken_no_fault (no_file kind it) e = absurd (cc e)
-broken_no_fault (invalid_at kind at it) e = absurd (cc e)
-
-pub file_no_fault : (bytes : List ℕ) (result : Result Digested Stop) → IsFileOf bytes result
-    → result ≡ Err FileFault → ⊥
-file_no_fault bytes (Ok it) valid e = absurd (cc e)
-file_no_fault bytes (Err stop) (inl memory) e = absurd (cc (memory, e))
-file_no_fault bytes (Err stop) (inr broken) e = broken_no_fault broken (cc e)

@@ -13,31 +13,33 @@ use Rattle.amx_verify.specs.Verdict as verdict
 use Rattle.command_parts.specs.declared.stop.Stop.{Stop}
 use Rattle.command_parts.specs.declared.stop.Stop.TheVariants.{NoFile, TooLarge}
 use Rattle.command_parts.specs.declared.stop.Stop.TheVariants.{FileFault, NoMemory}
-use Rattle.std.proofs.Common.{◌⊎◌, ◌≤◌, Ok, Err, Result}
+use Rattle.std.proofs.Common.{◌⊎◌, ◌≤◌, ◌≢◌, Ok, Err, Result}
 use Rattle.command_parts.specs.declared.read.TheConstants.{FILE_LIMIT}
 use Rattle.pawn_outside.specs.Held.{Tells as HeldTells, HoldsThat}
 use Rattle.command_parts.specs.Unread.{Unread, missing, too_large, no_memory, IsStopOf}
-use Rattle.command_parts.specs.ValidFile.{IsValidFile, IsFileOf, IsFileNamed, Broken, no_file}
+use Rattle.command_parts.specs.ValidFile.{IsValidFile, IsValidFileOf, IsValidRead, Broken, no_file}
 use Rattle.command_parts.specs.ValidFile.{invalid_at, unread_by, unread}
 use Rattle.command_parts.specs.ValidFile.{invalid_by, invalid, place_of}
+use Rattle.command_parts.proofs.ReadLaws.{read_is, stops_so}
 
 unread_is : (bytes : List ℕ) (cause : FormatFault) (number : Option ℕ) → IsFirst bytes cause
     → format.number_of cause ≡ number
-    → IsFileOf bytes (Err (unread_by number))
+    → IsValidFileOf bytes (Err (unread_by number))
 unread_is bytes cause (Some kind) first e =
     inr (no_file kind (record { cause = cause; first = first; number = e }))
 unread_is bytes cause None first e = inl refl
 
 pub no_file_is : (bytes : List ℕ) (cause : FormatFault) (stop : Stop) → IsFirst bytes cause
     → stop ≡ unread cause
-    → IsFileOf bytes (Err stop)
+    → IsValidFileOf bytes (Err stop)
 no_file_is bytes cause stop first e =
     let P : Stop → Type 0 = λ s. (s ≡ NoMemory) ⊎ Broken bytes s in
     subst P (sym e) (unread_is bytes cause (format.number_of cause) first refl)
 
 invalid_is : (bytes : List ℕ) (amx : Amx) (cause : VerifyFault) (number : Option ℕ)
     → IsFile bytes amx → Tells cause (fault_in amx)
-    → verdict.number_of cause ≡ number → IsFileOf bytes (Err (invalid_by number (place_of cause)))
+    → verdict.number_of cause ≡ number
+    → IsValidFileOf bytes (Err (invalid_by number (place_of cause)))
 invalid_is bytes amx cause (Some kind) file first e =
     inr (invalid_at kind (place_of cause)
     (record { amx = amx; file = file; cause = cause; first = first; number = e; place = refl }))
@@ -45,7 +47,7 @@ invalid_is bytes amx cause None file first e = inl refl
 
 pub not_valid_is : (bytes : List ℕ) (amx : Amx) (cause : VerifyFault) (stop : Stop)
     → IsFile bytes amx → Tells cause (fault_in amx)
-    → stop ≡ invalid cause → IsFileOf bytes (Err stop)
+    → stop ≡ invalid cause → IsValidFileOf bytes (Err stop)
 not_valid_is bytes amx cause stop file first e =
     let P : Stop → Type 0 = λ s. (s ≡ NoMemory) ⊎ Broken bytes s in
     subst P (sym e) (invalid_is bytes amx cause (verdict.number_of cause) file first refl)
@@ -74,24 +76,24 @@ valid_is bytes amx verified file valid e =
     let P : Amx → Type 0 = IsValidFile bytes in
     subst P (sym e) (record { file = file; valid = valid })
 
-pub named_by : (held : Option Held) (name bytes lent : List ℕ) (result : Result Amx Stop)
+pub named_by : (held : Option Held) (name : List ℕ) {bytes lent : List ℕ}
+    (result : Result Amx Stop)
     → HeldTells held name (Some bytes) × (length bytes ≤ FILE_LIMIT) → lent ≡ bytes
-    → IsFileOf lent result → IsFileNamed held name result
-named_by held name bytes lent (Ok amx) tells e valid =
-    let P : List ℕ → Type 0 = λ b. IsValidFile b amx in
-    record { bytes = bytes; tells = tells.0; within = tells.1; is = subst P e valid }
-named_by held name bytes lent (Err stop) tells e (inl memory) =
-    let P : Stop → Type 0 = Unread held name FILE_LIMIT in inl (subst P (sym memory) no_memory)
-named_by held name bytes lent (Err stop) tells e (inr broken) =
-    let P : List ℕ → Type 0 = λ b. Broken b stop in
-    inr (record { bytes = bytes; tells = tells.0; within = tells.1; is = subst P e broken })
+    → IsValidFileOf lent result → IsValidRead held name result
+named_by held name (Ok amx) tells e it = read_is tells e (λ b. IsValidFile b amx) it
+named_by held name (Err stop) tells e it = stops_so tells e (λ b. Broken b stop) stop it
 
-broken_no_fault : {bytes : List ℕ} {stop : Stop} → Broken bytes stop → stop ≡ FileFault → ⊥
-broken_no_fault (no_file kind it) e = absurd (cc e)
-broken_no_fault (invalid_at kind at it) e = absurd (cc e)
+broken_no_fault : {bytes : List ℕ} {stop : Stop} → Broken bytes stop → stop ≢ FileFault
+broken_no_fault (no_file kind it) = λ f. absurd (cc f)
+broken_no_fault (invalid_at kind at it) = λ f. absurd (cc f)
 
-pub file_no_fault : (bytes : List ℕ) (result : Result Amx Stop) → IsFileOf bytes result
+-- no stop at bytes is a fault of the files
+pub bytes_no_fault : {bytes : List ℕ} {stop : Stop} → (stop ≡ NoMemory) ⊎ Broken bytes stop
+    → stop ≢ FileFault
+bytes_no_fault (inl memory) = λ f. absurd (cc (memory, f))
+bytes_no_fault (inr broken) = broken_no_fault broken
+
+pub file_no_fault : (bytes : List ℕ) (result : Result Amx Stop) → IsValidFileOf bytes result
     → result ≡ Err FileFault → ⊥
-file_no_fault bytes (Ok amx) valid e = absurd (cc e)
-file_no_fault bytes (Err stop) (inl memory) e = absurd (cc (memory, e))
-file_no_fault bytes (Err stop) (inr broken) e = broken_no_fault broken (cc e)
+file_no_fault bytes (Ok amx) it e = absurd (cc e)
+file_no_fault bytes (Err stop) it e = bytes_no_fault it (cc e)

@@ -57,7 +57,9 @@ compact_of (word ∷ next ∷ words) = None
 -- `compile`: a source, the file of its program, and whether its cells are compact
 abbrev pub compile_of : List (List ℕ) → Option Command
 compile_of words =
-    named (λ src. named (λ amx more. option_map (Compile src amx) (compact_of more))) words
+    named (λ src. named (λ amx more. option_map
+    (λ compact. Compile (record { src = src; amx = amx; compact = compact }))
+    (compact_of more))) words
 
 -- `verify`: the file of a program
 abbrev pub verify_of : List (List ℕ) → Option Command
@@ -71,7 +73,13 @@ list_of words = named (λ amx. alone (Lists amx)) words
 abbrev pub run_with : List ℕ → List ℕ → List ℕ → Options → Option Command
 run_with amx script image o =
     if is_some o.sleeps then None
-    else Some (Run amx script image (unwrap_or o.steps DEFAULT_STEPS) (unwrap_or o.entry MAIN))
+    else Some (Run (record {
+      amx = amx;
+      script = script;
+      image = image;
+      steps = unwrap_or o.steps DEFAULT_STEPS;
+      entry = unwrap_or o.entry MAIN;
+    }))
 
 -- `run`: a program, its script, and the image that it may fall asleep to, then options
 abbrev pub run_of : List (List ℕ) → Option Command
@@ -83,7 +91,12 @@ abbrev pub resume_with : List ℕ → List ℕ → List ℕ → Options → Opti
 resume_with amx script image o =
     if is_some o.sleeps then None
     else if is_some o.entry then None
-    else Some (Resume amx script image (unwrap_or o.steps DEFAULT_STEPS))
+    else Some (Resume (record {
+      amx = amx;
+      script = script;
+      image = image;
+      steps = unwrap_or o.steps DEFAULT_STEPS;
+    }))
 
 -- `resume`: a program, its script, and the image that it goes on from, then options
 abbrev pub resume_of : List (List ℕ) → Option Command
@@ -95,8 +108,13 @@ resume_of words =
 abbrev pub go_with : List ℕ → List ℕ → Option (List ℕ) → Options → Option Command
 go_with src amx script o =
     if is_some o.entry then None
-    else Some (Go src amx script (unwrap_or o.steps DEFAULT_STEPS)
-    (unwrap_or o.sleeps DEFAULT_SLEEPS))
+    else Some (Go (record {
+      src = src;
+      amx = amx;
+      script = script;
+      steps = unwrap_or o.steps DEFAULT_STEPS;
+      sleeps = unwrap_or o.sleeps DEFAULT_SLEEPS;
+    }))
 
 -- `go`: a source, the file of its program, and perhaps a script, then options
 abbrev pub go_of : List (List ℕ) → Option Command

@@ -1,5 +1,6 @@
 pub mod Calls
 pub mod Command
+pub mod Front
 pub mod Options
 pub mod Program
 pub mod Put

@@ -53,18 +53,22 @@ pub data Broken (bytes : List ℕ) : Stop → Type 0 where
   no_file : (kind : ℕ) → IsNoFile bytes kind → Broken bytes (Invalid kind)
   invalid_at : (kind : ℕ) (at : ℤ) → IsInvalid bytes kind at → Broken bytes (InvalidAt kind at)
 
+-- the file isn't read, or isn't valid
+abbrev pub NoFile : Option Held → List ℕ → Stop → Type 0
+NoFile held name stop =
+    Unread held name FILE_LIMIT stop ⊎ IsRead held name FILE_LIMIT (λ bytes. Broken bytes stop)
+
 -- ---- what the calls answer
 
 -- bytes read as a file: the file that they are, else why they are none
-abbrev pub IsFileOf : List ℕ → Result Amx Stop → Type 0
-IsFileOf bytes (Ok amx) = IsValidFile bytes amx
-IsFileOf bytes (Err stop) = (stop ≡ NoMemory) ⊎ Broken bytes stop
+abbrev pub IsValidFileOf : List ℕ → Result Amx Stop → Type 0
+IsValidFileOf bytes (Ok amx) = IsValidFile bytes amx
+IsValidFileOf bytes (Err stop) = (stop ≡ NoMemory) ⊎ Broken bytes stop
 
 -- the same of the bytes that a name is read to
-abbrev pub IsFileNamed : Option Held → List ℕ → Result Amx Stop → Type 0
-IsFileNamed held name (Ok amx) = IsRead held name FILE_LIMIT (λ bytes. IsValidFile bytes amx)
-IsFileNamed held name (Err stop) =
-    Unread held name FILE_LIMIT stop ⊎ IsRead held name FILE_LIMIT (λ bytes. Broken bytes stop)
+abbrev pub IsValidRead : Option Held → List ℕ → Result Amx Stop → Type 0
+IsValidRead held name (Ok amx) = IsRead held name FILE_LIMIT (λ bytes. IsValidFile bytes amx)
+IsValidRead held name (Err stop) = NoFile held name stop
 
 -- the stop of a refusal with this number, or want of memory
 abbrev pub unread_by : Option ℕ → Stop

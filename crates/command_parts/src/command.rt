@@ -1,38 +1,61 @@
 use super::name::Name;
 use pawn_base::Bytes;
 
+/// What `compile` is asked to do.
+#[derive(Debug, Drop)]
+pub struct CompileWords {
+    /// The names of the source and of the file that is put.
+    pub src: Name,
+    pub amx: Name,
+    /// Whether the cells of the file are compact.
+    pub compact: bool,
+}
+
+/// What `run` is asked to do.
+#[derive(Debug, Drop)]
+pub struct RunWords {
+    /// The names of the AMX file, of the script, and of the image that may be put.
+    pub amx: Name,
+    pub script: Name,
+    pub image: Name,
+    /// The most steps.
+    pub steps: u64,
+    /// `main`, or the name of a public.
+    pub entry: Bytes,
+}
+
+/// What `resume` is asked to do.
+#[derive(Debug, Drop)]
+pub struct ResumeWords {
+    /// The names of the AMX file, of the script, and of the image that is read and may be put.
+    pub amx: Name,
+    pub script: Name,
+    pub image: Name,
+    /// The most steps.
+    pub steps: u64,
+}
+
+/// What `go` is asked to do.
+#[derive(Debug, Drop)]
+pub struct GoWords {
+    /// The names of the source and of the file that is put.
+    pub src: Name,
+    pub amx: Name,
+    /// The name of the script, if there is one.
+    pub script: Option<Name>,
+    /// The most steps of a segment.
+    pub steps: u64,
+    /// How many sleeps it goes on behind.
+    pub sleeps: u32,
+}
+
 /// What the program is asked to do. An option that isn't given has its default.
 #[derive(Debug, Drop)]
 pub enum Command {
-    Compile {
-        src: Name,
-        amx: Name,
-        compact: bool,
-    },
-    Verify {
-        amx: Name,
-    },
-    List {
-        amx: Name,
-    },
-    Run {
-        amx: Name,
-        script: Name,
-        image: Name,
-        steps: u64,
-        entry: Bytes,
-    },
-    Resume {
-        amx: Name,
-        script: Name,
-        image: Name,
-        steps: u64,
-    },
-    Go {
-        src: Name,
-        amx: Name,
-        script: Option<Name>,
-        steps: u64,
-        sleeps: u32,
-    },
+    Compile(CompileWords),
+    Verify { amx: Name },
+    List { amx: Name },
+    Run(RunWords),
+    Resume(ResumeWords),
+    Go(GoWords),
 }

@@ -5,10 +5,11 @@ ghost use Rattle.command_parts.specs.Reading.{Reads, IsBad};
 ghost use Rattle.command_parts.specs.Command.{command_of, command_by, compile_of, compact_of};
 ghost use Rattle.command_parts.specs.Command.{compact_word, verify_of, list_of, run_of, go_of};
 ghost use Rattle.command_parts.specs.Command.{resume_of};
-ghost use Rattle.command_parts.specs.Command.{alone, run_with, resume_with, go_with};
+ghost use Rattle.command_parts.specs.Command.{run_with, resume_with, go_with};
 ghost use Rattle.command_parts.specs.Command.{is_plain, first_plain, optional_plain};
+ghost use Rattle.command_parts.specs.Front.{AreImageWords, AreTwoNames, IsOnlyName, NoTwoNames};
 
-use super::command::Command;
+use super::command::{Command, CompileWords, GoWords, ResumeWords, RunWords};
 use super::name::Name;
 use super::options::{DEFAULT_SLEEPS, DEFAULT_STEPS, MAIN, Options, read_options};
 use pawn_base::{Bytes, Memory};
@@ -33,6 +34,15 @@ impl From<Memory> for WordsFault {
     fn from(_: Memory) -> WordsFault {
         WordsFault::Memory
     }
+}
+
+/// The names of a file, of its script and of its image, and options.
+#[derive(Drop)]
+struct ImageWords {
+    amx: Name,
+    script: Name,
+    image: Name,
+    options: Options,
 }
 
 /// Reads the words behind the program's name: a command's word, its plain words in order, then
@@ -70,42 +80,35 @@ fn read_command(alloc: Global, word: &str, rest: &[String]) -> Result<Command, W
 fn read_verify(alloc: Global, words: &[String]) -> Result<Command, WordsFault>
     ensures { Reads (verify_of (map string_bytes words.now)) result }
 {
-    let (amx, rest) = read_name(alloc, words)?;
-    alone(Command::Verify { amx }, rest)
+    let amx = read_only_name(alloc, words)?;
+    Ok(Command::Verify { amx })
 }
 
 fn read_list(alloc: Global, words: &[String]) -> Result<Command, WordsFault>
     ensures { Reads (list_of (map string_bytes words.now)) result }
 {
-    let (amx, rest) = read_name(alloc, words)?;
-    alone(Command::List { amx }, rest)
+    let amx = read_only_name(alloc, words)?;
+    Ok(Command::List { amx })
 }
 
 fn read_run(alloc: Global, words: &[String]) -> Result<Command, WordsFault>
     ensures { Reads (run_of (map string_bytes words.now)) result }
 {
-    let (amx, words) = read_name(alloc, words)?;
-    let (script, words) = read_name(alloc, words)?;
-    let (image, words) = read_name(alloc, words)?;
-    let options = read_options(alloc, words)?;
-    run_with(alloc, amx, script, image, options)
+    let words = read_image_words(alloc, words)?;
+    run_with(alloc, words)
 }
 
 fn read_resume(alloc: Global, words: &[String]) -> Result<Command, WordsFault>
     ensures { Reads (resume_of (map string_bytes words.now)) result }
 {
-    let (amx, words) = read_name(alloc, words)?;
-    let (script, words) = read_name(alloc, words)?;
-    let (image, words) = read_name(alloc, words)?;
-    let options = read_options(alloc, words)?;
-    resume_with(amx, script, image, options)
+    let words = read_image_words(alloc, words)?;
+    resume_with(words)
 }
 
 fn read_go(alloc: Global, words: &[String]) -> Result<Command, WordsFault>
     ensures { Reads (go_of (map string_bytes words.now)) result }
 {
-    let (src, words) = read_name(alloc, words)?;
-    let (amx, words) = read_name(alloc, words)?;
+    let (src, amx, words) = read_two_names(alloc, words)?;
     let (script, words) = read_optional_name(alloc, words)?;
     let options = read_options(alloc, words)?;
     go_with(src, amx, script, options)
@@ -114,12 +117,26 @@ fn read_go(alloc: Global, words: &[String]) -> Result<Command, WordsFault>
 fn read_compile(alloc: Global, words: &[String]) -> Result<Command, WordsFault>
     ensures { Reads (compile_of (map string_bytes words.now)) result }
 {
-    let (src, words) = read_name(alloc, words)?;
-    let (amx, words) = read_name(alloc, words)?;
+    let (src, amx, words) = read_two_names(alloc, words)?;
     match read_compact(words) {
-        Some(compact) => Ok(Command::Compile { src, amx, compact }),
+        Some(compact) => Ok(Command::Compile(CompileWords { src, amx, compact })),
         None => Err(WordsFault::Bad),
     }
+}
+
+/// Reads the names of a file, of its script and of its image, then options.
+fn read_image_words(alloc: Global, words: &[String]) -> Result<ImageWords, WordsFault>
+    ensures { AreImageWords (map string_bytes words.now) result }
+{
+    let (amx, script, words) = read_two_names(alloc, words)?;
+    let (image, words) = read_name(alloc, words)?;
+    let options = read_options(alloc, words)?;
+    Ok(ImageWords {
+        amx,
+        script,
+        image,
+        options,
+    })
 }
 
 /// Whether compact cells are asked for, by the words behind the plain ones.
@@ -146,27 +163,16 @@ fn compact_word(word: &str) -> Option<bool>
     }
 }
 
-/// A command with no words behind it.
-fn alone(command: Command, words: &[String]) -> Result<Command, WordsFault>
-    ensures { Reads (alone command (map string_bytes words.now)) result }
-{
-    if words.is_empty() {
-        Ok(command)
-    } else {
-        Err(WordsFault::Bad)
-    }
-}
-
 /// `run` with its options.
-fn run_with(
-    alloc: Global,
-    amx: Name,
-    script: Name,
-    image: Name,
-    options: Options,
-) -> Result<Command, WordsFault>
-    ensures { Reads (run_with amx script image options) result }
+fn run_with(alloc: Global, words: ImageWords) -> Result<Command, WordsFault>
+    ensures { Reads (run_with words.amx words.script words.image words.options) result }
 {
+    let ImageWords {
+        amx,
+        script,
+        image,
+        options,
+    } = words;
     let Options {
         steps,
         sleeps,
@@ -176,36 +182,37 @@ fn run_with(
         return Err(WordsFault::Bad);
     }
     let entry = entry_or_main(alloc, entry)?;
-    Ok(Command::Run {
+    Ok(Command::Run(RunWords {
         amx,
         script,
         image,
         steps: steps.unwrap_or(DEFAULT_STEPS),
         entry,
-    })
+    }))
 }
 
 /// `resume` with its options.
-fn resume_with(
-    amx: Name,
-    script: Name,
-    image: Name,
-    options: Options,
-) -> Result<Command, WordsFault>
-    ensures { Reads (resume_with amx script image options) result }
+fn resume_with(words: ImageWords) -> Result<Command, WordsFault>
+    ensures { Reads (resume_with words.amx words.script words.image words.options) result }
 {
+    let ImageWords {
+        amx,
+        script,
+        image,
+        options,
+    } = words;
     if options.sleeps.is_some() {
         return Err(WordsFault::Bad);
     }
     if options.entry.is_some() {
         return Err(WordsFault::Bad);
     }
-    Ok(Command::Resume {
+    Ok(Command::Resume(ResumeWords {
         amx,
         script,
         image,
         steps: options.steps.unwrap_or(DEFAULT_STEPS),
-    })
+    }))
 }
 
 /// `go` with its options.
@@ -220,13 +227,13 @@ fn go_with(
     if options.entry.is_some() {
         return Err(WordsFault::Bad);
     }
-    Ok(Command::Go {
+    Ok(Command::Go(GoWords {
         src,
         amx,
         script,
         steps: options.steps.unwrap_or(DEFAULT_STEPS),
         sleeps: options.sleeps.unwrap_or(DEFAULT_SLEEPS),
-    })
+    }))
 }
 
 /// The entry that is given, or else main.
@@ -238,6 +245,29 @@ fn entry_or_main(alloc: Global, entry: Option<Bytes>) -> Result<Bytes, WordsFaul
         Some(name) => Ok(name),
         None => Ok(Bytes::from_slice(alloc, &MAIN)?),
     }
+}
+
+/// Reads a plain word with nothing behind it.
+fn read_only_name(alloc: Global, words: &[String]) -> Result<Name, WordsFault>
+    ensures { IsOnlyName (map string_bytes words.now) result }
+{
+    let (name, rest) = read_name(alloc, words)?;
+    if rest.is_empty() {
+        Ok(name)
+    } else {
+        Err(WordsFault::Bad)
+    }
+}
+
+/// Reads two plain words, and gives the words behind them.
+fn read_two_names(alloc: Global, words: &[String]) -> Result<(Name, Name, &[String]), WordsFault>
+    ensures plain { IfOk result (λ it. AreTwoNames (map string_bytes words.now) it.0 it.1
+        (map string_bytes it.2.now)) }
+    ensures bad { IfErr result (NoTwoNames (map string_bytes words.now)) }
+{
+    let (first, words) = read_name(alloc, words)?;
+    let (second, words) = read_name(alloc, words)?;
+    Ok((first, second, words))
 }
 
 /// Reads a plain word, and gives the words behind it.

@@ -5,6 +5,7 @@
 mod command;
 mod command_words;
 mod name;
+mod named_stop;
 mod options;
 mod program;
 mod putting;
@@ -15,10 +16,11 @@ mod stop;
 mod telling;
 mod valid;
 
-pub use command::Command;
+pub use command::{Command, CompileWords, GoWords, ResumeWords, RunWords};
 pub use command_words::{WordsFault, read_words};
 pub use name::Name;
-pub use options::{DEFAULT_SLEEPS, DEFAULT_STEPS, MAIN, Options};
+pub use named_stop::{no_entry, no_file, unregistered};
+pub use options::{DEFAULT_SLEEPS, DEFAULT_STEPS, MAIN};
 pub use program::{Program, read_program};
 pub use putting::put;
 pub use read::{FILE_LIMIT, SOURCE_LIMIT, read_bytes};

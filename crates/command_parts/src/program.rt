@@ -3,7 +3,7 @@ ghost use Rattle.host_script.specs.Ranges.{IsScript};
 ghost use Rattle.amx_ops.specs.declared.amx.Amx.{Amx};
 ghost use Rattle.amx_format.specs.File.{IsFile};
 ghost use Rattle.pawn_outside.specs.OnlyRead.{OnlyRead};
-ghost use Rattle.command_parts.specs.Program.{digest_of, IsFileOf, IsFileRead, IsProgramRead};
+ghost use Rattle.command_parts.specs.Program.{digest_of, IsDigestedOf, IsProgramRead};
 
 use super::read::{FILE_LIMIT, read_bytes};
 use super::script::read_script_file;
@@ -44,7 +44,8 @@ pub fn read_program<F: Files>(
     ensures answer { IsProgramRead (F.held files.old) amx.now script.now result }
     ensures ranges { IfOk result (λ it. IsScript it.script) }
 {
-    let digested = read_file(alloc, amx, files)?;
+    let bytes = read_bytes(alloc, amx, FILE_LIMIT, files)?;
+    let digested = digested_file(alloc, bytes.as_slice())?;
     let script = read_script_file(alloc, script, files)?;
     let Digested { file, digest } = digested;
     Ok(Program {
@@ -54,19 +55,9 @@ pub fn read_program<F: Files>(
     })
 }
 
-/// Reads a file with its digest.
-fn read_file<F: Files>(alloc: Global, name: &str, files: &mut F) -> Result<Digested, Stop>
-    ensures calls { OnlyRead F.held F.faults F.never_fails files.old files.new
-        (result ≡ Err Stop.FileFault) }
-    ensures answer { IsFileRead (F.held files.old) name.now result }
-{
-    let bytes = read_bytes(alloc, name, FILE_LIMIT, files)?;
-    file_of(alloc, bytes.as_slice())
-}
-
 /// The valid file that bytes are, with its digest.
-fn file_of(alloc: Global, bytes: &[u8]) -> Result<Digested, Stop>
-    ensures { IsFileOf bytes.now result }
+fn digested_file(alloc: Global, bytes: &[u8]) -> Result<Digested, Stop>
+    ensures { IsDigestedOf bytes.now result }
 {
     match valid_file(alloc, bytes) {
         Ok(file) => Ok(Digested {

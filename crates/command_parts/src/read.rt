@@ -1,9 +1,10 @@
 ghost use Rattle.std.specs.Prelude.{◌≡◌, Err};
 ghost use Rattle.pawn_outside.specs.OnlyRead.{OnlyRead};
-ghost use Rattle.command_parts.specs.Unread.{AreBytes, IsStopOf};
+ghost use Rattle.command_parts.specs.Unread.{AreBytes};
 
+use super::named_stop::{no_file, too_large};
 use super::stop::Stop;
-use pawn_base::{Bytes, Memory};
+use pawn_base::Bytes;
 use pawn_outside::{Files, ReadAnswer};
 use std::alloc::Global;
 
@@ -30,25 +31,5 @@ pub fn read_bytes<F: Files>(
         ReadAnswer::TooLarge => Err(too_large(alloc, name)),
         ReadAnswer::Failed => Err(Stop::FileFault),
         ReadAnswer::Memory => Err(Stop::NoMemory),
-    }
-}
-
-/// The stop at a name that isn't held.
-fn no_file(alloc: Global, name: &str) -> Stop
-    ensures { IsStopOf (Stop.NoFile name.now) result }
-{
-    match Bytes::from_slice(alloc, name.as_bytes()) {
-        Ok(name) => Stop::NoFile(name),
-        Err(Memory) => Stop::NoMemory,
-    }
-}
-
-/// The stop at a file that is longer than its limit.
-fn too_large(alloc: Global, name: &str) -> Stop
-    ensures { IsStopOf (Stop.TooLarge name.now) result }
-{
-    match Bytes::from_slice(alloc, name.as_bytes()) {
-        Ok(name) => Stop::TooLarge(name),
-        Err(Memory) => Stop::NoMemory,
     }
 }

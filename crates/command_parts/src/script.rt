@@ -1,7 +1,8 @@
 ghost use Rattle.std.specs.Prelude.{◌≡◌, Err, IfOk};
 ghost use Rattle.host_script.specs.Ranges.{IsScript};
 ghost use Rattle.pawn_outside.specs.OnlyRead.{OnlyRead};
-ghost use Rattle.command_parts.specs.ScriptFile.{IsScriptNamed, IsScriptRead, field_stop, stop_at};
+ghost use Rattle.command_parts.specs.ScriptFile.{IsScriptFileRead, IsScriptRead};
+ghost use Rattle.command_parts.specs.ScriptFile.{field_stop, stop_at};
 
 use super::read::{SOURCE_LIMIT, read_bytes};
 use super::stop::Stop;
@@ -16,7 +17,7 @@ pub const SCRIPT_LIMIT: u64 = SOURCE_LIMIT;
 pub fn read_script_file<F: Files>(alloc: Global, name: &str, files: &mut F) -> Result<Script, Stop>
     ensures calls { OnlyRead F.held F.faults F.never_fails files.old files.new
         (result ≡ Err Stop.FileFault) }
-    ensures answer { IsScriptNamed (F.held files.old) name.now result }
+    ensures answer { IsScriptFileRead (F.held files.old) name.now result }
     ensures ranges { IfOk result IsScript }
 {
     let bytes = read_bytes(alloc, name, SCRIPT_LIMIT, files)?;

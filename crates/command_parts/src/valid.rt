@@ -1,6 +1,7 @@
 ghost use Rattle.std.specs.Prelude.{◌≡◌, Err};
 ghost use Rattle.pawn_outside.specs.OnlyRead.{OnlyRead};
-ghost use Rattle.command_parts.specs.ValidFile.{IsFileNamed, IsFileOf, unread, invalid, place_of};
+ghost use Rattle.command_parts.specs.ValidFile.{IsValidRead, IsValidFileOf};
+ghost use Rattle.command_parts.specs.ValidFile.{unread, invalid, place_of};
 
 use super::read::{FILE_LIMIT, read_bytes};
 use super::stop::Stop;
@@ -13,7 +14,7 @@ use std::alloc::Global;
 pub fn read_valid<F: Files>(alloc: Global, name: &str, files: &mut F) -> Result<Verified, Stop>
     ensures calls { OnlyRead F.held F.faults F.never_fails files.old files.new
         (result ≡ Err Stop.FileFault) }
-    ensures answer { IsFileNamed (F.held files.old) name.now result }
+    ensures answer { IsValidRead (F.held files.old) name.now result }
 {
     let bytes = read_bytes(alloc, name, FILE_LIMIT, files)?;
     valid_file(alloc, bytes.as_slice())
@@ -21,7 +22,7 @@ pub fn read_valid<F: Files>(alloc: Global, name: &str, files: &mut F) -> Result<
 
 /// The file that bytes are, verified.
 pub fn valid_file(alloc: Global, bytes: &[u8]) -> Result<Verified, Stop>
-    ensures { IsFileOf bytes.now result }
+    ensures { IsValidFileOf bytes.now result }
 {
     let amx = match read(alloc, bytes) {
         Ok(amx) => amx,

@@ -6,7 +6,7 @@ use Rattle.pawn_front.specs.declared.compiled.Warning.{Warning}
 use Rattle.pawn_front.specs.Means.{Means}
 use Rattle.command_parts.specs.declared.status.Status.{Status}
 use Rattle.command_parts.specs.Told.{Writes}
-use Rattle.commands.specs.declared.compile_words.CompileWords.{CompileWords}
+use Rattle.command_parts.specs.declared.command.CompileWords.{CompileWords}
 use Rattle.commands.specs.Compiles.{Compiles, CompilesGood}
 use Rattle.commands.specs.Runs.{IsStopped}
 use Rattle.commands.specs.Good.{IsFree}
@@ -17,12 +17,12 @@ use Rattle.commands.proofs.SourceGoLaws.{good_sources}
 module _ {S : Type 0} (writes : Writes S) (map : Held) (after : Option Held) (words : CompileWords)
     (old new : S) (answer : Status) where
   compiled : (program : Program) (warnings : List Warning)
-      → Means (Some map) words.src.now program warnings
+      → Means (Some map) words.src program warnings
       → Compiles writes words (Some map) after old new answer
       → IsStopped writes IsFree (Some map) after old new answer
       ⊎ CompilesGood writes words (Some map) after old new answer
   compiled program warnings means (inl early) =
-      inl (freely (λ stop none. good_sources.made map words.src.now program warnings stop means
+      inl (freely (λ stop none. good_sources.made map words.src program warnings stop means
       none) early)
   compiled program warnings means (inr it) = inr it
 

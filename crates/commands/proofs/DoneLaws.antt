@@ -7,12 +7,13 @@ use Rattle.command_parts.specs.declared.stop.Stop.{Stop}
 use Rattle.command_parts.specs.declared.program.Program.{Program}
 use Rattle.command_parts.specs.Program.{IsProgram}
 use Rattle.command_parts.specs.Told.{Writes}
-use Rattle.commands.specs.declared.run_words.RunWords.{RunWords}
+use Rattle.command_parts.specs.declared.command.RunWords.{RunWords}
 use Rattle.commands.specs.Entry.{address_named}
-use Rattle.commands.specs.Prepared.{IsServed, Unserved, unregistered}
-use Rattle.commands.specs.Prepared as prepared
-use Rattle.commands.specs.Runs.{IsStopped, RunsFile, RunsProgram, Runs}
-use Rattle.commands.specs.declared.resume_words.ResumeWords.{ResumeWords}
+use Rattle.commands.specs.Prepared.{IsServed, Unserved}
+use Rattle.commands.specs.Served.{unregistered}
+use Rattle.commands.specs.Served as natives
+use Rattle.commands.specs.Runs.{IsStopped, RunsEntry, RunsProgram, Runs}
+use Rattle.command_parts.specs.declared.command.ResumeWords.{ResumeWords}
 use Rattle.commands.specs.Resumes.{GoesOn, ResumesState, ResumesImage, ResumesProgram}
 use Rattle.commands.specs.Resumes.{Resumes, WantsMemory, wants_memory}
 use Rattle.commands.specs.Restored.{IsImageOf}
@@ -39,26 +40,26 @@ module _ {S : Type 0} (writes : Writes S) (map : Held) (after : Option Held) (wo
   abbrev IsRun : Type 0
   IsRun =
       IsStopped writes IsFree (Some map) after old new answer
-      ⊎ RunsFile writes program words (Some map) after old new answer
+      ⊎ RunsEntry writes program words (Some map) after old new answer
 
-  program_run : (address : ℤ) → address_named program.file words.entry.now ≡ Some address
+  program_run : (address : ℤ) → address_named program.file words.entry ≡ Some address
       → IsServed program
       → RunsProgram writes program words (Some map) after old new answer → IsRun
   program_run address there served (inl stopped) =
-      inl (freely (λ stop none. starts program words.entry.now address stop there served none)
+      inl (freely (λ stop none. starts program words.entry address stop there served none)
       stopped)
   program_run address there served (inr runs) = inr runs
 
-  run : (address : ℤ) → IsProgram (Some map) words.amx.now words.script.now program
-      → address_named program.file words.entry.now ≡ Some address
+  run : (address : ℤ) → IsProgram (Some map) words.amx words.script program
+      → address_named program.file words.entry ≡ Some address
       → IsServed program → Runs writes words (Some map) after old new answer → IsRun
   run address is there served (inl stopped) =
-      inl (freely (λ stop none. files map words.amx.now words.script.now program stop is none)
+      inl (freely (λ stop none. files map words.amx words.script program stop is none)
       stopped)
   run address is there served (inr it) =
       let P : Program → Type 0 = λ p. RunsProgram writes p words (Some map) after old new answer in
       program_run address there served
-      (subst P (same map words.amx.now words.script.now program it.program is it.good) it.runs)
+      (subst P (same map words.amx words.script program it.program is it.good) it.runs)
 
 pub good_is_run : {S : Type 0} (writes : Writes S) → GoodIsRun writes
 good_is_run writes = record {
@@ -72,7 +73,7 @@ good_is_run writes = record {
 unserved_free : (program : Program) (stop : Stop) → IsServed program → Unserved program stop
     → IsFree stop
 unserved_free program stop served (unregistered number first) = absurd (cc (served, first))
-unserved_free program stop served prepared.no_memory = good.no_memory
+unserved_free program stop served natives.no_memory = good.no_memory
 
 wants_free : (stop : Stop) → WantsMemory stop → IsFree stop
 wants_free stop wants_memory = good.no_memory
@@ -107,30 +108,30 @@ module _ {S : Type 0} (writes : Writes S) (map : Held) (after : Option Held) (wo
       λ q. ResumesState writes program words s q (Some map) after old new answer in
       from_state served (subst Q same.1 (subst P same.0 there.resumes))
 
-  from_program : HoldsImage map words.image.now program s position → IsServed program
+  from_program : HoldsImage map words.image program s position → IsServed program
       → ResumesProgram writes program words (Some map) after old new answer → IsResumed
   from_program image served (inl stopped) =
-      inl (freely (λ stop none. read_free map words.image.now _ stop image none) stopped)
+      inl (freely (λ stop none. read_free map words.image _ stop image none) stopped)
   from_program image served (inr it) =
       let P : List ℕ → Type 0 =
       λ b. ResumesImage writes program words b (Some map) after old new answer in
       let one : (t : State) (q : ℕ) → IsImageOf program image.bytes t q → (t ≡ s) × (q ≡ position) =
-      λ t q that. good_images.same map words.image.now program s t position q image
+      λ t q that. good_images.same map words.image program s t position q image
       (record { bytes = image.bytes; tells = image.tells; within = image.within; is = that }) in
       from_image image.bytes image.is one served
-      (subst P (same_bytes map words.image.now image it) it.is)
+      (subst P (same_bytes map words.image image it) it.is)
 
-  resume : IsProgram (Some map) words.amx.now words.script.now program
-      → HoldsImage map words.image.now program s position → IsServed program
+  resume : IsProgram (Some map) words.amx words.script program
+      → HoldsImage map words.image program s position → IsServed program
       → Resumes writes words (Some map) after old new answer → IsResumed
   resume is image served (inl stopped) =
-      inl (freely (λ stop none. files map words.amx.now words.script.now program stop is none)
+      inl (freely (λ stop none. files map words.amx words.script program stop is none)
       stopped)
   resume is image served (inr it) =
       let P : Program → Type 0 =
       λ p. ResumesProgram writes p words (Some map) after old new answer in
       from_program image served (subst P
-      (same map words.amx.now words.script.now program it.program is it.good) it.resumes)
+      (same map words.amx words.script program it.program is it.good) it.resumes)
 
 pub good_is_resumed : {S : Type 0} (writes : Writes S) → GoodIsResumed writes
 good_is_resumed writes = record {

@@ -1,16 +1,15 @@
 -- The number of an entry has its address.
 use Rattle.std.proofs.Common.{◌≡◌, ◌∙◌, ◌<◌, ℕ, zero, suc, ℤ, pos, negsuc, List, [], ◌∷◌, Bool}
 use Rattle.std.proofs.Common.{true, false, Option, None, Some, length, slice_get, option_map}
-use Rattle.std.proofs.Common.{option_and_then, cond, IfSome, refl, ap, sym, subst, All, arith}
+use Rattle.std.proofs.Common.{option_and_then, cond, IfSome, refl, ap, sym, subst, arith}
 use Rattle.std.specs.Prelude.{bytes_eq}
 use Rattle.std.proofs.lemmas.List.Elements.{All-nil}
 use Rattle.pawn_cells.specs.Cells.{IsCell, equal}
 use Rattle.amx_ops.specs.declared.amx.Amx.{Amx}
-use Rattle.amx_ops.specs.declared.amx.Record.{Record}
 use Rattle.amx_ops.specs.State.{State}
 use Rattle.amx_ops.specs.States.{IsState}
 use Rattle.amx_ops.specs.Keeps.{IsRunnable}
-use Rattle.amx_ops.specs.Trace.{Main, Public, address_of, start_at}
+use Rattle.amx_ops.specs.Trace.{Main, Public, start_at}
 use Rattle.amx_ops.proofs.KeepsLaws.{keeps_states}
 use Rattle.amx_machine.specs.Starts.{address_by}
 use Rattle.command_parts.specs.declared.options.TheConstants.{MAIN}

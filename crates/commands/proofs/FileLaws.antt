@@ -14,7 +14,7 @@ use Rattle.gen_agrees.specs.Agrees.{Agrees, IsRoom, Serves}
 use Rattle.gen_agrees.specs.Shape.{HasEntry}
 use Rattle.gen_agrees.proofs.GivesLaws.{what_agreement_gives_lem}
 use Rattle.commands.specs.Meant.{IsMeant}
-use Rattle.commands.specs.ReadyFile.{IsServed}
+use Rattle.commands.specs.Served.{AreServed}
 use Rattle.commands.proofs.BoundNativeLaws.{serves}
 
 module _ (program : Program) (amx : Amx) (agrees : Agrees program amx) (f : ℕ)
@@ -30,7 +30,7 @@ module _ (program : Program) (amx : Amx) (agrees : Agrees program amx) (f : ℕ)
   within : IsRoom amx amx.room
   within = omega (arith, agrees.shape.writable.memory)
 
-  pub meant : (steps sleeps : ℕ) (script : Script) → IsScript script → IsServed amx script
+  pub meant : (steps sleeps : ℕ) (script : Script) → IsScript script → AreServed amx script
       → IsMeant program f amx script steps sleeps
   meant steps sleeps script keeps served =
       let all : Serves script program.natives =

@@ -1,23 +1,19 @@
 -- What keeps a machine from being ready, as the code meets it.
-use Rattle.std.proofs.Common.{◌≡◌, ◌≢◌, inl, inr, ℤ, negsuc, List, Bool, true, false, None, Some}
+use Rattle.std.proofs.Common.{◌≡◌, ◌≢◌, inl, inr, ℤ, negsuc, Bool, true, false, None, Some}
 use Rattle.std.proofs.Common.{Ok, Err, Result, if◌then◌else◌, refl, sym, ap, subst}
 use Rattle.pawn_cells.specs.Cells.{equal}
 use Rattle.host_script.specs.declared.script.Script.{Script}
 use Rattle.amx_ops.specs.declared.amx.Amx.{Amx}
-use Rattle.amx_ops.specs.declared.amx.Record.{Record}
-use Rattle.amx_ops.specs.Moves.{name_of}
 use Rattle.amx_ops.specs.Trace.{Main, address_of}
 use Rattle.amx_machine.specs.Machine.{Machine}
-use Rattle.host_run.specs.declared.bound.BindFault.{BindFault}
-use Rattle.host_run.specs.declared.bound.BindFault.TheVariants as bind
-use Rattle.host_run.specs.Bound.{Binds}
 use Rattle.command_parts.specs.Unread.{IsStopOf}
 use Rattle.command_parts.specs.declared.options.TheConstants.{MAIN}
 use Rattle.command_parts.specs.declared.stop.Stop.{Stop}
-use Rattle.command_parts.specs.declared.stop.Stop.TheVariants.{NoEntry, Unregistered, FileFault}
-use Rattle.commands.specs.declared.ready_file.Ready.{Ready}
-use Rattle.commands.specs.ReadyFile.{IsReady, NotReady, no_main, no_native, wants_memory, NotServed}
-use Rattle.commands.specs.ReadyFile.{Serves, Readies, Unserved, unregistered, no_memory}
+use Rattle.command_parts.specs.declared.stop.Stop.TheVariants.{NoEntry, FileFault}
+use Rattle.commands.specs.declared.ready_file.ReadyFile.{ReadyFile}
+use Rattle.commands.specs.ReadyFile.{IsReadyFile, NotReady, no_main, no_native, wants_memory}
+use Rattle.commands.specs.ReadyFile.{ServesFile, Readies}
+use Rattle.commands.proofs.PreparedLaws.{unserved_no_fault}
 
 there_by : (b : Bool) (entry address : ℤ) → (if b then None else Some entry) ≡ Some address
     → (if b then None else Some entry) ≡ Some entry
@@ -42,35 +38,18 @@ module _ (amx : Amx) (script : Script) where
       let Q : Amx → Type 0 = λ a. Some address ≡ address_of a Main in
       there_by (equal amx.entry (negsuc 0)) amx.entry address (sym (subst Q same some))
 
-  pub not_served_is : (natives : List Record) (fault : BindFault) (stop : Stop)
-      → natives ≡ amx.natives → Binds script amx.natives (Err fault)
-      → NotServed natives fault stop → Unserved amx script stop
-  not_served_is natives (bind.Unregistered number) stop are binds (inl is) =
-      let P : Stop → Type 0 = Unserved amx script in
-      let Q : List Record → Type 0 = λ them. stop ≡ Unregistered (name_of them number) in
-      subst P (sym (subst Q are is)) (unregistered number binds)
-  not_served_is natives (bind.Unregistered number) stop are binds (inr is) =
-      let P : Stop → Type 0 = Unserved amx script in subst P (sym is) no_memory
-  not_served_is natives bind.Memory stop are binds is =
-      let P : Stop → Type 0 = Unserved amx script in subst P (sym is) no_memory
-
-  pub readies : (result : Result Ready Stop) → address_of amx Main ≡ Some amx.entry
-      → Serves amx script result → Readies amx script result
+  pub readies : (result : Result ReadyFile Stop) → address_of amx Main ≡ Some amx.entry
+      → ServesFile amx script result → Readies amx script result
   readies (Ok ready) main serves = record { main = main; serves = serves }
   readies (Err stop) main none = no_native stop main none
 
-  pub file_of : (ready : Ready) → IsReady amx script ready → ready.machine.amx ≡ amx
+  pub file_of : (ready : ReadyFile) → IsReadyFile amx script ready → ready.machine.amx ≡ amx
   file_of ready it = ap (λ (m : Machine). m.amx) it.serves.machine
 
-  pub ready_itself : (ready : Ready) → IsReady amx script ready
-      → IsReady ready.machine.amx script ready
+  pub ready_itself : (ready : ReadyFile) → IsReadyFile amx script ready
+      → IsReadyFile ready.machine.amx script ready
   ready_itself ready it =
-      let P : Amx → Type 0 = λ a. IsReady a script ready in subst P (sym (file_of ready it)) it
-
-unserved_no_fault : {amx : Amx} {script : Script} {stop : Stop} → Unserved amx script stop
-    → stop ≢ FileFault
-unserved_no_fault (unregistered number first) = λ f. absurd (cc f)
-unserved_no_fault no_memory = λ f. absurd (cc f)
+      let P : Amx → Type 0 = λ a. IsReadyFile a script ready in subst P (sym (file_of ready it)) it
 
 pub ready_no_fault : {amx : Amx} {script : Script} {stop : Stop} → NotReady amx script stop
     → stop ≢ FileFault

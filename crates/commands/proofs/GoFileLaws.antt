@@ -21,16 +21,16 @@ use Rattle.command_parts.specs.declared.status.Status.TheVariants as status
 use Rattle.command_parts.specs.declared.stop.Stop.{Stop}
 use Rattle.command_parts.specs.declared.stop.Stop.TheVariants.{NoMemory}
 use Rattle.command_parts.specs.Stop.{line_of}
-use Rattle.command_parts.specs.ValidFile.{IsFileOf, IsValidFile}
+use Rattle.command_parts.specs.ValidFile.{IsValidFileOf, IsValidFile}
 use Rattle.command_parts.specs.Put.{NotPut}
 use Rattle.command_parts.specs.Told.{Writes, TellsStop}
 use Rattle.command_parts.proofs.FaultCountLaws.{stop_no_fault, told_other}
 use Rattle.commands.specs.Finishes.{status_of_end, status_of_stop}
 use Rattle.commands.specs.declared.goes.Prepared.{Prepared}
-use Rattle.commands.specs.declared.go_words.GoWords.{GoWords}
+use Rattle.command_parts.specs.declared.command.GoWords.{GoWords}
 use Rattle.commands.specs.Lines.{warning_lines}
 use Rattle.commands.specs.Made.{NoSource}
-use Rattle.commands.specs.Goes.{IsGood, NotGood, no_source, no_natives, behind, IsPrepared, Makes}
+use Rattle.commands.specs.Goes.{IsGood, NotGood, no_source, no_natives, behind, Prepares, Makes}
 use Rattle.commands.specs.Goes.{Goes}
 use Rattle.commands.specs.Natives.{HasNatives, LacksNatives}
 use Rattle.commands.specs.ReadyFile.{wants_memory}
@@ -42,25 +42,25 @@ use Rattle.commands.proofs.FileReadyLaws.{ready_no_fault}
 -- ---- its files
 
 module _ (held : Option Held) (words : GoWords) where
-  pub source_missing : (src : List ℕ) (stop : Stop) → src ≡ words.src.now → NoSource held src stop
+  pub source_missing : (src : List ℕ) (stop : Stop) → src ≡ words.src → NoSource held src stop
       → NotGood held words stop
   source_missing src stop e none =
       let P : List ℕ → Type 0 = λ n. NoSource held n stop in no_source (subst P e none)
 
   pub natives_missing : (mid : Option Held) (src : List ℕ) (it : Compiled) (stop : Stop)
-      → src ≡ words.src.now → IsCompiled held src Plain it
-      → mid ≡ held → LacksNatives mid words.script.now stop → NotGood held words stop
+      → src ≡ words.src → IsCompiled held src Plain it
+      → mid ≡ held → LacksNatives mid words.script stop → NotGood held words stop
   natives_missing mid src it stop e made same none =
       let P : List ℕ → Type 0 = λ n. IsCompiled held n Plain it in
-      let Q : Option Held → Type 0 = λ h. LacksNatives h words.script.now stop in
+      let Q : Option Held → Type 0 = λ h. LacksNatives h words.script stop in
       no_natives it (subst P e made) (subst Q same none)
 
-  pub both_good : (mid : Option Held) (src : List ℕ) (it : Prepared) → src ≡ words.src.now
+  pub both_good : (mid : Option Held) (src : List ℕ) (it : Prepared) → src ≡ words.src
       → IsCompiled held src Plain it.compiled
-      → mid ≡ held → HasNatives mid words.script.now it.script → IsPrepared held words (Ok it)
+      → mid ≡ held → HasNatives mid words.script it.script → Prepares held words (Ok it)
   both_good mid src it e made same natives =
       let P : List ℕ → Type 0 = λ n. IsCompiled held n Plain it.compiled in
-      let Q : Option Held → Type 0 = λ h. HasNatives h words.script.now it.script in
+      let Q : Option Held → Type 0 = λ h. HasNatives h words.script it.script in
       record { made = subst P e made; natives = subst Q same natives }
 
 -- ---- its run
@@ -87,28 +87,28 @@ module _ {S : Type 0} {writes : Writes S} {old new : S} where
 
   -- of bytes that are a valid file
   pub reads_none : (bytes lent : List ℕ) (script : Script) (steps sleeps : ℕ) (stop : Stop)
-      (answer : Status) → lent ≡ bytes → IsFileOf lent (Err stop)
+      (answer : Status) → lent ≡ bytes → IsValidFileOf lent (Err stop)
       → TellsStop stop writes old new answer → (amx : Amx) → IsValidFile bytes amx
       → RunsFile writes amx script steps sleeps old new answer
   reads_none bytes lent script steps sleeps stop answer same none tells amx valid =
-      let P : List ℕ → Type 0 = λ b. IsFileOf b (Err stop) in
+      let P : List ℕ → Type 0 = λ b. IsValidFileOf b (Err stop) in
       let Q : Stop → Type 0 = λ s. TellsStop s writes old new answer in
       stopped NoMemory wants_memory (subst Q (only_memory amx valid stop (subst P same none)) tells)
 
   pub reads_same : (bytes lent : List ℕ) (script : Script) (steps sleeps : ℕ) (read : Amx)
-      (answer : Status) → lent ≡ bytes → IsFileOf lent (Ok read)
+      (answer : Status) → lent ≡ bytes → IsValidFileOf lent (Ok read)
       → RunsFile writes read script steps sleeps old new answer → (amx : Amx)
       → IsValidFile bytes amx
       → RunsFile writes amx script steps sleeps old new answer
   reads_same bytes lent script steps sleeps read answer same valid_read runs amx valid =
-      let P : List ℕ → Type 0 = λ b. IsFileOf b (Ok read) in
+      let P : List ℕ → Type 0 = λ b. IsValidFileOf b (Ok read) in
       let Q : Amx → Type 0 = λ a. RunsFile writes a script steps sleeps old new answer in
       subst Q (same_file amx valid read (subst P same valid_read)) runs
 
   -- ---- the put
 
   pub makes_none : (words : GoWords) (it : Prepared) (held after : Option Held) (name : List ℕ)
-      (stop : Stop) (answer : Status) → name ≡ words.amx.now
+      (stop : Stop) (answer : Status) → name ≡ words.amx
       → NotPut held after name stop → TellsStop stop writes old new answer
       → Makes writes words it held after old new answer
   makes_none words it held after name stop answer e none tells =
@@ -116,7 +116,7 @@ module _ {S : Type 0} {writes : Writes S} {old new : S} where
       λ amx valid. inl (record { stop = stop; comes = subst P e none; tells = tells })
 
   pub makes_put : (words : GoWords) (it : Prepared) (held after : Option Held) (name lent : List ℕ)
-      (answer : Status) → name ≡ words.amx.now
+      (answer : Status) → name ≡ words.amx
       → lent ≡ it.compiled.bytes → after ≡ with_put held name lent
       → ((amx : Amx) → IsValidFile it.compiled.bytes amx
       → RunsFile (behind (warning_lines it.compiled.warnings) writes) amx it.script words.steps

@@ -1,21 +1,11 @@
 -- What is good isn't refused, and is no other program.
-use Rattle.std.proofs.Common.{◌≡◌, ◌≢◌, ◌<◌, ◌∙◌, ℕ, ℤ, List, Option, None, Some, Ok, Err, length}
+use Rattle.std.proofs.Common.{◌≡◌, ◌≢◌, ◌<◌, ◌∙◌, ℕ, ℤ, List, Some, Err, length}
 use Rattle.std.proofs.Common.{refl, sym, ap, subst, inl, inr, arith}
 use Rattle.std.specs.Prelude.{IsSomeAnd}
 use Rattle.pawn_outside.specs.Held.{Held}
 use Rattle.host_script.specs.declared.script.Script.{Script}
 use Rattle.amx_ops.specs.declared.amx.Amx.{Amx}
-use Rattle.amx_ops.specs.Valid.{Fault}
-use Rattle.amx_format.specs.declared.fault.FormatFault.{FormatFault}
-use Rattle.amx_format.specs.declared.fault.FormatFault.TheVariants as format
-use Rattle.amx_format.specs.Faults.{IsFirst}
-use Rattle.amx_format.specs.Faults as faults
-use Rattle.amx_format.specs.File.{IsFile}
-use Rattle.amx_format.proofs.Determines.{file_determines, one_answer}
-use Rattle.amx_verify.specs.declared.fault.VerifyFault.{VerifyFault}
-use Rattle.amx_verify.specs.declared.fault.VerifyFault.TheVariants as verify
-use Rattle.amx_verify.specs.Verdict as verdict
-use Rattle.amx_verify.specs.Verdict.{fault_in}
+use Rattle.amx_format.proofs.Determines.{file_determines}
 use Rattle.serde_json.specs.Data.{Data}
 use Rattle.script_reader.specs.declared.fault.ScriptFault.{ScriptFault}
 use Rattle.script_reader.specs.declared.fault.ScriptFault.TheVariants.{Json, Shape, Range, Memory}
@@ -24,45 +14,18 @@ use Rattle.script_reader.specs.Verdict.{Verdict, Stands, Causes}
 use Rattle.command_parts.specs.declared.stop.Stop.{Stop}
 use Rattle.command_parts.specs.declared.read.TheConstants.{FILE_LIMIT}
 use Rattle.command_parts.specs.Unread.{IsRead, Unread, missing, too_large, failed, no_memory}
-use Rattle.command_parts.specs.ValidFile.{IsValidFile, Broken, no_file, invalid_at}
+use Rattle.command_parts.specs.ValidFile.{IsValidFile, Broken, NoFile}
 use Rattle.command_parts.specs.declared.program.Program.{Program}
 use Rattle.commands.specs.Good as good
 use Rattle.commands.specs.Good.{IsFree, GoodFilesAreRead, GoodProgramsStart}
-use Rattle.command_parts.specs.Program.{IsProgram, IsDigested, digest_of, NoFile, NoProgram}
+use Rattle.command_parts.specs.Program.{IsProgram, IsDigested, NoProgram}
 use Rattle.command_parts.specs.Program as program
 use Rattle.command_parts.specs.ScriptFile.{IsScriptOf, IsNoScript}
 use Rattle.commands.specs.Entry.{address_named}
-use Rattle.commands.specs.Prepared.{IsServed, unregistered, NoStart, no_entry, no_native}
-use Rattle.commands.specs.Prepared.{wants_memory}
-use Rattle.commands.specs.Prepared as prepared
-
--- ---- a file that is valid isn't broken
-
-refused : (bytes : List ℕ) (amx : Amx) (cause : FormatFault) (kind : ℕ) → IsFile bytes amx
-    → IsFirst bytes cause → faults.number_of cause ≡ Some kind → ⊥
-refused bytes amx cause kind file first number =
-    absurd (cc (one_answer bytes (Err cause) (Ok amx) first file (λ k. absurd (cc k))
-    (λ k. let m : cause ≡ format.Memory = cc k in absurd
-    (cc (sym (ap faults.number_of m) ∙ number)))))
-
-judged : (cause : VerifyFault) (found : Option Fault) (kind : ℕ) → verdict.Tells cause found
-    → found ≡ None → verdict.number_of cause ≡ Some kind → ⊥
-judged (verify.Opcode at) found kind t e n = absurd (cc (t, e))
-judged (verify.Cut at) found kind t e n = absurd (cc (t, e))
-judged (verify.Target at) found kind t e n = absurd (cc (t, e))
-judged (verify.CaseTable at) found kind t e n = absurd (cc (t, e))
-judged (verify.Native at) found kind t e n = absurd (cc (t, e))
-judged (verify.Register at) found kind t e n = absurd (cc (t, e))
-judged (verify.ByteCount at) found kind t e n = absurd (cc (t, e))
-judged (verify.Entry number) found kind t e n = absurd (cc (t, e))
-judged verify.Memory found kind t e n = absurd (cc n)
-
-whole : (bytes : List ℕ) (amx : Amx) (stop : Stop) → IsValidFile bytes amx → Broken bytes stop → ⊥
-whole bytes amx stop valid (no_file kind it) =
-    refused bytes amx it.cause kind valid.file it.first it.number
-whole bytes amx stop valid (invalid_at kind at it) =
-    judged it.cause (fault_in it.amx) kind it.first
-    (ap fault_in (file_determines bytes it.amx amx it.file valid.file) ∙ valid.valid) it.number
+use Rattle.commands.specs.Prepared.{IsServed, NoStart, no_entry, no_native, wants_memory}
+use Rattle.commands.specs.Served.{unregistered}
+use Rattle.commands.specs.Served as natives
+use Rattle.commands.proofs.MadeLaws.{not_broken}
 
 -- ---- bytes that are a script have no fault
 
@@ -113,14 +76,14 @@ module _ (map : Held) where
   one_file name amx stop is (inl unread) = read_free name _ stop is unread
   one_file name amx stop is (inr broken) =
       let P : List ℕ → Type 0 = λ b. Broken b stop in
-      absurd (whole is.bytes amx stop is.is (subst P (same_bytes name is broken) broken.is))
+      absurd (not_broken amx is.is (subst P (same_bytes name is broken) broken.is))
 
   pub files : (amx script : List ℕ) (it : Program) (stop : Stop)
       → IsProgram (Some map) amx script it → NoProgram (Some map) amx script stop → IsFree stop
   files amx script it stop is (program.no_file (inl unread)) = read_free amx _ stop is.file unread
   files amx script it stop is (program.no_file (inr broken)) =
       let P : List ℕ → Type 0 = λ b. Broken b stop in
-      absurd (whole is.file.bytes it.file stop is.file.is.valid
+      absurd (not_broken it.file is.file.is.valid
       (subst P (same_bytes amx is.file broken) broken.is))
   files amx script it stop is (program.no_script file digest fine (inl unread)) =
       read_free script _ stop is.natives unread
@@ -158,7 +121,7 @@ pub starts : (it : Program) (entry : List ℕ) (address : ℤ) (stop : Stop)
 starts it entry address stop at served (no_entry none) = absurd (cc (at, none))
 starts it entry address stop at served (no_native other cause there (unregistered number first)) =
     absurd (cc (served, first))
-starts it entry address stop at served (no_native other cause there prepared.no_memory) =
+starts it entry address stop at served (no_native other cause there natives.no_memory) =
     good.no_memory
 starts it entry address stop at served wants_memory = good.no_memory
 

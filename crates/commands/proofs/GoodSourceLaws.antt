@@ -14,14 +14,14 @@ use Rattle.command_parts.specs.declared.stop.Stop.TheVariants.{NoMemory}
 use Rattle.command_parts.specs.ScriptFile.{IsScriptOf}
 use Rattle.command_parts.specs.Told.{Writes, TellsStop}
 use Rattle.commands.specs.Runs.{IsStopped}
-use Rattle.commands.specs.declared.go_words.GoWords.{GoWords}
+use Rattle.command_parts.specs.declared.command.GoWords.{GoWords}
 use Rattle.commands.specs.Compiles.{Unput}
 use Rattle.commands.specs.Lines.{warning_lines}
 use Rattle.commands.specs.Goes.{Goes, GoesGood, NotGood, RunsPut, behind}
 use Rattle.commands.specs.Natives.{HasNatives}
 use Rattle.commands.specs.Played.{TellsTrace, trace_of}
-use Rattle.commands.specs.ReadyFile.{IsServed, NotReady, no_main, no_native, wants_memory}
-use Rattle.commands.specs.ReadyFile.{unregistered, no_memory}
+use Rattle.commands.specs.ReadyFile.{NotReady, no_main, no_native, wants_memory}
+use Rattle.commands.specs.Served.{AreServed, unregistered, no_memory}
 use Rattle.commands.specs.RunsFile.{RunsFile, stopped, ran}
 use Rattle.commands.proofs.FileLaws.{main_address}
 use Rattle.commands.specs.Good.{IsFree}
@@ -41,7 +41,7 @@ module _ (map : Held) where
       same_script is.bytes script read is.is (subst P (same_bytes map name is that) that.is)
 
 only_memory : (amx : Amx) (script : Script) (stop : Stop) → address_of amx Main ≡ Some amx.entry
-    → IsServed amx script → NotReady amx script stop
+    → AreServed amx script → NotReady amx script stop
     → stop ≡ NoMemory
 only_memory amx script stop main served (no_main none) = absurd (cc (main, none))
 only_memory amx script stop main served (no_native cause there (unregistered number first)) =
@@ -51,7 +51,7 @@ only_memory amx script stop main served wants_memory = refl
 
 module _ {S : Type 0} (writes : Writes S) (old new : S) (answer : Status) where
   runs : (amx : Amx) (script : Script) (steps sleeps : ℕ) → address_of amx Main ≡ Some amx.entry
-      → IsServed amx script
+      → AreServed amx script
       → RunsFile writes amx script steps sleeps old new answer
       → TellsStop NoMemory writes old new answer
       ⊎ TellsTrace (trace_of amx script steps sleeps) writes old new answer
@@ -62,15 +62,15 @@ module _ {S : Type 0} (writes : Writes S) (old new : S) (answer : Status) where
 
 module _ {S : Type 0} (writes : Writes S) (old new : S) (answer : Status) (map : Held)
     (after : Option Held) (words : GoWords) (script : Script)
-    (source : IsServedSource map words.src.now script)
-    (natives : HasNatives (Some map) words.script.now script) where
+    (source : IsServedSource map words.src script)
+    (natives : HasNatives (Some map) words.script script) where
   free : (stop : Stop) → NotGood (Some map) words stop → IsFree stop
   free stop none =
       good_sources.read map words source.program source.warnings script stop source.means
       natives none
 
   put : (it : GoesGood writes words (Some map) after old new answer)
-      → Unput writes words.amx.now (Some map) after old new answer
+      → Unput writes words.amx (Some map) after old new answer
       ⊎ RunsPut writes words it.good.made.has.amx it.prepared (Some map) after old new answer
       → IsGone writes words (Some map) after old new answer
   put it (inl unput) = record { it = it; comes = inl unput }
@@ -78,13 +78,13 @@ module _ {S : Type 0} (writes : Writes S) (old new : S) (answer : Status) (map :
       let made = it.good.made in
       let has = made.has in
       let same : source.program ≡ made.program =
-      (a_source_has_one_program map words.src.now source.program made.program source.warnings
+      (a_source_has_one_program map words.src source.program made.program source.warnings
       it.prepared.compiled.warnings source.means made.means).0 in
       let entry : made.program.entry ≡ Some source.main =
       sym (ap (λ (p : Program). p.entry) same) ∙ source.entry in
       let P : Program → Type 0 = λ p. Serves script p.natives in
-      let e = one_script map words.script.now script it.prepared.script natives it.good.natives in
-      let Q : Script → Type 0 = λ s. IsServed has.amx s in
+      let e = one_script map words.script script it.prepared.script natives it.good.natives in
+      let Q : Script → Type 0 = λ s. AreServed has.amx s in
       let served =
       subst Q (sym e) (bound script has.amx.natives made.program.natives
       has.agrees.shape.natives (subst P same source.serves)) in

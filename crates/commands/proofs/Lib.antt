@@ -10,7 +10,6 @@ pub mod GoodSourceLaws
 pub mod ImageLaws
 pub mod LineLaws
 pub mod MadeLaws
-pub mod NativeSizes
 pub mod PlayLaws
 pub mod PreparedLaws
 pub mod PutLaws
@@ -25,4 +24,3 @@ pub mod SourceGoLaws
 pub mod SourceStopLaws
 pub mod StartLaws
 pub mod StepSizes
-pub use Rattle.pawn_front.proofs as PawnFront

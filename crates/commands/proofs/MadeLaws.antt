@@ -1,5 +1,5 @@
 -- Bytes that were put are the valid file of a program, and are read as that.
-use Rattle.std.proofs.Common.{◌≡◌, ◌≢◌, ◌∙◌, inl, inr, ℕ, List, None, Some, Ok, Err, ap, subst}
+use Rattle.std.proofs.Common.{◌≡◌, ◌∙◌, inl, inr, ℕ, List, None, Some, Ok, Err, ap, subst}
 use Rattle.pawn_meaning.specs.Program.{Program}
 use Rattle.amx_ops.specs.declared.amx.Amx.{Amx}
 use Rattle.amx_format.specs.declared.encoding.Encoding.{Encoding}
@@ -14,8 +14,8 @@ use Rattle.amx_verify.specs.Verdict.{fault_in, Tells as TellsFault}
 use Rattle.amx_verify.specs.Verdict as verdict
 use Rattle.pawn_front.specs.Compiled.{HasFile}
 use Rattle.command_parts.specs.declared.stop.Stop.{Stop}
-use Rattle.command_parts.specs.declared.stop.Stop.TheVariants.{FileFault, NoMemory}
-use Rattle.command_parts.specs.ValidFile.{IsFileOf, IsValidFile, Broken, no_file, invalid_at}
+use Rattle.command_parts.specs.declared.stop.Stop.TheVariants.{NoMemory}
+use Rattle.command_parts.specs.ValidFile.{IsValidFileOf, IsValidFile, Broken, no_file, invalid_at}
 
 -- ---- the bytes of a valid file aren't broken
 
@@ -49,27 +49,18 @@ module _ {bytes : List ℕ} (amx : Amx) (it : IsValidFile bytes amx) where
       ap fault_in (file_determines bytes other amx file it.file) ∙ it.valid in
       tells_none cause kind (subst (TellsFault cause) none tells) e
 
-  not_broken : {stop : Stop} → Broken bytes stop → ⊥
+  pub not_broken : {stop : Stop} → Broken bytes stop → ⊥
   not_broken (no_file kind bad) = read_so bad.cause kind bad.first bad.number
   not_broken (invalid_at kind at bad) =
       valid_so bad.amx bad.cause kind bad.file bad.first bad.number
 
   -- only want of memory stops its reading
-  pub only_memory : (stop : Stop) → IsFileOf bytes (Err stop) → stop ≡ NoMemory
+  pub only_memory : (stop : Stop) → IsValidFileOf bytes (Err stop) → stop ≡ NoMemory
   only_memory stop (inl memory) = memory
   only_memory stop (inr broken) = absurd (not_broken broken)
 
-  pub same_file : (read : Amx) → IsFileOf bytes (Ok read) → read ≡ amx
+  pub same_file : (read : Amx) → IsValidFileOf bytes (Ok read) → read ≡ amx
   same_file read valid = file_determines bytes read amx valid.file it.file
-
--- no stop at bytes is a fault of the files
-broken_no_fault : {bytes : List ℕ} {stop : Stop} → Broken bytes stop → stop ≢ FileFault
-broken_no_fault (no_file kind bad) = λ f. absurd (cc f)
-broken_no_fault (invalid_at kind at bad) = λ f. absurd (cc f)
-
-pub file_no_fault : (bytes : List ℕ) (stop : Stop) → IsFileOf bytes (Err stop) → stop ≢ FileFault
-file_no_fault bytes stop (inl memory) = λ f. absurd (cc (memory, f))
-file_no_fault bytes stop (inr broken) = broken_no_fault broken
 
 -- the file of a program is valid
 pub made_valid : {program : Program} {encoding : Encoding} {bytes : List ℕ}

@@ -1,26 +1,27 @@
 -- What keeps a program from its start.
-use Rattle.std.proofs.Common.{◌≡◌, ◌≢◌, ◌∙◌, ℕ, ℤ, List, Option, None, Some, Err, inl, inr, refl}
+use Rattle.std.proofs.Common.{◌≡◌, ◌≢◌, ◌∙◌, ℕ, List, None, Some, inl, inr}
 use Rattle.std.proofs.Common.{sym, ap, subst}
+use Rattle.host_script.specs.declared.script.Script.{Script}
+use Rattle.amx_ops.specs.declared.amx.Amx.{Amx}
 use Rattle.host_run.specs.Bound.{unserved}
 use Rattle.amx_ops.specs.Moves.{name_of}
 use Rattle.command_parts.specs.declared.stop.Stop.{Stop}
 use Rattle.command_parts.specs.declared.stop.Stop.TheVariants.{NoEntry, Unregistered, FileFault}
-use Rattle.command_parts.specs.declared.stop.Stop.TheVariants.{NoMemory}
 use Rattle.command_parts.specs.Unread.{IsStopOf}
 use Rattle.command_parts.specs.declared.program.Program.{Program}
 use Rattle.commands.specs.Entry.{address_named}
-use Rattle.commands.specs.Prepared.{Unserved, unregistered, no_memory, NoStart, no_entry}
-use Rattle.commands.specs.Prepared.{no_native, wants_memory}
+use Rattle.commands.specs.Prepared.{NoStart, no_entry, wants_memory}
+use Rattle.commands.specs.Served.{HasUnserved, unregistered, no_memory}
 
-pub unserved_is : (program : Program) (number : ℕ) (name : List ℕ) (stop : Stop)
-    → unserved program.script program.file.natives ≡ Some number
-    → name ≡ name_of program.file.natives number → IsStopOf (Unregistered name) stop
-    → Unserved program stop
-unserved_is program number name stop first e (inl is) =
-    let P : Stop → Type 0 = Unserved program in
+pub unserved_is : (amx : Amx) (script : Script) (number : ℕ) (name : List ℕ) (stop : Stop)
+    → unserved script amx.natives ≡ Some number
+    → name ≡ name_of amx.natives number → IsStopOf (Unregistered name) stop
+    → HasUnserved amx script stop
+unserved_is amx script number name stop first e (inl is) =
+    let P : Stop → Type 0 = HasUnserved amx script in
     subst P (sym (is ∙ ap Unregistered e)) (unregistered number first)
-unserved_is program number name stop first e (inr is) =
-    let P : Stop → Type 0 = Unserved program in subst P (sym is) no_memory
+unserved_is amx script number name stop first e (inr is) =
+    let P : Stop → Type 0 = HasUnserved amx script in subst P (sym is) no_memory
 
 pub entry_missing : (program : Program) (name : List ℕ) (stop : Stop)
     → address_named program.file name ≡ None → IsStopOf (NoEntry name) stop
@@ -36,6 +37,7 @@ pub entry_no_fault : (name : List ℕ) (stop : Stop) → IsStopOf (NoEntry name)
 entry_no_fault name stop (inl is) = λ f. absurd (cc (is, f))
 entry_no_fault name stop (inr is) = λ f. absurd (cc (is, f))
 
-pub unserved_no_fault : (program : Program) (stop : Stop) → Unserved program stop → stop ≢ FileFault
-unserved_no_fault program stop (unregistered number first) = λ f. absurd (cc f)
-unserved_no_fault program stop no_memory = λ f. absurd (cc f)
+pub unserved_no_fault : {amx : Amx} {script : Script} {stop : Stop} → HasUnserved amx script stop
+    → stop ≢ FileFault
+unserved_no_fault (unregistered number first) = λ f. absurd (cc f)
+unserved_no_fault no_memory = λ f. absurd (cc f)

@@ -9,7 +9,7 @@ use Rattle.command_parts.specs.declared.status.Status.TheVariants as status
 use Rattle.command_parts.specs.declared.stop.Stop.{Stop}
 use Rattle.command_parts.specs.Put.{NotPut}
 use Rattle.command_parts.specs.Told.{Told, Writes, TellsStop, status_told}
-use Rattle.commands.specs.declared.compile_words.CompileWords.{CompileWords}
+use Rattle.command_parts.specs.declared.command.CompileWords.{CompileWords}
 use Rattle.commands.specs.Compiles.{Puts, Compiles, encoding_of}
 use Rattle.commands.specs.Lines.{compile_text}
 use Rattle.commands.specs.Made.{NoSource}
@@ -37,7 +37,7 @@ module _ {S : Type 0} {writes : Writes S} {old new : S} where
   -- ---- the whole command
 
   pub compiles_nothing : (words : CompileWords) (held after : Option Held) (src : List ℕ)
-      (stop : Stop) (answer : Status) → src ≡ words.src.now
+      (stop : Stop) (answer : Status) → src ≡ words.src
       → NoSource held src stop → after ≡ held → TellsStop stop writes old new answer
       → Compiles writes words held after old new answer
   compiles_nothing words held after src stop answer e none kept tells =
@@ -46,13 +46,13 @@ module _ {S : Type 0} {writes : Writes S} {old new : S} where
 
   pub compiles_good : (words : CompileWords) (held mid after : Option Held) (src name : List ℕ)
       (encoding : Encoding) (it : Compiled) (answer : Status)
-      → src ≡ words.src.now → name ≡ words.amx.now → encoding ≡ encoding_of words.compact
+      → src ≡ words.src → name ≡ words.amx → encoding ≡ encoding_of words.compact
       → IsCompiled held src encoding it → mid ≡ held
       → Puts writes it name mid after old new answer
       → Compiles writes words held after old new answer
   compiles_good words held mid after src name encoding it answer e f k made same puts =
       let P : List ℕ → Type 0 = λ n. IsCompiled held n encoding it in
-      let Q : Encoding → Type 0 = λ n. IsCompiled held words.src.now n it in
+      let Q : Encoding → Type 0 = λ n. IsCompiled held words.src n it in
       let R : Option Held → Type 0 = λ h. Puts writes it name h after old new answer in
       let T : List ℕ → Type 0 = λ n. Puts writes it n held after old new answer in
       inr (record {

@@ -16,7 +16,7 @@ use Rattle.amx_image.specs.declared.version.Version.TheVariants.{Live}
 use Rattle.amx_image.specs.Image.{IsImage}
 use Rattle.command_parts.specs.declared.status.Status.{Status}
 use Rattle.command_parts.specs.declared.status.Status.TheVariants as status
-use Rattle.commands.specs.Finishes.{Finishes, cut_off, ended, asleep, Keeps, run_text, stop_text}
+use Rattle.commands.specs.Finishes.{Finishes, cut_off, ended, asleep, Keeps, run_text}
 use Rattle.commands.specs.Finishes.{status_of_end, status_of_stop}
 use Rattle.command_parts.specs.Told.{Told, status_told}
 

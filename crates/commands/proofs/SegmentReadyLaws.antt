@@ -1,7 +1,7 @@
 -- Where a segment fell asleep, its machine can be saved; where a machine was started, it can be
 -- run.
 use Rattle.std.proofs.Common.{◌≡◌, ◌+◌, ◌-◌, ◌*◌, ◌/◌, ◌≤◌, ◌∙◌, ℕ, ℤ, pos, List, [], ◌∷◌, Bool}
-use Rattle.std.proofs.Common.{true, false, cond, Option, None, Some, Ok, IfSome, length, set}
+use Rattle.std.proofs.Common.{true, false, cond, Option, None, Some, IfSome, length, set}
 use Rattle.std.proofs.Common.{nat_le, refl, sym, ap, subst, length-set, arith}
 use Rattle.host_script.specs.declared.script.Script.{Script}
 use Rattle.host_script.specs.Ranges.{IsScript}
@@ -21,9 +21,9 @@ use Rattle.host_run.specs.Stands.{IsAwake, IsLeft, Stands}
 use Rattle.amx_image.specs.declared.version.Version.TheVariants.{Live}
 use Rattle.amx_image.specs.Image.{IsImage}
 use Rattle.command_parts.specs.declared.program.Program.{Program}
-use Rattle.commands.specs.declared.ready_segment.Ready.{Ready}
+use Rattle.commands.specs.declared.ready_segment.ReadySegment.{ReadySegment}
 use Rattle.commands.specs.Prepared.{CanRun, IsPrepared}
-use Rattle.commands.specs.ReadySegment.{IsReady}
+use Rattle.commands.specs.ReadySegment.{IsReadySegment}
 use Rattle.commands.proofs.SizeLaws.{segment_sized, slept}
 
 module _ (script : Script) (old new : Place) (bound count : ℕ)
@@ -83,7 +83,7 @@ started_sized amx address s t e =
     (pushed_all_sized (length s.cells) (pos 0 ∷ cell_of 0 ∷ []) (fresh amx address s) refl)
 
 -- a machine that was started runs the program
-module _ (program : Program) (ready : Ready) (prepared : IsPrepared program ready)
+module _ (program : Program) (ready : ReadySegment) (prepared : IsPrepared program ready)
     (can : CanRun program.file) (script : IsScript program.script)
     (m : Machine) (same : m.amx ≡ ready.machine.amx) (running : m.mode ≡ mode.Running) where
   pub file_is : m.amx ≡ program.file
@@ -91,10 +91,11 @@ module _ (program : Program) (ready : Ready) (prepared : IsPrepared program read
 
   pub is_ready : (address : ℤ) → start_at ready.machine.amx address [] ready.machine.state
       ≡ Some m.state → IsState program.file m.state
-      → IsReady program (record ready { machine = m })
+      → IsReadySegment program (record ready { machine = m })
   is_ready address started state =
       let size = started_sized ready.machine.amx address ready.machine.state m.state started in
       let room = prepared.room in
+      let loaded = ap (λ (it : Machine). length it.state.cells) prepared.machine in
       record {
         awake = subst IsAwake (sym running) tt;
         script = script;
@@ -102,5 +103,5 @@ module _ (program : Program) (ready : Ready) (prepared : IsPrepared program read
             prepared.bound ∙ ap (λ (amx : Amx). bound_of program.script amx.natives) (sym file_is);
         runnable = subst IsRunnable (sym file_is) can.runnable;
         state = subst (λ amx. IsState amx m.state) (sym file_is) state;
-        room = omega (arith, size, room);
+        room = omega (arith, size, loaded, room);
       }

@@ -15,7 +15,7 @@ use Rattle.host_run.specs.declared.end.SessionEnd.TheVariants as session
 use Rattle.command_parts.specs.declared.status.Status.{Status}
 use Rattle.command_parts.specs.declared.status.Status.TheVariants as status
 use Rattle.command_parts.specs.Told.{Told, status_told}
-use Rattle.commands.specs.Finishes.{run_text, stop_text, status_of_stop}
+use Rattle.commands.specs.Finishes.{run_text, stop_line, status_of_stop}
 use Rattle.host_run.specs.Trace.{StopsAs, told_text}
 use Rattle.commands.specs.Played.{TellsTrace}
 
@@ -30,7 +30,7 @@ status_of_session session.SinkFault = status.SinkFault
 
 -- what a session left out of the text
 left_out : (lines : List ℕ) (s : Stop End)
-    → (more : List ℕ) × ((lines ++ host.stop_text s) ++ more ≡ lines ++ stop_text s)
+    → (more : List ℕ) × ((lines ++ host.stop_text s) ++ more ≡ lines ++ stop_line s)
 left_out lines Steps = (codes "steps\n", ap (λ t. t ++ codes "steps\n") (append-nil lines))
 left_out lines Asleep = ([], append-nil (lines ++ []))
 left_out lines (Over_by e) = ([], append-nil (lines ++ host.stop_text (Over_by e)))
@@ -38,13 +38,13 @@ left_out lines (Over_by e) = ([], append-nil (lines ++ host.stop_text (Over_by e
 module _ {S : Type 0} {taken : S → Option (List ℕ)} {faults : S → ℕ} {has_room : S → ℕ → Type 0}
     (t : Traced Config End) (begun out : S) where
   -- all was told, and why it stopped
-  finished : {s : Stop End} {answer : Status} → t.stop ≡ s → host.stop_text s ≡ stop_text s
+  finished : {s : Stop End} {answer : Status} → t.stop ≡ s → host.stop_text s ≡ stop_line s
       → answer ≡ status_of_stop s
       → Said taken faults has_room begun out (told_text t) (Ok tt)
       → TellsTrace t (Said taken faults has_room) begun out answer
   finished e same is said =
       let all : told_text t ≡ run_text t.config t.stop =
-      ap (λ s. lines_of t.config.events ++ s) (ap host.stop_text e ∙ same ∙ ap stop_text (sym e)) in
+      ap (λ s. lines_of t.config.events ++ s) (ap host.stop_text e ∙ same ∙ ap stop_line (sym e)) in
       record { told = Ok tt; written = said_as all said; is = is ∙ ap status_of_stop (sym e) }
 
   -- the sink failed
@@ -96,7 +96,7 @@ module _ {S : Type 0} {taken : S → Option (List ℕ)} {faults : S → ℕ} {ha
       let all : told_text t ++ codes "steps\n" ≡ run_text t.config t.stop =
       ap (λ s. (lines_of t.config.events ++ host.stop_text s) ++ codes "steps\n") e
       ∙ ap (λ x. x ++ codes "steps\n") (append-nil (lines_of t.config.events))
-      ∙ ap (λ s. lines_of t.config.events ++ stop_text s) (sym e) in
+      ∙ ap (λ s. lines_of t.config.events ++ stop_line s) (sym e) in
       record {
         told = line;
         written = said_as all (said_then (subst Q same said) written);

@@ -1,5 +1,5 @@
 -- A segment leaves as many cells as there were, and takes a step before it falls asleep.
-use Rattle.std.proofs.Common.{◌≡◌, ◌+◌, ◌≤◌, ℕ, zero, suc, ℤ, List, [], Bool, true, false, length}
+use Rattle.std.proofs.Common.{◌≡◌, ◌+◌, ◌≤◌, ℕ, zero, suc, ℤ, [], Bool, true, false, length}
 use Rattle.std.proofs.Common.{refl, sym, ◌∙◌, subst, arith}
 use Rattle.host_script.specs.declared.script.Script.{Script}
 use Rattle.host_script.specs.declared.event.End.{End}
@@ -12,10 +12,10 @@ use Rattle.amx_ops.specs.State.{State, Turned}
 use Rattle.amx_ops.specs.States.{IsState}
 use Rattle.amx_ops.specs.Step.{step}
 use Rattle.amx_ops.specs.Moves.{Config, move, moved, arguments, halted_by, name_of}
-use Rattle.amx_ops.specs.Runs.{Moved, Goes, Sleeps, Ends, Stop, Asleep, Segmented, segment}
+use Rattle.amx_ops.specs.Runs.{Moved, Goes, Sleeps, Ends, Asleep, Segmented, segment}
 use Rattle.amx_ops.proofs.KeepsLaws.{keeps_states}
 use Rattle.amx_ops.proofs.RunLaws.{segment-zero, segment-goes, segment-sleeps, segment-ends}
-use Rattle.commands.proofs.NativeSizes.{asked_sized}
+use Rattle.amx_ops.proofs.NativeSizes.{asked_sized}
 use Rattle.commands.proofs.StepSizes.{Sized, step_sized}
 
 -- ---- moves

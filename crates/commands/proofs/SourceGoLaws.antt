@@ -13,12 +13,11 @@ use Rattle.amx_ops.specs.Trace.{Main, address_of}
 use Rattle.command_parts.specs.declared.stop.Stop.{Stop}
 use Rattle.command_parts.specs.ScriptFile.{IsNoScript}
 use Rattle.commands.specs.Made.{NoSource, stop_of}
-use Rattle.commands.specs.declared.go_words.GoWords.{GoWords}
+use Rattle.command_parts.specs.declared.command.GoWords.{GoWords}
 use Rattle.commands.specs.Goes.{NotGood, no_source, no_natives}
 use Rattle.commands.specs.Natives.{HasNatives, LacksNatives}
-use Rattle.commands.specs.ReadyFile.{IsServed, unregistered, no_memory}
-use Rattle.commands.specs.ReadyFile.{NotReady, no_main, no_native}
-use Rattle.commands.specs.ReadyFile.{wants_memory}
+use Rattle.commands.specs.Served.{AreServed, unregistered, no_memory}
+use Rattle.commands.specs.ReadyFile.{NotReady, no_main, no_native, wants_memory}
 use Rattle.commands.specs.Good as good
 use Rattle.commands.specs.Good.{IsFree}
 use Rattle.commands.specs.GoodSource.{GoodSourcesGo}
@@ -53,16 +52,16 @@ module _ (map : Held) where
 
   reads : (words : GoWords) (program : Program) (warnings : List Warning) (script : Script)
       (stop : Stop)
-      → Means (Some map) words.src.now program warnings
-      → HasNatives (Some map) words.script.now script
+      → Means (Some map) words.src program warnings
+      → HasNatives (Some map) words.script script
       → NotGood (Some map) words stop → IsFree stop
   reads words program warnings script stop means natives (no_source none) =
-      source_free words.src.now program warnings stop means none
+      source_free words.src program warnings stop means none
   reads words program warnings script stop means natives (no_natives it made none) =
-      natives_free words.script.now script stop natives none
+      natives_free words.script script stop natives none
 
 starts : (amx : Amx) (script : Script) (stop : Stop) → address_of amx Main ≡ Some amx.entry
-    → IsServed amx script → NotReady amx script stop → IsFree stop
+    → AreServed amx script → NotReady amx script stop → IsFree stop
 starts amx script stop main served (no_main none) = absurd (cc (main, none))
 starts amx script stop main served (no_native cause there (unregistered number first)) =
     absurd (cc (served, first))

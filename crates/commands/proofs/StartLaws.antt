@@ -1,11 +1,10 @@
 -- A start, and the trace from there.
-use Rattle.std.proofs.Common.{◌≡◌, ◌≢◌, ◌∙◌, ℕ, ℤ, pos, List, [], Option, None, Some, Ok, Err}
-use Rattle.std.proofs.Common.{Result, option_and_then, refl, sym, ap, subst, IsTrue, is_some}
+use Rattle.std.proofs.Common.{◌≡◌, ◌∙◌, ℕ, ℤ, pos, List, [], Option, None, Some, Ok, Err}
+use Rattle.std.proofs.Common.{option_and_then, refl, sym, ap, subst}
 use Rattle.pawn_outside.specs.Held.{Held}
 use Rattle.host_script.specs.declared.event.End.{End}
 use Rattle.host_script.specs.declared.event.End.TheVariants as end
 use Rattle.host_script.specs.Text.{end_text}
-use Rattle.amx_ops.specs.declared.amx.Amx.{Amx}
 use Rattle.amx_ops.specs.State.{State}
 use Rattle.amx_ops.specs.Moves.{Config, move}
 use Rattle.amx_ops.specs.Runs.{Stop, Segmented, Traced, Over_by, segment}
@@ -19,13 +18,13 @@ use Rattle.command_parts.specs.declared.status.Status.TheVariants as status
 use Rattle.command_parts.specs.declared.program.Program.{Program}
 use Rattle.host_script.specs.Ranges.{IsScript}
 use Rattle.host_run.specs.Segments.{segment_of}
-use Rattle.commands.specs.declared.ready_segment.Ready.{Ready}
-use Rattle.commands.specs.declared.run_words.RunWords.{RunWords}
+use Rattle.commands.specs.declared.ready_segment.ReadySegment.{ReadySegment}
+use Rattle.command_parts.specs.declared.command.RunWords.{RunWords}
 use Rattle.commands.specs.Entry.{IsEntryOf}
 use Rattle.commands.specs.Finishes.{Finishes, ended, cut_off}
 use Rattle.commands.specs.Prepared.{CanRun, IsPrepared}
-use Rattle.commands.specs.ReadySegment.{IsReady}
-use Rattle.commands.specs.Runs.{RunsFile, trace_of}
+use Rattle.commands.specs.ReadySegment.{IsReadySegment}
+use Rattle.commands.specs.Runs.{RunsEntry, program_trace}
 use Rattle.command_parts.specs.Told.{Told, Writes, status_told}
 use Rattle.commands.proofs.EntryLaws.{started_is}
 use Rattle.commands.proofs.SegmentReadyLaws.{is_ready}
@@ -73,7 +72,8 @@ module _ {S : Type 0} (writes : Writes S) (held : Option Held) (image : List ℕ
 
   pub ends_at_once : (told : Told) (answer : Status) → start_at program.file address [] idle ≡ None
       → writes old new (end_text (end.Error (pos 3))) told → answer ≡ status_told status.Ended told
-      → (let trace = trace_of program address bound in IsFinish held trace.stop trace.config answer)
+      → (let trace = program_trace program address bound in IsFinish held trace.stop
+      trace.config answer)
   ends_at_once told answer e line is =
       ends_by (start_at program.file address [] idle) told answer e line is
 
@@ -93,14 +93,14 @@ module _ {S : Type 0} (writes : Writes S) (held : Option Held) (image : List ℕ
   pub ends_so : (after : Option Held) (answer : Status) (s : State)
       → start_at program.file address [] idle ≡ Some s
       → IsFinish after (made s).stop (made s).config answer
-      → (let trace = trace_of program address bound in IsFinish after trace.stop
+      → (let trace = program_trace program address bound in IsFinish after trace.stop
       trace.config answer)
   ends_so after answer s e it =
       segment_by (start_at program.file address [] idle) after answer s e it
 
 -- ---- a machine of a program
 
-module _ (program : Program) (ready : Ready) (name : List ℕ) (number : ℤ)
+module _ (program : Program) (ready : ReadySegment) (name : List ℕ) (number : ℤ)
     (prepared : IsPrepared program ready)
     (there : IsEntryOf program.file name (Some number)) where
   at_there : address_by ready.machine.amx number ≡ Some there.0
@@ -116,7 +116,7 @@ module _ (program : Program) (ready : Ready) (name : List ℕ) (number : ℤ)
     from_there = starts_there ready.machine number there.0 at_there (Unit {0}) tt m begins
 
     pub ready_at : CanRun program.file → IsScript program.script
-        → IsReady program (record ready { machine = m })
+        → IsReadySegment program (record ready { machine = m })
     ready_at can script =
         let state =
         started_is program.file (loaded program.file program.file.room) m.state there.0
@@ -132,66 +132,68 @@ module _ (program : Program) (ready : Ready) (name : List ℕ) (number : ℤ)
         begins.1 ∙ ap (λ (it : Machine). it.amx) prepared.machine in
         let from : ℕ → Config = λ p. record { state = m.state; position = p; events = [] } in
         ap (λ amx. segment (move amx program.script) bound 0 (from ready.at)) file
-        ∙ ap (λ p. segment (move program.file program.script) bound 0 (from p)) prepared.position
+        ∙ ap (λ p. segment (move program.file program.script) bound 0 (from p)) prepared.position_is
 
     pub start_is : start_at program.file there.0 [] (loaded program.file program.file.room)
         ≡ Some m.state
     start_is = idle_there (Some m.state) from_there
 
-pub ready_there : (program : Program) (ready : Ready) (name : List ℕ) (number : ℤ)
+pub ready_there : (program : Program) (ready : ReadySegment) (name : List ℕ) (number : ℤ)
     → IsPrepared program ready → CanRun program.file
     → IsScript program.script → IsEntryOf program.file name (Some number) → (m : Machine)
     → StartsSo {T = Unit {0}} ready.machine number [] (Ok tt) m
-    → IsReady program (record ready { machine = m })
+    → IsReadySegment program (record ready { machine = m })
 ready_there program ready name number prepared can script there m begins =
     ready_at program ready name number prepared there m begins can script
 
-pub finishes_there : {S : Type 0} (writes : Writes S) (program : Program) (ready : Ready)
+pub finishes_there : {S : Type 0} (writes : Writes S) (program : Program) (ready : ReadySegment)
     (words : RunWords) (number : ℤ)
     (prepared : IsPrepared program ready)
-    (there : IsEntryOf program.file words.entry.now (Some number)) (m : Machine)
+    (there : IsEntryOf program.file words.entry (Some number)) (m : Machine)
     → StartsSo {T = Unit {0}} ready.machine number [] (Ok tt) m → (image : List ℕ)
-    → image ≡ words.image.now → (held after : Option Held) (old new : S) (answer : Status)
+    → image ≡ words.image → (held after : Option Held) (old new : S) (answer : Status)
     →
-    (let made = segment_of program.script (record { machine = m; position = ready.at }) words.steps in
+    (let made = segment_of program.script (record { machine = m; position = ready.at })
+    words.steps in
     Finishes writes held after image program.digest made.stop made.config old new answer)
-    → RunsFile writes program words held after old new answer
+    → RunsEntry writes program words held after old new answer
 finishes_there writes program ready words number prepared there m begins image named held after old
     new answer it =
     let P : Segmented Config End → Type 0 =
-    λ made. Finishes writes held after words.image.now program.digest made.stop made.config
+    λ made. Finishes writes held after words.image program.digest made.stop made.config
     old new answer in
     let Q : List ℕ → Type 0 = λ i.
-    (let made = segment_of program.script (record { machine = m; position = ready.at }) words.steps in
+    (let made = segment_of program.script (record { machine = m; position = ready.at })
+    words.steps in
     Finishes writes held after i program.digest made.stop made.config old new answer) in
     let same =
-    segment_is program ready words.entry.now number prepared there m begins words.steps in
+    segment_is program ready words.entry number prepared there m begins words.steps in
     record {
       address = there.0;
       entry = there.1;
       served = prepared.served;
       finishes =
-          ends_so writes held words.image.now program there.0 words.steps old new after
+          ends_so writes held words.image program there.0 words.steps old new after
           answer m.state
-          (start_is program ready words.entry.now number prepared there m begins)
+          (start_is program ready words.entry number prepared there m begins)
           (subst P same (subst Q named it));
     }
 
-pub finishes_at_once : {S : Type 0} (writes : Writes S) (program : Program) (ready : Ready)
+pub finishes_at_once : {S : Type 0} (writes : Writes S) (program : Program) (ready : ReadySegment)
     (words : RunWords) (number : ℤ)
     (prepared : IsPrepared program ready)
-    (there : IsEntryOf program.file words.entry.now (Some number)) (f : StartFault)
+    (there : IsEntryOf program.file words.entry (Some number)) (f : StartFault)
     (m : Machine)
     → StartsSo {T = Unit {0}} ready.machine number [] (Err f) m → (code : ℤ) → code ≡ error_of f
     → (held : Option Held) (old new : S) (told : Told)
     (answer : Status) → writes old new (end_text (end.Error code)) told
     → answer ≡ status_told status.Ended told
-    → RunsFile writes program words held held old new answer
+    → RunsEntry writes program words held held old new answer
 finishes_at_once {S} writes program ready words number prepared there f m failed code e held old new
     told answer line is =
     let none =
     no_room ready.machine number there.0
-    (at_there program ready words.entry.now number prepared there)
+    (at_there program ready words.entry number prepared there)
     (Unit {0}) f m failed in
     let P : ℤ → Type 0 = λ z. writes old new (end_text (end.Error z)) told in
     record {
@@ -199,7 +201,7 @@ finishes_at_once {S} writes program ready words number prepared there f m failed
       entry = there.1;
       served = prepared.served;
       finishes =
-          ends_at_once writes held words.image.now program there.0 words.steps old new told answer
-          (idle_there program ready words.entry.now number prepared there None none.0)
+          ends_at_once writes held words.image program there.0 words.steps old new told answer
+          (idle_there program ready words.entry number prepared there None none.0)
           (subst P (e ∙ none.1) line) is;
     }

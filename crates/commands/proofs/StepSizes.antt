@@ -2,11 +2,11 @@
 use Rattle.std.proofs.Common.{◌≡◌, ◌+◌, ◌-◌, ◌*◌, ◌/◌, ◌%◌, ◌≤◌, ◌==◌, ◌&&◌, ◌||◌, ◌++◌, ℕ, ℤ, pos}
 use Rattle.std.proofs.Common.{negsuc, ◌+ℤ◌, List, Bool, true, false, cond, not as no, Option, None}
 use Rattle.std.proofs.Common.{Some, length, take, drop, replicate, set, nat_le, nat_lt, refl, ◌∙◌}
-use Rattle.std.proofs.Common.{arith, length-append, length-drop, length-set}
+use Rattle.std.proofs.Common.{arith, length-set}
 use Rattle.std.proofs.lemmas.Bool.Decides.{nat_tests}
-use Rattle.std.proofs.lemmas.List.{length-replicate, length-take}
+use Rattle.std.proofs.lemmas.List.{length-replicate}
 use Rattle.std.proofs.lemmas.List.FromFn.{length-map-range_with_len}
-use Rattle.pawn_cells.specs.Cells.{bits_of, cell_of, wrapped_sum, add, sub, mul, shl, less, less_eq}
+use Rattle.pawn_cells.specs.Cells.{bits_of, cell_of, add, mul, shl, less, less_eq}
 use Rattle.pawn_cells.specs.Cells.{equal, floor_div, floor_rem, unsigned_div, unsigned_rem}
 use Rattle.pawn_cells.specs.Cells.{unsigned_less, unsigned_less_eq, is_zero}
 use Rattle.amx_ops.specs.declared.amx.Amx.{Amx}
@@ -16,12 +16,12 @@ use Rattle.amx_ops.specs.declared.op.Op.TheVariants as op
 use Rattle.amx_ops.specs.Table.{op_of, is_number}
 use Rattle.amx_ops.specs.Instructions.{fetched, is_start}
 use Rattle.amx_ops.specs.State.{State, Turned, Goes, Errs, Halts, Asks, stp, first_hea, cell_at}
-use Rattle.amx_ops.specs.State.{push, pop, with_margin, swept}
+use Rattle.amx_ops.specs.State.{push, pop, with_margin}
 use Rattle.amx_ops.specs.States.{IsState}
 use Rattle.amx_ops.specs.Access.{is_live, is_live_part, are_live, load, store, raise, in_frame}
 use Rattle.amx_ops.specs.Access.{load_part, store_part, part, with_part, bytes_at, moved}
 use Rattle.amx_ops.specs.Access.{cell_moved, copy, compare, order_of, fill}
-use Rattle.amx_ops.specs.Effects.{at_next, jump, jump_if, divide, stack_to, heap_to, when_multiple}
+use Rattle.amx_ops.specs.Effects.{at_next, jump, jump_if, stack_to, heap_to, when_multiple}
 use Rattle.amx_ops.specs.Effects.{set_register, returned, halted}
 use Rattle.amx_ops.specs.Step.{act, act_by, act_on, step}
 use Rattle.amx_ops.proofs.StateLaws.{length-put}

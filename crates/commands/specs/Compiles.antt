@@ -11,7 +11,7 @@ use Rattle.command_parts.specs.declared.stop.Stop.{Stop}
 use Rattle.command_parts.specs.Put.{NotPut}
 use Rattle.command_parts.specs.Told.{Told, Writes, TellsStop, status_told}
 use Rattle.commands.specs.Runs.{IsStopped}
-use Rattle.commands.specs.declared.compile_words.CompileWords.{CompileWords}
+use Rattle.command_parts.specs.declared.command.CompileWords.{CompileWords}
 use Rattle.commands.specs.Lines.{compile_text}
 use Rattle.commands.specs.Made.{NoSource}
 
@@ -49,12 +49,12 @@ Puts writes it name held after old new answer =
 pub record CompilesGood {S : Type 0} (writes : Writes S) (words : CompileWords)
     (held after : Option Held) (old new : S) (answer : Status) : Type 0 where
   pub it : Compiled
-  pub made : IsCompiled held words.src.now (encoding_of words.compact) it
-  pub puts : Puts writes it words.amx.now held after old new answer
+  pub made : IsCompiled held words.src (encoding_of words.compact) it
+  pub puts : Puts writes it words.amx held after old new answer
 
 -- the file at AMX stays as it was where there is no good source
 abbrev pub Compiles : {S : Type 0} → Writes S → CompileWords → Option Held → Option Held → S → S
     → Status → Type 0
 Compiles writes words held after old new answer =
-    IsStopped writes (NoSource held words.src.now) held after old new answer
+    IsStopped writes (NoSource held words.src) held after old new answer
     ⊎ CompilesGood writes words held after old new answer

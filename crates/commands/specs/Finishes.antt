@@ -17,14 +17,14 @@ use Rattle.command_parts.specs.Put.{NotPut}
 use Rattle.command_parts.specs.Told.{Writes, TellsStop}
 
 -- the line of an end; a sleep has had its own
-abbrev pub stop_text : Stop End → List ℕ
-stop_text Steps = codes "steps\n"
-stop_text Asleep = []
-stop_text (Over_by e) = end_text e
+abbrev pub stop_line : Stop End → List ℕ
+stop_line Steps = codes "steps\n"
+stop_line Asleep = []
+stop_line (Over_by e) = end_text e
 
 -- the lines of what was shown, and behind them that of the end
 abbrev pub run_text : Config → Stop End → List ℕ
-run_text c stop = lines_of c.events ++ stop_text stop
+run_text c stop = lines_of c.events ++ stop_line stop
 
 -- the status of an end; a machine has no stray one
 abbrev pub status_of_end : End → Status

@@ -14,25 +14,25 @@ use Rattle.commands.specs.Compiles.{Unput}
 use Rattle.commands.specs.Lines.{warning_lines}
 use Rattle.commands.specs.Made.{NoSource}
 use Rattle.commands.specs.declared.goes.Prepared.{Prepared}
-use Rattle.commands.specs.declared.go_words.GoWords.{GoWords}
+use Rattle.command_parts.specs.declared.command.GoWords.{GoWords}
 use Rattle.commands.specs.Meant.{IsMeant}
 use Rattle.commands.specs.Natives.{HasNatives, LacksNatives}
-use Rattle.commands.specs.ReadyFile.{IsServed}
+use Rattle.commands.specs.Served.{AreServed}
 use Rattle.commands.specs.RunsFile.{RunsFile}
 
 -- the source of a name is compiled
 abbrev pub IsSource : Option Held → GoWords → Compiled → Type 0
-IsSource held words it = IsCompiled held words.src.now Plain it
+IsSource held words it = IsCompiled held words.src Plain it
 
 -- the source and the script are good
 pub record IsGood (held : Option Held) (words : GoWords) (it : Prepared) : Type 0 where
   pub made : IsSource held words it.compiled
-  pub natives : HasNatives held words.script.now it.script
+  pub natives : HasNatives held words.script it.script
 
 -- the script is looked for behind a good source
 pub data NotGood (held : Option Held) (words : GoWords) (stop : Stop) : Type 0 where
-  no_source : NoSource held words.src.now stop → NotGood held words stop
-  no_natives : (it : Compiled) → IsSource held words it → LacksNatives held words.script.now stop
+  no_source : NoSource held words.src stop → NotGood held words stop
+  no_natives : (it : Compiled) → IsSource held words it → LacksNatives held words.script stop
       → NotGood held words stop
 
 -- ---- the file that is put
@@ -44,7 +44,7 @@ behind front writes = λ old new text told. writes old new (front ++ text) told
 -- it is put, the warnings are told, and what was put is run
 pub record RunsPut {S : Type 0} (writes : Writes S) (words : GoWords) (amx : Amx) (it : Prepared)
     (held after : Option Held) (old new : S) (answer : Status) : Type 0 where
-  pub kept : after ≡ with_put held words.amx.now it.compiled.bytes
+  pub kept : after ≡ with_put held words.amx it.compiled.bytes
   pub runs : RunsFile (behind (warning_lines it.compiled.warnings) writes) amx it.script words.steps
       words.sleeps old new answer
 
@@ -52,7 +52,7 @@ pub record RunsPut {S : Type 0} (writes : Writes S) (words : GoWords) (amx : Amx
 abbrev pub MayPut : {S : Type 0} → Writes S → GoWords → Amx → Prepared → Option Held → Option Held
     → S → S → Status → Type 0
 MayPut writes words amx it held after old new answer =
-    Unput writes words.amx.now held after old new answer
+    Unput writes words.amx held after old new answer
     ⊎ RunsPut writes words amx it held after old new answer
 
 -- ---- the whole command
@@ -63,7 +63,7 @@ pub record GoesGood {S : Type 0} (writes : Writes S) (words : GoWords) (held aft
   pub prepared : Prepared
   pub good : IsGood held words prepared
   pub meant : (function : ℕ) → good.made.program.entry ≡ Some function
-      → IsServed good.made.has.amx prepared.script
+      → AreServed good.made.has.amx prepared.script
       → IsMeant good.made.program function good.made.has.amx prepared.script words.steps
       words.sleeps
   pub puts : MayPut writes words good.made.has.amx prepared held after old new answer
@@ -78,9 +78,9 @@ Goes writes words held after old new answer =
 -- ---- what the calls answer
 
 -- the source and the script are good, or one of them isn't
-abbrev pub IsPrepared : Option Held → GoWords → Result Prepared Stop → Type 0
-IsPrepared held words (Ok it) = IsGood held words it
-IsPrepared held words (Err stop) = NotGood held words stop
+abbrev pub Prepares : Option Held → GoWords → Result Prepared Stop → Type 0
+Prepares held words (Ok it) = IsGood held words it
+Prepares held words (Err stop) = NotGood held words stop
 
 -- of bytes that are a valid file
 abbrev pub Makes : {S : Type 0} → Writes S → GoWords → Prepared → Option Held → Option Held → S → S

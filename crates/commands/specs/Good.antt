@@ -6,9 +6,9 @@ use Rattle.command_parts.specs.declared.stop.Stop.{Stop}
 use Rattle.command_parts.specs.declared.stop.Stop.TheVariants.{FileFault, NoMemory}
 use Rattle.command_parts.specs.declared.read.TheConstants.{FILE_LIMIT}
 use Rattle.command_parts.specs.Unread.{IsRead}
-use Rattle.command_parts.specs.ValidFile.{IsValidFile}
+use Rattle.command_parts.specs.ValidFile.{IsValidFile, NoFile}
 use Rattle.command_parts.specs.declared.program.Program.{Program}
-use Rattle.command_parts.specs.Program.{IsProgram, NoFile, NoProgram}
+use Rattle.command_parts.specs.Program.{IsProgram, NoProgram}
 use Rattle.commands.specs.Entry.{address_named}
 use Rattle.commands.specs.Prepared.{IsServed, NoStart}
 

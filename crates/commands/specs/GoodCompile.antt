@@ -7,7 +7,7 @@ use Rattle.pawn_front.specs.declared.compiled.Warning.{Warning}
 use Rattle.pawn_front.specs.Means.{Means}
 use Rattle.command_parts.specs.declared.status.Status.{Status}
 use Rattle.command_parts.specs.Told.{Writes}
-use Rattle.commands.specs.declared.compile_words.CompileWords.{CompileWords}
+use Rattle.command_parts.specs.declared.command.CompileWords.{CompileWords}
 use Rattle.commands.specs.Compiles.{Compiles, CompilesGood}
 use Rattle.commands.specs.Runs.{IsStopped}
 use Rattle.commands.specs.Good.{IsFree}
@@ -16,7 +16,7 @@ use Rattle.commands.specs.Good.{IsFree}
 pub record GoodIsCompiled {S : Type 0} (writes : Writes S) : Type 0 where
   pub done : (map : Held) (after : Option Held) (words : CompileWords) (program : Program)
       (warnings : List Warning) (old new : S) (answer : Status)
-      → Means (Some map) words.src.now program warnings
+      → Means (Some map) words.src program warnings
       → Compiles writes words (Some map) after old new answer
       → IsStopped writes IsFree (Some map) after old new answer
       ⊎ CompilesGood writes words (Some map) after old new answer

@@ -12,7 +12,7 @@ use Rattle.command_parts.specs.Told.{Writes, TellsStop}
 use Rattle.commands.specs.Compiles.{Unput}
 use Rattle.commands.specs.Lines.{warning_lines}
 use Rattle.commands.specs.Runs.{IsStopped}
-use Rattle.commands.specs.declared.go_words.GoWords.{GoWords}
+use Rattle.command_parts.specs.declared.command.GoWords.{GoWords}
 use Rattle.commands.specs.Goes.{Goes, GoesGood, behind}
 use Rattle.commands.specs.Natives.{HasNatives}
 use Rattle.commands.specs.Played.{TellsTrace, trace_of}
@@ -32,8 +32,8 @@ pub record IsServedSource (held : Held) (src : List ℕ) (script : Script) : Typ
 pub record IsGone {S : Type 0} (writes : Writes S) (words : GoWords) (held after : Option Held)
     (old new : S) (answer : Status) : Type 0 where
   pub it : GoesGood writes words held after old new answer
-  pub comes : Unput writes words.amx.now held after old new answer
-      ⊎ ((after ≡ with_put held words.amx.now it.prepared.compiled.bytes)
+  pub comes : Unput writes words.amx held after old new answer
+      ⊎ ((after ≡ with_put held words.amx it.prepared.compiled.bytes)
       × (TellsStop NoMemory (behind (warning_lines it.prepared.compiled.warnings) writes) old
       new answer
       ⊎ TellsTrace (trace_of it.good.made.has.amx it.prepared.script words.steps words.sleeps)
@@ -43,7 +43,7 @@ pub record IsGone {S : Type 0} (writes : Writes S) (words : GoWords) (held after
 pub record GoodIsGone {S : Type 0} (writes : Writes S) : Type 0 where
   pub done : (map : Held) (after : Option Held) (words : GoWords) (script : Script) (old new : S)
       (answer : Status)
-      → IsServedSource map words.src.now script → HasNatives (Some map) words.script.now script
+      → IsServedSource map words.src script → HasNatives (Some map) words.script script
       → Goes writes words (Some map) after old new answer
       → IsStopped writes IsFree (Some map) after old new answer
       ⊎ IsGone writes words (Some map) after old new answer

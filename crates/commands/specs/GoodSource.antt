@@ -10,10 +10,11 @@ use Rattle.amx_ops.specs.declared.amx.Amx.{Amx}
 use Rattle.amx_ops.specs.Trace.{Main, address_of}
 use Rattle.command_parts.specs.declared.stop.Stop.{Stop}
 use Rattle.commands.specs.Made.{NoSource}
-use Rattle.commands.specs.declared.go_words.GoWords.{GoWords}
+use Rattle.command_parts.specs.declared.command.GoWords.{GoWords}
 use Rattle.commands.specs.Goes.{NotGood}
 use Rattle.commands.specs.Natives.{HasNatives}
-use Rattle.commands.specs.ReadyFile.{IsServed, NotReady}
+use Rattle.commands.specs.ReadyFile.{NotReady}
+use Rattle.commands.specs.Served.{AreServed}
 use Rattle.commands.specs.Good.{IsFree}
 
 -- over files that tell what they hold
@@ -24,10 +25,10 @@ pub record GoodSourcesGo : Type 0 where
   -- and the script that is named is one
   pub read : (map : Held) (words : GoWords) (program : Program) (warnings : List Warning)
       (script : Script) (stop : Stop)
-      → Means (Some map) words.src.now program warnings
-      → HasNatives (Some map) words.script.now script
+      → Means (Some map) words.src program warnings
+      → HasNatives (Some map) words.script script
       → NotGood (Some map) words stop → IsFree stop
   -- a main that is there and natives that are served stop no start
   pub starts : (amx : Amx) (script : Script) (stop : Stop) → address_of amx Main ≡ Some amx.entry
-      → IsServed amx script
+      → AreServed amx script
       → NotReady amx script stop → IsFree stop

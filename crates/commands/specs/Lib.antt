@@ -21,4 +21,5 @@ pub mod Restored
 pub mod Resumes
 pub mod Runs
 pub mod RunsFile
-pub use Rattle.pawn_front.specs as PawnFront
+pub mod Served
+pub mod Wakes

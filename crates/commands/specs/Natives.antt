@@ -5,7 +5,7 @@ use Rattle.host_script.specs.declared.script.Script.{Script}
 use Rattle.host_script.specs.Script.{plain}
 use Rattle.command_parts.specs.declared.stop.Stop.{Stop}
 use Rattle.command_parts.specs.declared.stop.Stop.TheVariants.{NoMemory}
-use Rattle.command_parts.specs.Program.{IsScriptNamed, NoScript}
+use Rattle.command_parts.specs.ScriptFile.{IsScriptNamed, NoScript}
 
 -- the script is there
 abbrev pub HasNatives : Option Held → Option (List ℕ) → Script → Type 0

@@ -8,14 +8,14 @@ use Rattle.host_run.specs.Segments.{Place}
 use Rattle.host_run.specs.Stands.{IsAwake}
 use Rattle.amx_image.specs.declared.place.TheConstants.{CELLS}
 use Rattle.command_parts.specs.declared.program.Program.{Program}
-use Rattle.commands.specs.declared.ready_segment.Ready.{Ready}
+use Rattle.commands.specs.declared.ready_segment.ReadySegment.{ReadySegment}
 
 -- where its segment begins
-abbrev pub place_of : Ready → Place
+abbrev pub place_of : ReadySegment → Place
 place_of ready = record { machine = ready.machine; position = ready.at }
 
 -- it is running or at a sleep, natives are bound to the script, and there is room for an image
-pub record IsReady (program : Program) (ready : Ready) : Type 0 where
+pub record IsReadySegment (program : Program) (ready : ReadySegment) : Type 0 where
   pub awake : IsAwake ready.machine.mode
   pub script : IsScript program.script
   pub bound : ready.bound ≡ bound_of program.script ready.machine.amx.natives

@@ -20,7 +20,7 @@ use Rattle.commands.specs.Finishes.{Finishes}
 use Rattle.commands.specs.Prepared.{IsServed, Unserved}
 use Rattle.commands.specs.Runs.{IsStopped}
 use Rattle.commands.specs.declared.resumes.TheConstants.{IMAGE_LIMIT}
-use Rattle.commands.specs.declared.resume_words.ResumeWords.{ResumeWords}
+use Rattle.command_parts.specs.declared.command.ResumeWords.{ResumeWords}
 use Rattle.commands.specs.ImageLine.{TellsImage}
 use Rattle.commands.specs.Restored.{IsImageOf}
 
@@ -38,7 +38,7 @@ pub record GoesOn {S : Type 0} (writes : Writes S) (program : Program) (words : 
     (old new : S) (answer : Status) : Type 0 where
   pub served : IsServed program
   pub finishes : let made = segment_from program s position words.steps in
-      Finishes writes held after words.image.now program.digest made.stop made.config old new answer
+      Finishes writes held after words.image program.digest made.stop made.config old new answer
 
 -- it goes on, or a native isn't served
 abbrev pub ResumesState : {S : Type 0} → Writes S → Program → ResumeWords → State → ℕ → Option Held
@@ -87,20 +87,20 @@ ResumesImage writes program words bytes held after old new answer =
 abbrev pub ResumesProgram : {S : Type 0} → Writes S → Program → ResumeWords → Option Held
     → Option Held → S → S → Status → Type 0
 ResumesProgram writes program words held after old new answer =
-    IsStopped writes (Unread held words.image.now IMAGE_LIMIT) held after old new answer
-    ⊎ IsRead held words.image.now IMAGE_LIMIT
+    IsStopped writes (Unread held words.image IMAGE_LIMIT) held after old new answer
+    ⊎ IsRead held words.image IMAGE_LIMIT
     (λ bytes. ResumesImage writes program words bytes held after old new answer)
 
 -- its files are good, and it resumes what they are
 pub record ResumesGood {S : Type 0} (writes : Writes S) (words : ResumeWords)
     (held after : Option Held) (old new : S) (answer : Status) : Type 0 where
   pub program : Program
-  pub good : IsProgram held words.amx.now words.script.now program
+  pub good : IsProgram held words.amx words.script program
   pub resumes : ResumesProgram writes program words held after old new answer
 
 -- nothing is put where the file or the script isn't good
 abbrev pub Resumes : {S : Type 0} → Writes S → ResumeWords → Option Held → Option Held → S → S
     → Status → Type 0
 Resumes writes words held after old new answer =
-    IsStopped writes (NoProgram held words.amx.now words.script.now) held after old new answer
+    IsStopped writes (NoProgram held words.amx words.script) held after old new answer
     ⊎ ResumesGood writes words held after old new answer

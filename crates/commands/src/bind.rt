@@ -1,26 +1,25 @@
-ghost use Rattle.std.specs.Prelude.{◌≡◌};
+ghost use Rattle.std.specs.Prelude.{◌≡◌, ◌<◌, ◌^◌, length};
 ghost use Rattle.host_script.specs.Ranges.{IsScript};
-ghost use Rattle.amx_format.specs.Limits.{IsWithinLimits};
 ghost use Rattle.amx_ops.specs.Moves.{name_of};
-ghost use Rattle.command_parts.specs.Unread.{IsStopOf};
-ghost use Rattle.commands.specs.Prepared.{IsBound};
+ghost use Rattle.commands.specs.Served.{AreBound};
 
 use amx_ops::Record;
-use command_parts::{Program, Stop};
+use amx_verify::Verified;
+use command_parts::{Stop, unregistered};
 use host_run::{BindFault, Bound, bind};
-use pawn_base::{Bytes, Memory};
+use host_script::Script;
 use std::alloc::Global;
 
-/// Binds the natives of a program's file to its script.
-pub fn bind_natives(alloc: Global, program: &Program) -> Result<Bound, Stop>
-    requires limits { IsWithinLimits program.now.file }
-    requires script { IsScript program.now.script }
-    ensures { IsBound program.now result }
+/// Binds the natives of a file to a script.
+pub fn bind_natives(alloc: Global, file: &Verified, script: &Script) -> Result<Bound, Stop>
+    requires script { IsScript script.now }
+    requires natives { length file.now.natives < 2 ^ 31 }
+    ensures { AreBound file.now script.now result }
 {
-    match bind(alloc, &program.file, &program.script) {
+    match bind(alloc, file, script) {
         Ok(bound) => Ok(bound),
         Err(BindFault::Unregistered(number)) => {
-            let natives = program.file.amx().natives.as_slice();
+            let natives = file.amx().natives.as_slice();
             Err(unregistered(alloc, name_at(natives, number)))
         }
         Err(BindFault::Memory) => Err(Stop::NoMemory),
@@ -34,15 +33,5 @@ fn name_at(natives: &[Record], number: u32) -> &[u8]
     match natives.get(number as usize) {
         None => b"",
         Some(native) => native.name.as_slice(),
-    }
-}
-
-/// The stop at a native that isn't listed.
-fn unregistered(alloc: Global, name: &[u8]) -> Stop
-    ensures { IsStopOf (Stop.Unregistered name.now) result }
-{
-    match Bytes::from_slice(alloc, name) {
-        Ok(name) => Stop::Unregistered(name),
-        Err(Memory) => Stop::NoMemory,
     }
 }

@@ -4,10 +4,9 @@ ghost use Rattle.command_parts.specs.Calls.{CommandCalls};
 ghost use Rattle.commands.specs.Compiles.{Compiles, Puts, encoding_of};
 ghost use Rattle.commands.specs.Lines.{compile_text};
 
-use super::compile_words::CompileWords;
 use super::lines::{say_ok, say_warnings};
 use super::sources::compiled_source;
-use command_parts::{Status, put, tell_stop, told};
+use command_parts::{CompileWords, Status, put, tell_stop, told};
 use pawn_front::{Compiled, Encoding};
 use pawn_outside::{Files, Sink, SinkFault};
 use std::alloc::Global;
@@ -15,11 +14,11 @@ use std::alloc::Global;
 /// Compiles a source, puts its file, and tells its warnings and the bytes that were put.
 pub fn compile<F: Files, S: Sink>(
     alloc: Global,
-    words: CompileWords<'_>,
+    words: &CompileWords,
     files: &mut F,
     out: &mut S,
 ) -> Status
-    ensures answer { Compiles (Said S.taken S.faults S.has_room) words.entry (F.held files.old)
+    ensures answer { Compiles (Said S.taken S.faults S.has_room) words.now (F.held files.old)
         (F.held files.new) out.old out.new result }
     ensures calls { CommandCalls F.faults F.never_fails files.old files.new result }
 {

@@ -6,16 +6,15 @@ ghost use Rattle.pawn_outside.specs.Said.{Said};
 ghost use Rattle.command_parts.specs.ValidFile.{IsValidFile};
 ghost use Rattle.command_parts.specs.Calls.{CommandCalls};
 ghost use Rattle.commands.specs.Lines.{warning_lines};
-ghost use Rattle.commands.specs.Goes.{Goes, IsPrepared, Makes, behind};
+ghost use Rattle.commands.specs.Goes.{Goes, Makes, Prepares, behind};
 ghost use Rattle.commands.specs.RunsFile.{RunsFile};
 
-use super::go_words::GoWords;
 use super::lines::say_warnings;
 use super::natives::natives;
 use super::play::run_file;
 use super::sources::compiled_source;
 use amx_format::Encoding;
-use command_parts::{Status, Stop, put, tell_stop, valid_file};
+use command_parts::{GoWords, Status, Stop, put, tell_stop, valid_file};
 use pawn_front::Compiled;
 use pawn_outside::{Files, Sink, SinkFault};
 use script_reader::Script;
@@ -30,13 +29,8 @@ struct Prepared {
 
 /// Compiles a source, reads a script, puts the source's file, and runs the bytes that were put,
 /// going on behind sleeps.
-pub fn go<F: Files, S: Sink>(
-    alloc: Global,
-    words: GoWords<'_>,
-    files: &mut F,
-    out: &mut S,
-) -> Status
-    ensures answer { Goes (Said S.taken S.faults S.has_room) words.entry (F.held files.old)
+pub fn go<F: Files, S: Sink>(alloc: Global, words: &GoWords, files: &mut F, out: &mut S) -> Status
+    ensures answer { Goes (Said S.taken S.faults S.has_room) words.now (F.held files.old)
         (F.held files.new) out.old out.new result }
     ensures calls { CommandCalls F.faults F.never_fails files.old files.new result }
 {
@@ -47,14 +41,14 @@ pub fn go<F: Files, S: Sink>(
 }
 
 /// Compiles a source, then reads a script.
-fn prepare<F: Files>(alloc: Global, words: GoWords<'_>, files: &mut F) -> Result<Prepared, Stop>
+fn prepare<F: Files>(alloc: Global, words: &GoWords, files: &mut F) -> Result<Prepared, Stop>
     ensures calls { OnlyRead F.held F.faults F.never_fails files.old files.new
         (result ≡ Err Stop.FileFault) }
-    ensures answer { IsPrepared (F.held files.old) words.entry result }
+    ensures answer { Prepares (F.held files.old) words.now result }
     ensures ranges { IfOk result (λ it. IsScript it.script) }
 {
     let compiled = compiled_source(alloc, words.src.as_str(), Encoding::Plain, files)?;
-    let script = natives(alloc, words.script, files)?;
+    let script = natives(alloc, &words.script, files)?;
     Ok(Prepared { compiled, script })
 }
 
@@ -62,12 +56,12 @@ fn prepare<F: Files>(alloc: Global, words: GoWords<'_>, files: &mut F) -> Result
 fn make<F: Files, S: Sink>(
     alloc: Global,
     prepared: &Prepared,
-    words: GoWords<'_>,
+    words: &GoWords,
     files: &mut F,
     out: &mut S,
 ) -> Status
     requires script { IsScript prepared.now.script }
-    ensures answer { Makes (Said S.taken S.faults S.has_room) words.entry prepared.now
+    ensures answer { Makes (Said S.taken S.faults S.has_room) words.now prepared.now
         (F.held files.old) (F.held files.new) out.old out.new result }
     ensures calls { CommandCalls F.faults F.never_fails files.old files.new result }
 {
@@ -82,19 +76,14 @@ fn make<F: Files, S: Sink>(
 }
 
 /// Writes the lines of the warnings, and runs the file behind them.
-fn tell_and_run<S: Sink>(
-    alloc: Global,
-    prepared: &Prepared,
-    words: GoWords<'_>,
-    out: &mut S,
-) -> Status
+fn tell_and_run<S: Sink>(alloc: Global, prepared: &Prepared, words: &GoWords, out: &mut S) -> Status
     requires script { IsScript prepared.now.script }
 
     // Of bytes that are a valid file.
     ensures answer { (amx : Amx) → IsValidFile prepared.now.compiled.bytes amx →
         RunsFile (behind (warning_lines prepared.now.compiled.warnings)
-        (Said S.taken S.faults S.has_room)) amx prepared.now.script words.entry.steps
-        words.entry.sleeps out.old out.new result }
+        (Said S.taken S.faults S.has_room)) amx prepared.now.script words.now.steps
+        words.now.sleeps out.old out.new result }
     ensures fault { ¬ (result ≡ Status.FileFault) }
 {
     match say_warnings(prepared.compiled.warnings.as_slice(), out) {
@@ -104,24 +93,17 @@ fn tell_and_run<S: Sink>(
 }
 
 /// Runs the file that bytes are.
-fn run_bytes<S: Sink>(alloc: Global, prepared: &Prepared, words: GoWords<'_>, out: &mut S) -> Status
+fn run_bytes<S: Sink>(alloc: Global, prepared: &Prepared, words: &GoWords, out: &mut S) -> Status
     requires script { IsScript prepared.now.script }
 
     // Of bytes that are a valid file.
     ensures answer { (amx : Amx) → IsValidFile prepared.now.compiled.bytes amx →
-        RunsFile (Said S.taken S.faults S.has_room) amx prepared.now.script words.entry.steps
-        words.entry.sleeps out.old out.new result }
+        RunsFile (Said S.taken S.faults S.has_room) amx prepared.now.script words.now.steps
+        words.now.sleeps out.old out.new result }
     ensures fault { ¬ (result ≡ Status.FileFault) }
 {
     match valid_file(alloc, prepared.compiled.bytes.as_slice()) {
-        Ok(file) => run_file(
-            alloc,
-            &file,
-            &prepared.script,
-            words.steps,
-            words.sleeps,
-            out,
-        ),
+        Ok(file) => run_file(alloc, &file, &prepared.script, words, out),
         Err(stop) => tell_stop(stop, out),
     }
 }

@@ -1,4 +1,4 @@
-ghost use Rattle.std.specs.Prelude.{◌≡◌, ◌<◌, ◌^◌, length};
+ghost use Rattle.std.specs.Prelude.{◌<◌, ◌^◌, length};
 ghost use Rattle.pawn_outside.specs.Said.{Said};
 ghost use Rattle.host_script.specs.Ranges.{IsScript};
 ghost use Rattle.host_script.specs.declared.event.End.{End as RunEnd};
@@ -7,48 +7,49 @@ ghost use Rattle.amx_ops.specs.Runs.{Traced};
 ghost use Rattle.host_run.specs.Session.{told as told_by};
 ghost use Rattle.host_run.specs.Trace.{StopsAs, told_text};
 ghost use Rattle.commands.specs.Played.{TellsTrace, trace_of};
-ghost use Rattle.commands.specs.ReadyFile.{IsReady};
+ghost use Rattle.commands.specs.ReadyFile.{IsReadyFile};
 ghost use Rattle.commands.specs.RunsFile.{RunsFile};
 
-use super::ready_file::{Ready, make_ready};
+use super::ready_file::{ReadyFile, make_ready};
 use amx_verify::Verified;
-use command_parts::{Status, tell_stop, told};
+use command_parts::{GoWords, Status, tell_stop, told};
 use host_run::{SessionEnd, run_segments};
 use host_script::{End, Script, say_end};
 use pawn_outside::{Sink, say};
 use std::alloc::Global;
 
 /// Runs a file from its main under a script, for so many steps at most in each segment, and goes on
-/// behind so many sleeps; writes its trace, or what keeps it from being run.
+/// behind so many sleeps as the words say; writes its trace, or what keeps it from being run.
 pub fn run_file<S: Sink>(
     alloc: Global,
     file: &Verified,
     script: &Script,
-    steps: u64,
-    sleeps: u32,
+    words: &GoWords,
     out: &mut S,
 ) -> Status
     requires script { IsScript script.now }
     requires natives { length file.now.natives < 2 ^ 31 }
-    ensures { RunsFile (Said S.taken S.faults S.has_room) file.now script.now steps sleeps
-        out.old out.new result }
+    ensures { RunsFile (Said S.taken S.faults S.has_room) file.now script.now words.now.steps
+        words.now.sleeps out.old out.new result }
 {
     match make_ready(alloc, file, script) {
-        Ok(ready) => play(ready, script, steps, sleeps, out),
+        Ok(ready) => play(ready, script, words, out),
         Err(stop) => tell_stop(stop, out),
     }
 }
 
 /// Starts a machine that is ready, and runs it. It ends in an error where the start finds no room.
-fn play<S: Sink>(ready: Ready<'_>, script: &Script, steps: u64, sleeps: u32, out: &mut S) -> Status
+fn play<S: Sink>(ready: ReadyFile<'_>, script: &Script, words: &GoWords, out: &mut S) -> Status
     requires script { IsScript script.now }
-    requires ready { IsReady ready.machine.amx script.now ready }
-    ensures { TellsTrace (trace_of ready.entry.machine.amx script.now steps sleeps)
+    requires ready { IsReadyFile ready.machine.amx script.now ready }
+    ensures { TellsTrace (trace_of ready.entry.machine.amx script.now words.now.steps
+        words.now.sleeps)
         (Said S.taken S.faults S.has_room) out.old out.new result }
 {
-    let Ready { mut machine, bound } = ready;
+    let ReadyFile { mut machine, bound } = ready;
     match machine.start(-1, &[]) {
         Ok(()) => {
+            let (steps, sleeps) = (words.steps, words.sleeps);
             let end = run_segments(&mut machine, &bound, script, steps, sleeps, out);
             finish(end, out)
         }

@@ -1,18 +1,23 @@
+ghost use Rattle.host_script.specs.Ranges.{IsScript};
+ghost use Rattle.amx_format.specs.Limits.{IsWithinLimits};
 ghost use Rattle.pawn_outside.specs.Said.{Said};
-ghost use Rattle.host_run.specs.Segments.{Place, segment_of};
+ghost use Rattle.host_run.specs.Segments.{segment_of};
 ghost use Rattle.command_parts.specs.Calls.{CommandCalls};
 ghost use Rattle.commands.specs.Finishes.{Finishes, Keeps};
-ghost use Rattle.commands.specs.ReadySegment.{IsReady, place_of};
+ghost use Rattle.commands.specs.Prepared.{IsReadyFor};
+ghost use Rattle.commands.specs.ReadySegment.{IsReadySegment, place_of};
 
+use super::bind::bind_natives;
 use amx_image::{ImageBuffer, save_into};
 use amx_machine::Machine;
-use command_parts::{Program, Status, put, tell_stop, told};
+use command_parts::{Program, Status, Stop, put, tell_stop, told};
 use host_run::{Bound, SessionEnd, session};
 use pawn_outside::{Files, Sink, say};
+use std::alloc::Global;
 
 /// A machine of a program, with all that a segment of it takes.
 #[derive(Drop)]
-pub struct Ready<'p> {
+pub struct ReadySegment<'p> {
     pub machine: Machine<'p>,
     pub bound: Bound,
     /// The script's position.
@@ -21,23 +26,45 @@ pub struct Ready<'p> {
     pub buffer: ImageBuffer,
 }
 
+/// Binds the natives of a program to its machine at a position of the script, and takes room for an
+/// image.
+pub fn ready_at<'p>(
+    alloc: Global,
+    machine: Machine<'p>,
+    at: u32,
+    program: &Program,
+) -> Result<ReadySegment<'p>, Stop>
+    requires limits { IsWithinLimits program.now.file }
+    requires script { IsScript program.now.script }
+    ensures { IsReadyFor program.now machine.entry at result }
+{
+    let bound = bind_natives(alloc, &program.file, &program.script)?;
+    let buffer = ImageBuffer::new(alloc, &machine)?;
+    Ok(ReadySegment {
+        machine,
+        bound,
+        at,
+        buffer,
+    })
+}
+
 /// Runs a machine that is running or at a sleep for so many steps at most, writes its trace, and
 /// puts its image where it falls asleep. Only the put may want memory.
 pub fn run_on<F: Files, S: Sink>(
-    ready: Ready<'_>,
+    ready: ReadySegment<'_>,
     program: &Program,
     steps: u64,
     image: &str,
     files: &mut F,
     out: &mut S,
 ) -> Status
-    requires { IsReady program.now ready }
+    requires { IsReadySegment program.now ready }
     ensures answer { let made = segment_of program.now.script (place_of ready.entry) steps in
         Finishes (Said S.taken S.faults S.has_room) (F.held files.old) (F.held files.new)
         image.now program.now.digest made.stop made.config out.old out.new result }
     ensures calls { CommandCalls F.faults F.never_fails files.old files.new result }
 {
-    let Ready {
+    let ReadySegment {
         mut machine,
         bound,
         mut at,

@@ -3,8 +3,7 @@ ghost use Rattle.pawn_outside.specs.OnlyRead.{OnlyRead};
 ghost use Rattle.command_parts.specs.Unread.{IsStopOf};
 ghost use Rattle.commands.specs.Made.{IsMade, stop_of};
 
-use command_parts::Stop;
-use pawn_base::{Bytes, Memory};
+use command_parts::{Stop, no_file};
 use pawn_front::{CompileFault, Compiled, Encoding, compile};
 use pawn_outside::Files;
 use std::alloc::Global;
@@ -33,19 +32,9 @@ fn stop_of(alloc: Global, src: &str, fault: CompileFault) -> Stop
 {
     match fault {
         CompileFault::Refused { kind, file, line } => Stop::Refused { kind, file, line },
-        CompileFault::NoSource => no_source(alloc, src),
+        CompileFault::NoSource => no_file(alloc, src),
         CompileFault::TooLarge(name) => Stop::TooLarge(name),
         CompileFault::Files => Stop::FileFault,
         CompileFault::Memory => Stop::NoMemory,
-    }
-}
-
-/// The stop at a source that isn't held.
-fn no_source(alloc: Global, src: &str) -> Stop
-    ensures { IsStopOf (Stop.NoFile src.now) result }
-{
-    match Bytes::from_slice(alloc, src.as_bytes()) {
-        Ok(name) => Stop::NoFile(name),
-        Err(Memory) => Stop::NoMemory,
     }
 }

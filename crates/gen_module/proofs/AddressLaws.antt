@@ -1,6 +1,6 @@
 -- The addresses of a program's objects, as far as they are in the table.
 use Rattle.std.proofs.Common.{◌≡◌, ◌+◌, ◌*◌, ◌<◌, ◌⊎◌, inl, inr, ℕ, zero, suc, ℤ, pos, List, []}
-use Rattle.std.proofs.Common.{◌∷◌, ◌++◌, Some, length, map, take, get_or, slice_get, refl, sym, ap}
+use Rattle.std.proofs.Common.{◌∷◌, ◌++◌, Some, length, map, take, get_or, slice_get, sym, ap}
 use Rattle.std.proofs.Common.{◌∙◌, arith, length-append, add-one}
 use Rattle.pawn_arrays.specs.Sizes.{inner_sizes, sizes, cell_count}
 use Rattle.pawn_arrays.specs.declared.shape.Shape.{Shape}
@@ -9,23 +9,11 @@ use Rattle.pawn_meaning.specs.declared.program.Object.{Object}
 use Rattle.gen_sim.specs.Pieces.{total, objects_from}
 use Rattle.gen_sim.proofs.LayoutLaws.{extent_is}
 use Rattle.gen_sim.specs.PlaceItems.{cells_by}
+use Rattle.gen_module.proofs.EntryLaws.{get_more}
 
 -- the cells of a shape are those of its sizes
 pub array_size : (shape : Shape) → cells_by (sizes shape) ≡ cell_count shape
 array_size shape = extent_is shape.first (inner_sizes shape.second shape.third)
-
--- what is read from a table with an entry more
-get_more : (xs : List ℤ) (y x : ℤ) (i : ℕ) → slice_get (xs ++ y ∷ []) i ≡ Some x
-    → (slice_get xs i ≡ Some x) ⊎ ((i ≡ length xs) × (x ≡ y))
-get_more [] y x zero e = let same : y ≡ x = cc in inr (refl, sym same)
-get_more [] y x (suc i) e = cc
-get_more (z ∷ xs) y x zero e = inl e
-get_more (z ∷ xs) y x (suc i) e = deeper (get_more xs y x i e)
-  where
-    deeper : (slice_get xs i ≡ Some x) ⊎ ((i ≡ length xs) × (x ≡ y))
-        → (slice_get xs i ≡ Some x) ⊎ ((suc i ≡ suc (length xs)) × (x ≡ y))
-    deeper (inl f) = inl f
-    deeper (inr f) = inr (ap suc f.0, f.1)
 
 -- the cells of the first objects
 abbrev pub cells_before : List Object → ℕ → ℕ

@@ -17,6 +17,7 @@ use Rattle.gen_sim.specs.Pieces.{automata_from, data_pieces}
 use Rattle.gen_sim.proofs.LayoutLaws.{vectors_are_layout}
 use Rattle.gen_sim.proofs.PieceLaws.{image-append}
 use Rattle.gen_module.specs.Data.{objects_data}
+use Rattle.gen_laws.proofs.FirstObjects.{first_of, no_states, none_at}
 
 -- ---- the offsets
 
@@ -40,20 +41,6 @@ module _ (m : Memory) (all : List Object) (same : m.objects ≡ all) where
       ∙ ap (λ (l : List ℤ). (vectors it.sizes ++ it.first) ++ l)
       (objects_are (k + 1) objects (λ i x e. ap
       (λ n. slice_get all n) {x = k + 1 + i} {y = k + suc i} (omega arith) ∙ at (suc i) x e))
-
-first_of : (objects : List StaticObject) (i : ℕ) (it : StaticObject) → slice_get objects i ≡ Some it
-    → slice_get (map first_object objects) i ≡ Some (first_object it)
-first_of [] i it e = cc
-first_of (x ∷ objects) zero it e = let same : x ≡ it = cc in ap (λ z. Some (first_object z)) same
-first_of (x ∷ objects) (suc i) it e = first_of objects i it e
-
-abbrev no_states : ℕ → List (Option ℕ)
-no_states n = replicate n None
-
-none_at : (n a : ℕ) → a < n → slice_get (no_states n) a ≡ Some None
-none_at zero a h = absurd (omega (arith, h))
-none_at (suc n) zero h = refl
-none_at (suc n) (suc a) h = none_at n a (omega (arith, h))
 
 automata_are : (m : Memory) (all a left : ℕ) → m.states ≡ no_states all → a + left ≤ all
     → image m (automata_from a left) ≡ replicate left (pos 0)

@@ -14,6 +14,7 @@ use Rattle.pawn_meaning.specs.Weight.{counted}
 use Rattle.pawn_meaning.specs.World.{first_memory}
 use Rattle.amx_ops.specs.declared.amx.Amx.{Amx}
 use Rattle.amx_ops.specs.declared.amx.Record.{Record}
+use Rattle.amx_ops.proofs.Made.{amx_of}
 use Rattle.gen_agrees.specs.Agrees.{Agrees}
 use Rattle.gen_agrees.specs.Shape.{native_record}
 use Rattle.gen_sim.specs.Pieces.{image, data_pieces}
@@ -55,27 +56,11 @@ main_is program (Some f) = refl
 
 -- ---- the file
 
-abbrev pub whole_of : (code store : List ℤ) → (room : ℕ) → (entry : ℤ)
-    → (publics natives libraries variables tags : List Record) → Amx
-whole_of code store room entry publics natives libraries variables tags = record {
-  flags = 0;
-  version = 8;
-  code = code;
-  store = store;
-  room = room;
-  entry = entry;
-  publics = publics;
-  natives = natives;
-  libraries = libraries;
-  variables = variables;
-  tags = tags;
-}
-
--- with no library and no variable
+-- no flag, no library and no variable
 abbrev pub made_of : (code store : List ℤ) → (room : ℕ) → (entry : ℤ)
     → (publics natives tags : List Record) → Amx
 made_of code store room entry publics natives tags =
-    whole_of code store room entry publics natives [] [] tags
+    amx_of 0 8 code store room entry publics natives [] [] tags
 
 -- of these parts it is the program's
 pub record AreParts (program : Program) (code store : List ℤ) (room : ℕ) (entry : ℤ)
@@ -117,13 +102,13 @@ pub parts_are : (program : Program) (code store : List ℤ) (room : ℕ) (entry 
     (publics natives libraries variables tags : List Record)
     → AreParts program code store room entry publics natives tags → same ≡ entry → libraries ≡ []
     → variables ≡ []
-    → whole_of code store room same publics natives libraries variables tags
+    → amx_of 0 8 code store room same publics natives libraries variables tags
     ≡ file_of (program_view program)
 parts_are program code store room entry same publics natives libraries variables tags parts is none
     nothing =
-    ap (λ z. whole_of code store room z publics natives libraries variables tags) is
-    ∙ ap (λ l. whole_of code store room entry publics natives l variables tags) none
-    ∙ ap (λ l. whole_of code store room entry publics natives [] l tags) nothing
+    ap (λ z. amx_of 0 8 code store room z publics natives libraries variables tags) is
+    ∙ ap (λ l. amx_of 0 8 code store room entry publics natives l variables tags) none
+    ∙ ap (λ l. amx_of 0 8 code store room entry publics natives [] l tags) nothing
     ∙ file_is program code store room entry publics natives tags parts
 
 -- and agrees with it

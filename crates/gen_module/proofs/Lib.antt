@@ -1,12 +1,13 @@
 pub mod AddressLaws
 pub mod BodyLaws
+pub mod BodyStatementLaws
 pub mod DataLaws
+pub mod EntryLaws
 pub mod FewLaws
 pub mod FileLaws
+pub mod FunctionRows
 pub mod LinkLaws
 pub mod PairLaws
-pub mod PartLaws
 pub mod RouteLaws
 pub mod RowLaws
-pub mod WholeLaws
 pub mod WritableLaws

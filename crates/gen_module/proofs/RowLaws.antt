@@ -7,19 +7,7 @@ use Rattle.gen_sim.specs.Items.{Item, past}
 use Rattle.gen_expr.specs.Built.{Built, with_items}
 use Rattle.gen_expr.proofs.GrowLaws.{both_grow, none_grow, next_at}
 use Rattle.gen_module.specs.Rows.{row_items, row_begin}
-
--- what is read from a list with an entry more
-get_more : (xs : List ℤ) (y x : ℤ) (i : ℕ) → slice_get (xs ++ y ∷ []) i ≡ Some x
-    → (slice_get xs i ≡ Some x) ⊎ ((i ≡ length xs) × (x ≡ y))
-get_more [] y x zero e = let same : y ≡ x = cc in inr (refl, sym same)
-get_more [] y x (suc i) e = cc
-get_more (z ∷ xs) y x zero e = inl e
-get_more (z ∷ xs) y x (suc i) e = deeper (get_more xs y x i e)
-  where
-    deeper : (slice_get xs i ≡ Some x) ⊎ ((i ≡ length xs) × (x ≡ y))
-        → (slice_get xs i ≡ Some x) ⊎ ((suc i ≡ suc (length xs)) × (x ≡ y))
-    deeper (inl f) = inl f
-    deeper (inr f) = inr (ap suc f.0, f.1)
+use Rattle.gen_module.proofs.EntryLaws.{get_more}
 
 module _ {A : Type 0} (part : ℕ → A → List Item) where
   -- the next one begins where this one ends

@@ -10,21 +10,21 @@ ghost use Rattle.gen_stmt.specs.Keeps.{AreObjects};
 ghost use Rattle.gen_module.specs.First.{first_here};
 ghost use Rattle.gen_module.specs.Source.{IsSource, program_of};
 
-use super::source::{Source, count_of};
+use super::source::Source;
 use amx_ops::Op;
 use gen_expr::Builder;
 use gen_expr::operators::two;
-use gen_expr::put::address;
+use gen_expr::put::{address, count_of};
 use gen_stmt::draft::Draft;
 use gen_stmt::exits::lead_out;
 use gen_stmt::locals::Locals;
-use gen_stmt::place::Place;
+use gen_stmt::place::{At, Place};
 use gen_stmt::statement::statement;
 use pawn_base::Memory;
 use pawn_meaning::{Body, Slot, Stmt};
 
 /// The statement of a body. No loop is around it, so it has no jump to an exit.
-fn whole(s: &Stmt, place: &Place<'_>, code: Builder) -> Result<Builder, Memory>
+fn body_statement(s: &Stmt, place: &Place<'_>, code: Builder) -> Result<Builder, Memory>
     requires objects { AreObjects place.now }
     requires automata { place.now.automata ≡ total
         (objects_from 0 (program_view place.now.program.now).objects) }
@@ -34,7 +34,11 @@ fn whole(s: &Stmt, place: &Place<'_>, code: Builder) -> Result<Builder, Memory>
     let mut locals = Locals::new(place)?;
     let since = locals.mark();
     let begun = Draft::new(place.alloc, code);
-    let done = statement(s, since, place, &mut locals, begun)?;
+    let at = At {
+        place: *place,
+        since,
+    };
+    let done = statement(s, &at, &mut locals, begun)?;
     let Draft { code, holes } = done;
     Ok(lead_out(holes.as_slice(), 0, 0, code))
 }
@@ -58,7 +62,7 @@ pub(crate) fn body(
         objects: source.places.objects.as_slice(),
         automata: source.places.cells,
     };
-    let done = whole(&body.stmt, &place, b)?;
+    let done = body_statement(&body.stmt, &place, b)?;
     let ended = two(Op::ZeroPri, Op::Retn, done)?;
     Ok(ended)
 }

@@ -10,6 +10,18 @@ use pawn_base::{Cells, Memory};
 use pawn_meaning::{Object, Program, Shape};
 use std::alloc::Global;
 
+/// The cells of a program's data as each run begins: its objects in their order, and behind them
+/// its automata.
+#[tactic(auto, using(crate::proofs::DataLaws::data_is))]
+pub fn first_cells(alloc: Global, program: &Program) -> Result<Cells, Memory>
+    ensures { IfOk result (λ it. it ≡ image (first_memory (program_view program.now))
+        (data_pieces (program_view program.now))) }
+{
+    let objects = objects_cells(alloc, program.objects.as_slice())?;
+    let all = with_automata(objects, program.automata.len())?;
+    Ok(all)
+}
+
 /// The offsets of the rows of an array. No program has an array past the limit.
 fn offsets(alloc: Global, shape: &Shape) -> Result<Cells, Memory>
     ensures { IfOk result (λ it. it ≡ vectors (sizes shape.now)) }
@@ -50,17 +62,5 @@ fn with_automata(objects: Cells, count: usize) -> Result<Cells, Memory>
     for number in 0..count {
         all.push(0)?;
     }
-    Ok(all)
-}
-
-/// The cells of a program's data as each run begins: its objects in their order, and behind them
-/// its automata.
-#[tactic(auto, using(crate::proofs::DataLaws::data_is))]
-pub fn first_cells(alloc: Global, program: &Program) -> Result<Cells, Memory>
-    ensures { IfOk result (λ it. it ≡ image (first_memory (program_view program.now))
-        (data_pieces (program_view program.now))) }
-{
-    let objects = objects_cells(alloc, program.objects.as_slice())?;
-    let all = with_automata(objects, program.automata.len())?;
     Ok(all)
 }

@@ -24,6 +24,23 @@ use pawn_base::{List, Memory};
 use pawn_meaning::Program;
 use std::alloc::Global;
 
+/// The file of a program, from its code, in which the calls still wait for their functions, and
+/// from the addresses of the functions. Of a valid program within the limits, with names as those
+/// of a source, it does what the program means.
+pub fn file(alloc: Global, program: &Program, b: &Builder, entries: &[i32]) -> Result<Amx, Memory>
+    requires code { b.now ≡ with_items (program_items (program_view program.now)) nothing }
+    requires entries { Finds (entry_of (program_view program.now)) entries.now }
+    ensures file { IfOk result (λ amx. amx ≡ file_of (program_view program.now)) }
+    ensures agrees { IfOk result (λ amx. let source = program_view program.now in
+        IsValid source → IsWithinLimits source → HasNames source → Agrees source amx) }
+{
+    // The law of all such files, by which `agrees` follows from `file`.
+    programs_have_files();
+    states_fit(program.automata.as_slice())?;
+    let amx = join_parts(alloc, program, b, entries)?;
+    Ok(amx)
+}
+
 /// Where main is, or -1.
 fn main_address(main: Option<u32>, entries: &[i32]) -> Result<i32, Memory>
     ensures { (entry : ℕ → ℕ) → Finds entry entries.now →
@@ -42,18 +59,12 @@ fn counted(n: i32) -> u32
     if n < 0 { 0 } else { n as u32 }
 }
 
-/// The file of a program, from its code, in which the calls still wait for their functions, and
-/// from the addresses of the functions. Of a valid program within the limits, with names as those
-/// of a source, it does what the program means.
-pub fn file(alloc: Global, program: &Program, b: &Builder, entries: &[i32]) -> Result<Amx, Memory>
+/// The code with its calls led, the data and the tables of a program.
+fn join_parts(alloc: Global, program: &Program, b: &Builder, entries: &[i32]) -> Result<Amx, Memory>
     requires code { b.now ≡ with_items (program_items (program_view program.now)) nothing }
     requires entries { Finds (entry_of (program_view program.now)) entries.now }
-    ensures file { IfOk result (λ amx. amx ≡ file_of (program_view program.now)) }
-    ensures agrees { IfOk result (λ amx. let source = program_view program.now in
-        IsValid source → IsWithinLimits source → HasNames source → Agrees source amx) }
+    ensures { IfOk result (λ amx. amx ≡ file_of (program_view program.now)) }
 {
-    programs_have_files();
-    states_fit(program.automata.as_slice())?;
     let code = linked(alloc, b, entries)?;
     let store = first_cells(alloc, program)?;
     let entry = main_address(program.entry, entries)?;

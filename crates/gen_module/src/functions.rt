@@ -14,21 +14,6 @@ use gen_expr::put::address;
 use pawn_base::Memory;
 use pawn_meaning::Function;
 
-/// A function. One without a route has one body.
-fn function(function: &Function, source: &Source<'_>, b: Builder) -> Result<Builder, Memory>
-    requires { IsSource source.now }
-    ensures { IfOk result (λ r. r ≡ with_items (function_items (program_of source.now)
-        (4 * length b.code) (function_view function.now)) b) }
-{
-    match &function.dispatch {
-        Some(route) => routed(route, function, source, b),
-        None => match function.bodies.as_slice() {
-            [] => Ok(b),
-            [one, ..] => single(one, function.params.as_slice(), source, b),
-        },
-    }
-}
-
 /// Functions one behind another, with the addresses at which they begin.
 pub(crate) fn functions(
     all: &[Function],
@@ -49,4 +34,19 @@ pub(crate) fn functions(
         grown = function(one, source, grown)?;
     }
     Ok((grown, entries))
+}
+
+/// A function. One without a route has one body.
+fn function(function: &Function, source: &Source<'_>, b: Builder) -> Result<Builder, Memory>
+    requires { IsSource source.now }
+    ensures { IfOk result (λ r. r ≡ with_items (function_items (program_of source.now)
+        (4 * length b.code) (function_view function.now)) b) }
+{
+    match &function.dispatch {
+        Some(route) => routed(route, function, source, b),
+        None => match function.bodies.as_slice() {
+            [] => Ok(b),
+            [one, ..] => single(one, function.params.as_slice(), source, b),
+        },
+    }
 }

@@ -15,8 +15,6 @@ mod source;
 mod starts;
 mod states;
 
-pub use addresses::{Addresses, object_addresses};
+pub use addresses::object_addresses;
 pub use cells::first_cells;
-pub use files::file;
 pub use module::generate;
-pub use starts::start_at;

@@ -11,15 +11,41 @@ ghost use Rattle.gen_module.specs.Starts.{Finds};
 ghost use Rattle.gen_module.specs.Source.{IsSource, program_of};
 
 use super::bodies::bodies;
-use super::source::{Source, count_of, state_address};
+use super::source::{Source, state_address};
 use super::starts::start_at;
 use amx_ops::Op;
 use gen_expr::Builder;
 use gen_expr::jumps::lead;
-use gen_expr::put::{address, cell_of};
+use gen_expr::put::{address, cell_of, count_of};
 use gen_stmt::table::table;
 use pawn_base::Memory;
 use pawn_meaning::{Function, Route};
+
+/// A function with a route: its table leads each state to a body, or to HALT 13, behind which the
+/// bodies stand.
+pub(crate) fn routed(
+    route: &Route,
+    function: &Function,
+    source: &Source<'_>,
+    b: Builder,
+) -> Result<Builder, Memory>
+    requires { IsSource source.now }
+    ensures { IfOk result (λ r. r ≡ with_items (route_items (program_of source.now)
+        (function_view function.now) (4 * length b.code) (route_view route.now)) b) }
+{
+    let cases = route.cases.as_slice();
+    let count = pair_count(cases.len())?;
+    let loaded = begun(route, source, b)?;
+    let opened = switched(count, loaded)?;
+    let end = count_of(opened.code().len())?;
+    let fail = address(&opened)?;
+    let halted = opened.put(Op::Halt, 13)?;
+    let params = function.params.as_slice();
+    let (done, starts) = bodies(function.bodies.as_slice(), params, source, halted)?;
+    let other = fallback(route.fallback, fail, starts.as_slice())?;
+    let led = lead(end - 2 * count - 1, other, done);
+    write_pairs(cases, starts.as_slice(), end - 2 * count, led)
+}
 
 /// The beginning of a function with a route: PROC, and the automaton's cell to PRI.
 #[tactic(auto, using(gen_expr::proofs::GrowLaws::then_grow))]
@@ -89,30 +115,4 @@ fn pair_count(n: usize) -> Result<u32, Memory>
     } else {
         Err(Memory)
     }
-}
-
-/// A function with a route: its table leads each state to a body, or to HALT 13, behind which the
-/// bodies stand.
-pub(crate) fn routed(
-    route: &Route,
-    function: &Function,
-    source: &Source<'_>,
-    b: Builder,
-) -> Result<Builder, Memory>
-    requires { IsSource source.now }
-    ensures { IfOk result (λ r. r ≡ with_items (route_items (program_of source.now)
-        (function_view function.now) (4 * length b.code) (route_view route.now)) b) }
-{
-    let cases = route.cases.as_slice();
-    let count = pair_count(cases.len())?;
-    let loaded = begun(route, source, b)?;
-    let opened = switched(count, loaded)?;
-    let end = count_of(opened.code().len())?;
-    let fail = address(&opened)?;
-    let halted = opened.put(Op::Halt, 13)?;
-    let params = function.params.as_slice();
-    let (done, starts) = bodies(function.bodies.as_slice(), params, source, halted)?;
-    let other = fallback(route.fallback, fail, starts.as_slice())?;
-    let led = lead(end - 2 * count - 1, other, done);
-    write_pairs(cases, starts.as_slice(), end - 2 * count, led)
 }

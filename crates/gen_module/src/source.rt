@@ -1,4 +1,4 @@
-ghost use Rattle.std.specs.Prelude.{◌≡◌, ◌+◌, ◌*◌, pos, length, IfOk};
+ghost use Rattle.std.specs.Prelude.{◌≡◌, ◌+◌, ◌*◌, pos, IfOk};
 ghost use Rattle.gen_sim.specs.StateCode.{automaton_cell};
 ghost use Rattle.gen_module.specs.Source.{IsSource, program_of};
 
@@ -14,17 +14,6 @@ pub(crate) struct Source<'a> {
     pub(crate) alloc: Global,
     pub(crate) program: &'a Program,
     pub(crate) places: &'a Addresses,
-}
-
-/// A number of elements. Where it is too large, no memory holds them.
-pub(crate) fn count_of(n: usize) -> Result<u32, Memory>
-    ensures { IfOk result (λ count. count ≡ n) }
-{
-    if n < 4_294_967_296 {
-        Ok(n as u32)
-    } else {
-        Err(Memory)
-    }
 }
 
 /// The address of an automaton's cell.

@@ -12,20 +12,11 @@ use Rattle.std.specs.Int.{w32}
 use Rattle.std.specs.Prelude.{All}
 use Rattle.pawn_cells.specs.Cells.{IsCell, bits_of, cell_of, char_at}
 use Rattle.pawn_meaning.specs.Memory.{put}
-use Rattle.amx_ops.specs.Access.{byte_at, is_among, is_touched, byte_moved, four_bytes, cell_moved}
+use Rattle.amx_ops.specs.Access.{is_among, is_touched, byte_moved, four_bytes, cell_moved}
 use Rattle.amx_ops.specs.Access.{moved}
+use Rattle.amx_ops.proofs.ByteLaws.{same_cells, byte_is}
 use Rattle.pawn_cells.proofs.CellLaws.{bits_fit}
 use Rattle.gen_sim.proofs.Lists.{put_length}
-
-same_cells : (xs ys : List ℤ) → length xs ≡ length ys
-    → ((i : ℕ) → i < length xs → get_or xs i (pos 0) ≡ get_or ys i (pos 0)) → xs ≡ ys
-same_cells [] [] e same = refl
-same_cells [] (y ∷ ys) e same = absurd (omega (arith, e))
-same_cells (x ∷ xs) [] e same = absurd (omega (arith, e))
-same_cells (x ∷ xs) (y ∷ ys) e same =
-    ap (λ z. z ∷ xs) (same 0 (omega arith))
-    ∙ ap (λ zs. y ∷ zs) (same_cells xs ys (omega (arith, e))
-    (λ i h. same (suc i) (omega (arith, h))))
 
 -- ---- cells put in place of others
 
@@ -92,14 +83,6 @@ get_part (x ∷ xs) (suc f) n i h =
     let e : suc f + i ≡ suc (f + i) = omega arith in rw e (get_part xs f n i h)
 
 -- ---- bytes of whole cells
-
-byte_is : (cells : List ℤ) (i j : ℕ) → j < 4
-    → byte_at cells (4 * i + j) ≡ char_at (get_or cells i (pos 0)) (3 - j)
-byte_is cells i j h =
-    let place : (4 * i + j) / 4 ≡ i = omega (arith, h) in
-    let rest : (4 * i + j) % 4 ≡ j = omega (arith, h) in
-    ap (λ p. char_at (get_or cells p (pos 0)) (3 - (4 * i + j) % 4)) place
-    ∙ ap (λ r. char_at (get_or cells i (pos 0)) (3 - r)) rest
 
 of_bytes : (cell : ℤ) → IsCell cell
     → cell_of (char_at cell 3 + 256 * char_at cell 2 + 65536 * char_at cell 1 + 16777216

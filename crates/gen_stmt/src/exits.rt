@@ -5,16 +5,6 @@ use super::draft::{Exit, Hole};
 use gen_expr::Builder;
 use gen_expr::jumps::lead;
 
-/// The address of an exit, of these two.
-fn address_of(exit: Exit, broke: i32, continued: i32) -> i32
-    ensures { result ≡ exit_by broke continued exit }
-{
-    match exit {
-        Exit::Break => broke,
-        Exit::Continue => continued,
-    }
-}
-
 /// The jumps out of a loop lead to its exits, which are at these addresses.
 #[tactic(auto, using(crate::proofs::LedLaws::lead_more, crate::proofs::LedLaws::none_led, crate::proofs::LedLaws::in_rest))]
 pub fn lead_out(holes: &[Hole], broke: i32, continued: i32, b: Builder) -> Builder
@@ -26,4 +16,14 @@ pub fn lead_out(holes: &[Hole], broke: i32, continued: i32, b: Builder) -> Build
         led = lead(hole.at, address_of(hole.exit, broke, continued), led);
     }
     led
+}
+
+/// The address of an exit, of these two.
+fn address_of(exit: Exit, broke: i32, continued: i32) -> i32
+    ensures { result ≡ exit_by broke continued exit }
+{
+    match exit {
+        Exit::Break => broke,
+        Exit::Continue => continued,
+    }
 }

@@ -15,26 +15,13 @@ ghost use Rattle.gen_stmt.specs.Standing.{Stands};
 use super::draft::Draft;
 use super::left::dropped;
 use super::locals::Locals;
-use super::place::{Place, own_cells};
+use super::place::{At, Place, own_cells};
 use amx_ops::Op;
-use gen_expr::frame::{Frame, object};
+use gen_expr::frame::object;
 use gen_expr::put::cell_of;
 use gen_expr::{Builder, expression};
 use pawn_base::Memory;
 use pawn_meaning::Expr;
-
-/// A frame isn't needed any more.
-fn end_frame(frame: Frame<'_>) {
-    let Frame {
-        alloc: _,
-        program: _,
-        slots: _,
-        params: _,
-        made: _,
-        objects: _,
-        offsets: _,
-    } = frame;
-}
 
 /// The value of an expression, to PRI.
 pub fn valued(
@@ -48,9 +35,7 @@ pub fn valued(
         (scope_in place.now locals.now.made.items) (4 * length code.code) (expr_view e.now)) code) }
 {
     let frame = locals.frame(place);
-    let done = expression(e, &frame, code);
-    end_frame(frame);
-    done
+    expression(e, &frame, code)
 }
 
 /// A condition, to PRI: 1 where it is absent.
@@ -101,22 +86,17 @@ pub fn effect(e: &Expr, place: &Place<'_>, locals: &Locals, b: Draft) -> Result<
 }
 
 /// A local with its value, which is pushed.
-pub fn local(
-    s: u32,
-    e: &Expr,
-    place: &Place<'_>,
-    locals: &mut Locals,
-    b: Draft,
-) -> Result<Draft, Memory>
-    requires { Stands place.now locals.old }
+pub fn local(s: u32, e: &Expr, at: &At<'_>, locals: &mut Locals, b: Draft) -> Result<Draft, Memory>
+    requires { Stands at.now.place locals.old }
     ensures made { IfOk result (λ _. locals.new.made.items ≡ locals.old.made.items ++ s ∷ []) }
-    ensures stands { IfOk result (λ _. Stands place.now locals.new) }
+    ensures stands { IfOk result (λ _. Stands at.now.place locals.new) }
     ensures code { IfOk result (λ r. Grown b r (λ exits. local_code (value_items
-        (scope_in place.now locals.old.made.items) (4 * length b.code.code) (expr_view e.now)))) }
+        (scope_in at.now.place locals.old.made.items) (4 * length b.code.code)
+        (expr_view e.now)))) }
 {
-    let valued = effect(e, place, locals, b)?;
+    let valued = effect(e, &at.place, locals, b)?;
     let pushed = valued.put(Op::PushPri, 0)?;
-    locals.make(s, place)?;
+    locals.make(s, &at.place)?;
     Ok(pushed)
 }
 
@@ -147,9 +127,7 @@ fn object_at(o: u32, place: &Place<'_>, locals: &Locals, code: Builder) -> Resul
         (scope_in place.now locals.now.made.items).program o) code) }
 {
     let frame = locals.frame(place);
-    let done = object(o, &frame, code);
-    end_frame(frame);
-    done
+    object(o, &frame, code)
 }
 
 /// A local array with the cells of an object.
@@ -177,19 +155,19 @@ fn array_made(
 pub fn local_array(
     s: u32,
     o: u32,
-    place: &Place<'_>,
+    at: &At<'_>,
     locals: &mut Locals,
     b: Draft,
 ) -> Result<Draft, Memory>
-    requires { Stands place.now locals.old }
+    requires { Stands at.now.place locals.old }
     ensures made { IfOk result (λ _. locals.new.made.items ≡ locals.old.made.items ++ s ∷ []) }
-    ensures stands { IfOk result (λ _. Stands place.now locals.new) }
+    ensures stands { IfOk result (λ _. Stands at.now.place locals.new) }
     ensures code { IfOk result (λ r. Grown b r (λ exits.
-        local_array_code (scope_in place.now locals.old.made.items) s o)) }
+        local_array_code (scope_in at.now.place locals.old.made.items) s o)) }
 {
     let Draft { code, holes } = b;
-    let code = array_made(s, o, place, locals, code)?;
-    locals.make(s, place)?;
+    let code = array_made(s, o, &at.place, locals, code)?;
+    locals.make(s, &at.place)?;
     Ok(Draft { code, holes })
 }
 

@@ -4,6 +4,7 @@ ghost use Rattle.pawn_meaning.specs.View.{slot_view};
 ghost use Rattle.gen_sim.specs.Fits.{own_sizes};
 ghost use Rattle.gen_sim.specs.PlaceItems.{cells_by};
 
+use super::locals::Mark;
 use pawn_arrays::{Shape, cells};
 use pawn_base::Memory;
 use pawn_meaning::{Program, Slot};
@@ -20,6 +21,14 @@ pub struct Place<'a> {
     pub params: u32,
     pub objects: &'a [i32],
     pub automata: u32,
+}
+
+/// Where a statement stands in a body, and the locals with which the body of the loop around it
+/// began.
+#[derive(Clone, Copy)]
+pub struct At<'a> {
+    pub place: Place<'a>,
+    pub since: Mark,
 }
 
 /// The cells of an array with its offsets, where they are within the limit of one array.

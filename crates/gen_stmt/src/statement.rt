@@ -14,12 +14,12 @@ ghost use Rattle.gen_stmt.specs.Standing.{here_in, within_in, Stands, Within};
 use super::cases::{Cased, jump_at, table_at};
 use super::draft::{Draft, Exit, Hole};
 use super::left::{leave_block, leave_loop};
-use super::locals::{Locals, Mark};
+use super::locals::Locals;
 use super::loops::{close, close_until};
 use super::nodes::{
     assertion, condition, effect, halted, local, local_array, returned, step, valued,
 };
-use super::place::Place;
+use super::place::{At, Place};
 use super::states::state;
 use super::switches::begin_switch;
 use amx_ops::Op;
@@ -31,79 +31,67 @@ use pawn_meaning::{Case, Expr, Stmt};
 
 /// Appends the code of a statement.
 #[cycle(statement)]
-pub fn statement(
-    s: &Stmt,
-    since: Mark,
-    place: &Place<'_>,
-    locals: &mut Locals,
-    b: Draft,
-) -> Result<Draft, Memory>
-    requires { Within place.now since locals.old }
+pub fn statement(s: &Stmt, at: &At<'_>, locals: &mut Locals, b: Draft) -> Result<Draft, Memory>
+    requires { Within at.now.place at.now.since locals.old }
     ensures made { IfOk result (λ _.
         locals.new.made.items ≡ locals.old.made.items ++ slots_made (stmt_view s.now)) }
-    ensures within { IfOk result (λ _. Within place.now since locals.new) }
+    ensures within { IfOk result (λ _. Within at.now.place at.now.since locals.new) }
     ensures code { IfOk result (λ r. Grown b r (λ exits. stmt_items
-        (here_in place.now locals.old.made.items since.made exits) (4 * length b.code.code)
-        (stmt_view s.now))) }
+        (here_in at.now.place locals.old.made.items at.now.since.made exits)
+        (4 * length b.code.code) (stmt_view s.now))) }
 {
     match s {
         Stmt::Block(list) => {
             let begun = locals.mark();
-            let done = statements(list, since, place, locals, b)?;
-            leave_block(begun, place, locals, done)
+            let done = statements(list, at, locals, b)?;
+            leave_block(begun, &at.place, locals, done)
         }
-        Stmt::Local(s, e) => local(*s, e, place, locals, b),
-        Stmt::LocalArray(s, o) => local_array(*s, *o, place, locals, b),
-        Stmt::Do(e) => effect(e, place, locals, b),
+        Stmt::Local(s, e) => local(*s, e, at, locals, b),
+        Stmt::LocalArray(s, o) => local_array(*s, *o, at, locals, b),
+        Stmt::Do(e) => effect(e, &at.place, locals, b),
         Stmt::If(c, a, other) => {
-            let first = first_part(a, since, place, locals, effect(c, place, locals, b)?)?;
+            let first = first_part(a, at, locals, effect(c, &at.place, locals, b)?)?;
             let end = last_cell(&first.code)?;
-            let second = alternative(other, since, place, locals, first)?;
+            let second = alternative(other, at, locals, first)?;
             second.land(end)
         }
-        Stmt::While(c, s) => while_loop(s, c, place, locals, b),
-        Stmt::DoWhile(s, c) => until_loop(s, c, place, locals, b),
+        Stmt::While(c, s) => while_do(s, c, at, locals, b),
+        Stmt::DoWhile(s, c) => do_while(s, c, at, locals, b),
         Stmt::For(first, c, next, s) => {
             let begun = locals.mark();
-            let ready = statements(first, since, place, locals, b)?;
-            let done = for_loop(s, c, next, place, locals, ready)?;
-            leave_block(begun, place, locals, done)
+            let ready = statements(first, at, locals, b)?;
+            let done = for_loop(s, c, next, &at.place, locals, ready)?;
+            leave_block(begun, &at.place, locals, done)
         }
         Stmt::Switch(e, cases, other) => {
-            let valued = effect(e, place, locals, b)?;
-            let (cased, led) = all_cases(cases, since, place, locals, valued)?;
-            let done = alternative(other, since, place, locals, cased)?;
+            let valued = effect(e, &at.place, locals, b)?;
+            let (cased, led) = all_cases(cases, at, locals, valued)?;
+            let done = alternative(other, at, locals, cased)?;
             led.close(cases.as_slice(), done)
         }
-        Stmt::Return(e) => returned(e, place, locals, b),
-        Stmt::Break => leave_loop(Exit::Break, since, place, locals, b),
-        Stmt::Continue => leave_loop(Exit::Continue, since, place, locals, b),
-        Stmt::Exit(e, tag) => halted(e, *tag, 1, place, locals, b),
-        Stmt::Sleep(e, tag) => halted(e, *tag, 12, place, locals, b),
-        Stmt::Assert(e) => assertion(e, place, locals, b),
-        Stmt::State(a, to, c) => state(*a, *to, c, place, locals, b),
+        Stmt::Return(e) => returned(e, &at.place, locals, b),
+        Stmt::Break => leave_loop(Exit::Break, at.since, &at.place, locals, b),
+        Stmt::Continue => leave_loop(Exit::Continue, at.since, &at.place, locals, b),
+        Stmt::Exit(e, tag) => halted(e, *tag, 1, &at.place, locals, b),
+        Stmt::Sleep(e, tag) => halted(e, *tag, 12, &at.place, locals, b),
+        Stmt::Assert(e) => assertion(e, &at.place, locals, b),
+        Stmt::State(a, to, c) => state(*a, *to, c, &at.place, locals, b),
         Stmt::Empty => Ok(b),
     }
 }
 
 /// A part of a statement: the slots that it makes aren't in force behind it.
 #[cycle(statement)]
-fn part(
-    s: &Stmt,
-    since: Mark,
-    place: &Place<'_>,
-    locals: &mut Locals,
-    b: Draft,
-) -> Result<Draft, Memory>
-    requires { Within place.now since locals.old }
+fn part(s: &Stmt, at: &At<'_>, locals: &mut Locals, b: Draft) -> Result<Draft, Memory>
+    requires { Within at.now.place at.now.since locals.old }
     ensures made { IfOk result (λ _. locals.new.made.items ≡ locals.old.made.items) }
-    ensures within { IfOk result (λ _. Within place.now since locals.new) }
+    ensures within { IfOk result (λ _. Within at.now.place at.now.since locals.new) }
     ensures code { IfOk result (λ r. Grown b r (λ exits. stmt_items
-        (here_in place.now locals.old.made.items since.made exits) (4 * length b.code.code)
-        (stmt_view s.now))) }
+        (here_in at.now.place locals.old.made.items at.now.since.made exits)
+        (4 * length b.code.code) (stmt_view s.now))) }
 {
     let begun = locals.mark();
-    let done = statement(s, since, place, locals, b)?;
+    let done = statement(s, at, locals, b)?;
     locals.leave(begun);
     Ok(done)
 }
@@ -111,27 +99,21 @@ fn part(
 /// What is done where a condition holds. Its end, where the jump that comes last is to lead, isn't
 /// known yet.
 #[cycle(statement)]
-fn first_part(
-    s: &Stmt,
-    since: Mark,
-    place: &Place<'_>,
-    locals: &mut Locals,
-    b: Draft,
-) -> Result<Draft, Memory>
-    requires { Within place.now since locals.old }
+fn first_part(s: &Stmt, at: &At<'_>, locals: &mut Locals, b: Draft) -> Result<Draft, Memory>
+    requires { Within at.now.place at.now.since locals.old }
     ensures made { IfOk result (λ _. locals.new.made.items ≡ locals.old.made.items) }
-    ensures within { IfOk result (λ _. Within place.now since locals.new) }
+    ensures within { IfOk result (λ _. Within at.now.place at.now.since locals.new) }
     ensures code { IfOk result (λ r. Grown b r (λ exits.
         let p = 4 * length b.code.code in
-        let one = stmt_items (here_in place.now locals.old.made.items since.made exits) (p + 8)
-        (stmt_view s.now) in
+        let one = stmt_items (here_in at.now.place locals.old.made.items at.now.since.made exits)
+        (p + 8) (stmt_view s.now) in
         jump_to Op.Jzer (other_at p one) ∷ (one ++ jump_to Op.Jump 0 ∷ []))) }
     ensures free { IfOk result (λ r. IsDraft b → (end : ℕ) → end + 1 ≡ length r.code.code →
         AreOthers end r.holes) }
 {
     let tested = b.put(Op::Jzer, 0)?;
     let other = last_cell(&tested.code)?;
-    let first = part(s, since, place, locals, tested)?;
+    let first = part(s, at, locals, tested)?;
     let opened = first.turn(other)?;
     Ok(opened)
 }
@@ -140,20 +122,19 @@ fn first_part(
 #[cycle(statement)]
 fn alternative(
     other: &Option<Box<Stmt>>,
-    since: Mark,
-    place: &Place<'_>,
+    at: &At<'_>,
     locals: &mut Locals,
     b: Draft,
 ) -> Result<Draft, Memory>
-    requires { Within place.now since locals.old }
+    requires { Within at.now.place at.now.since locals.old }
     ensures made { IfOk result (λ _. locals.new.made.items ≡ locals.old.made.items) }
-    ensures within { IfOk result (λ _. Within place.now since locals.new) }
+    ensures within { IfOk result (λ _. Within at.now.place at.now.since locals.new) }
     ensures code { IfOk result (λ r. Grown b r (λ exits. else_items
-        (here_in place.now locals.old.made.items since.made exits) (4 * length b.code.code)
-        (else_view other.now))) }
+        (here_in at.now.place locals.old.made.items at.now.since.made exits)
+        (4 * length b.code.code) (else_view other.now))) }
 {
     match other {
-        Some(s) => part(s, since, place, locals, b),
+        Some(s) => part(s, at, locals, b),
         None => Ok(b),
     }
 }
@@ -170,35 +151,33 @@ fn body(s: &Stmt, place: &Place<'_>, locals: &mut Locals, code: Builder) -> Resu
 {
     let since = locals.mark();
     let begun = Draft::new(place.alloc, code);
-    let done = part(s, since, place, locals, begun)?;
+    let at = At {
+        place: *place,
+        since,
+    };
+    let done = part(s, &at, locals, begun)?;
     Ok(done)
 }
 
 /// A loop with a test before each pass.
 #[cycle(statement)]
-fn while_loop(
-    s: &Stmt,
-    c: &Expr,
-    place: &Place<'_>,
-    locals: &mut Locals,
-    b: Draft,
-) -> Result<Draft, Memory>
-    requires { Stands place.now locals.old }
+fn while_do(s: &Stmt, c: &Expr, at: &At<'_>, locals: &mut Locals, b: Draft) -> Result<Draft, Memory>
+    requires { Stands at.now.place locals.old }
     ensures made { IfOk result (λ _. locals.new.made.items ≡ locals.old.made.items) }
-    ensures stands { IfOk result (λ _. Stands place.now locals.new) }
+    ensures stands { IfOk result (λ _. Stands at.now.place locals.new) }
     ensures code { IfOk result (λ r. Grown b r (λ exits. stmt_items
-        (within_in place.now locals.old.made.items exits) (4 * length b.code.code)
+        (within_in at.now.place locals.old.made.items exits) (4 * length b.code.code)
         (While (expr_view c.now) (stmt_view s.now)))) }
 {
     let Draft { code, holes } = b;
     let top = address(&code)?;
-    let tested = valued(c, place, locals, code)?;
+    let tested = valued(c, &at.place, locals, code)?;
     let jumped = tested.put(Op::Jzer, 0)?;
     let hole = last_cell(&jumped)?;
     let Draft {
         code: passed,
         holes: out,
-    } = body(s, place, locals, jumped)?;
+    } = body(s, &at.place, locals, jumped)?;
     let more = address(&passed)?;
     let code = close(hole, top, more, out.as_slice(), passed)?;
     Ok(Draft { code, holes })
@@ -206,18 +185,12 @@ fn while_loop(
 
 /// A loop with a test behind each pass.
 #[cycle(statement)]
-fn until_loop(
-    s: &Stmt,
-    c: &Expr,
-    place: &Place<'_>,
-    locals: &mut Locals,
-    b: Draft,
-) -> Result<Draft, Memory>
-    requires { Stands place.now locals.old }
+fn do_while(s: &Stmt, c: &Expr, at: &At<'_>, locals: &mut Locals, b: Draft) -> Result<Draft, Memory>
+    requires { Stands at.now.place locals.old }
     ensures made { IfOk result (λ _. locals.new.made.items ≡ locals.old.made.items) }
-    ensures stands { IfOk result (λ _. Stands place.now locals.new) }
+    ensures stands { IfOk result (λ _. Stands at.now.place locals.new) }
     ensures code { IfOk result (λ r. Grown b r (λ exits. stmt_items
-        (within_in place.now locals.old.made.items exits) (4 * length b.code.code)
+        (within_in at.now.place locals.old.made.items exits) (4 * length b.code.code)
         (DoWhile (stmt_view s.now) (expr_view c.now)))) }
 {
     let Draft { code, holes } = b;
@@ -226,9 +199,9 @@ fn until_loop(
     let Draft {
         code: passed,
         holes: out,
-    } = body(s, place, locals, begun)?;
+    } = body(s, &at.place, locals, begun)?;
     let more = address(&passed)?;
-    let tested = valued(c, place, locals, passed)?;
+    let tested = valued(c, &at.place, locals, passed)?;
     let code = close_until(top, more, out.as_slice(), tested)?;
     Ok(Draft { code, holes })
 }
@@ -269,23 +242,22 @@ fn for_loop(
 #[cycle(statement)]
 fn statements(
     list: &List<Stmt>,
-    since: Mark,
-    place: &Place<'_>,
+    at: &At<'_>,
     locals: &mut Locals,
     b: Draft,
 ) -> Result<Draft, Memory>
-    requires { Within place.now since locals.old }
+    requires { Within at.now.place at.now.since locals.old }
     ensures made { IfOk result (λ _.
         locals.new.made.items ≡ locals.old.made.items ++ slots_made_by (stmts_view list.now)) }
-    ensures within { IfOk result (λ _. Within place.now since locals.new) }
+    ensures within { IfOk result (λ _. Within at.now.place at.now.since locals.new) }
     ensures code { IfOk result (λ r. Grown b r (λ exits. stmts_items
-        (here_in place.now locals.old.made.items since.made exits) (4 * length b.code.code)
-        (stmts_view list.now))) }
+        (here_in at.now.place locals.old.made.items at.now.since.made exits)
+        (4 * length b.code.code) (stmts_view list.now))) }
 {
     let items = list.as_slice();
     let mut grown = b;
     for i in 0..items.len() {
-        grown = statement(&items[i], since, place, locals, grown)?;
+        grown = statement(&items[i], at, locals, grown)?;
     }
     Ok(grown)
 }
@@ -294,19 +266,18 @@ fn statements(
 #[cycle(statement)]
 fn one_case(
     case: &Case,
-    since: Mark,
-    place: &Place<'_>,
+    at: &At<'_>,
     locals: &mut Locals,
     b: Draft,
 ) -> Result<(Draft, Hole), Memory>
-    requires { Within place.now since locals.old }
+    requires { Within at.now.place at.now.since locals.old }
     ensures made { IfOk result (λ _. locals.new.made.items ≡ locals.old.made.items) }
-    ensures within { IfOk result (λ _. Within place.now since locals.new) }
+    ensures within { IfOk result (λ _. Within at.now.place at.now.since locals.new) }
     ensures code { IfOk result (λ r. Ended b r.0 (r.1 ∷ []) (λ end exits. stmt_items
-        (here_in place.now locals.old.made.items since.made exits) (4 * length b.code.code)
-        (stmt_view case.now.stmt) ++ jump_to Op.Jump end ∷ [])) }
+        (here_in at.now.place locals.old.made.items at.now.since.made exits)
+        (4 * length b.code.code) (stmt_view case.now.stmt) ++ jump_to Op.Jump end ∷ [])) }
 {
-    let done = part(&case.stmt, since, place, locals, b)?;
+    let done = part(&case.stmt, at, locals, b)?;
     let jumped = done.put(Op::Jump, 0)?;
     let hole = jump_at(&jumped.code)?;
     Ok((jumped, hole))
@@ -317,31 +288,30 @@ fn one_case(
 #[cycle(statement)]
 fn all_cases(
     cases: &List<Case>,
-    since: Mark,
-    place: &Place<'_>,
+    at: &At<'_>,
     locals: &mut Locals,
     b: Draft,
 ) -> Result<(Draft, Cased), Memory>
-    requires { Within place.now since locals.old }
+    requires { Within at.now.place at.now.since locals.old }
     ensures made { IfOk result (λ _. locals.new.made.items ≡ locals.old.made.items) }
-    ensures within { IfOk result (λ _. Within place.now since locals.new) }
-    ensures cased { IfOk result (λ r. IsCased place.now locals.old.made.items since.made
+    ensures within { IfOk result (λ _. Within at.now.place at.now.since locals.new) }
+    ensures cased { IfOk result (λ r. IsCased at.now.place locals.old.made.items at.now.since.made
         (cases_view cases.now) b r.0 r.1) }
 {
     let items = cases.as_slice();
-    let at = table_at(&b.code)?;
+    let table = table_at(&b.code)?;
     let mut draft = begin_switch(items, b)?;
-    let mut begins = List::new(place.alloc);
-    let mut ends = List::new(place.alloc);
+    let mut begins = List::new(at.place.alloc);
+    let mut ends = List::new(at.place.alloc);
     for i in 0..items.len() {
         begins.push(address(&draft.code)?)?;
-        let (next, hole) = one_case(&items[i], since, place, locals, draft)?;
+        let (next, hole) = one_case(&items[i], at, locals, draft)?;
         ends.push(hole)?;
         draft = next;
     }
     let default = address(&draft.code)?;
     let led = Cased {
-        at,
+        at: table,
         default,
         begins,
         ends,

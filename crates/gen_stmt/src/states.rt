@@ -23,6 +23,26 @@ use gen_expr::put::{call, cell_of};
 use pawn_base::Memory;
 use pawn_meaning::Expr;
 
+/// An automaton goes to a state where a condition holds.
+pub fn state(
+    a: u32,
+    state: u32,
+    c: &Option<Expr>,
+    place: &Place<'_>,
+    locals: &Locals,
+    b: Draft,
+) -> Result<Draft, Memory>
+    requires { Stands place.now locals.now }
+    ensures { IfOk result (λ r. let scope = scope_in place.now locals.now.made.items in
+        Grown b r (λ exits. state_code scope.program (4 * length b.code.code) a state
+        (condition_items scope (4 * length b.code.code) (perhaps_view c.now)))) }
+{
+    let Draft { code, holes } = b;
+    let tested = condition(c, place, locals, code)?;
+    let code = chosen(a, state, place, tested)?;
+    Ok(Draft { code, holes })
+}
+
 /// The entry function of a state is called, where there is one.
 fn entered(f: Option<u32>, b: Builder) -> Result<Builder, Memory>
     ensures { IfOk result (λ r. r ≡ with_items (enter_code f) b) }
@@ -72,24 +92,4 @@ fn chosen(a: u32, state: u32, place: &Place<'_>, b: Builder) -> Result<Builder, 
     let end = last_cell(&opened)?;
     let done = land(end, opened)?;
     Ok(done)
-}
-
-/// An automaton goes to a state where a condition holds.
-pub fn state(
-    a: u32,
-    state: u32,
-    c: &Option<Expr>,
-    place: &Place<'_>,
-    locals: &Locals,
-    b: Draft,
-) -> Result<Draft, Memory>
-    requires { Stands place.now locals.now }
-    ensures { IfOk result (λ r. let scope = scope_in place.now locals.now.made.items in
-        Grown b r (λ exits. state_code scope.program (4 * length b.code.code) a state
-        (condition_items scope (4 * length b.code.code) (perhaps_view c.now)))) }
-{
-    let Draft { code, holes } = b;
-    let tested = condition(c, place, locals, code)?;
-    let code = chosen(a, state, place, tested)?;
-    Ok(Draft { code, holes })
 }

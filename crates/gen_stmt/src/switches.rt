@@ -17,19 +17,6 @@ use gen_expr::put::{address, cell_of};
 use pawn_base::Memory;
 use pawn_meaning::Case;
 
-/// Behind a value: SWITCH and a case table, whose cells are 0 until they are written.
-#[tactic(auto, using(gen_expr::proofs::GrowLaws::then_grow))]
-fn tabled(cases: &[Case], b: Builder) -> Result<Builder, Memory>
-    ensures { IfOk result (λ r. r ≡ with_items
-        (unled_table (4 * length b.code) (cases_view cases.now)) b) }
-{
-    let count = cases_count(cases)?;
-    let at = cell_of(4 * b.code().len() as u64 + 8)?;
-    let b = b.put(Op::Switch, at)?;
-    let b = table(count, b)?;
-    Ok(b)
-}
-
 /// The same in a draft.
 pub fn begin_switch(cases: &[Case], b: Draft) -> Result<Draft, Memory>
     ensures { IfOk result (λ r. r ≡ record {
@@ -69,4 +56,17 @@ pub fn close_switch(
     let written = write_cases(cases, begins, at + 1, code);
     let code = lead_out(ends, end, 0, written);
     Ok(Draft { code, holes })
+}
+
+/// Behind a value: SWITCH and a case table, whose cells are 0 until they are written.
+#[tactic(auto, using(gen_expr::proofs::GrowLaws::then_grow))]
+fn tabled(cases: &[Case], b: Builder) -> Result<Builder, Memory>
+    ensures { IfOk result (λ r. r ≡ with_items
+        (unled_table (4 * length b.code) (cases_view cases.now)) b) }
+{
+    let count = cases_count(cases)?;
+    let at = cell_of(4 * b.code().len() as u64 + 8)?;
+    let b = b.put(Op::Switch, at)?;
+    let b = table(count, b)?;
+    Ok(b)
 }

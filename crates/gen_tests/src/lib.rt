@@ -2,14 +2,4 @@
 #![tactic(auto)]
 
 #[cfg(test)]
-mod arrays;
-#[cfg(test)]
-mod data;
-#[cfg(test)]
-mod frames;
-#[cfg(test)]
-mod generated_nodes;
-#[cfg(test)]
-mod lists;
-#[cfg(test)]
-mod places;
+mod tests;

@@ -20,6 +20,7 @@ use Rattle.amx_machine.specs.Machine.{Machine}
 use Rattle.host_run.specs.Apart.{written, is_apart, WritesApart}
 use Rattle.host_run.specs.Sights.{arguments_of, put_of, IsRoomFor}
 use Rattle.host_run.proofs.WriteLaws.{length-live, live_within, length-write, writes_length}
+use Rattle.amx_ops.specs.Writable.{memory_limit}
 
 -- ---- the arguments of cells that agree there
 
@@ -169,7 +170,7 @@ apart_stays s write at is o room e =
     (subst (λ a. is_apart s a ≡ true) is e)
 
 -- the stack's end in a register
-pub end_back : (n : ℕ) → n ≤ 134217728 → bits_of (cell_of n) ≡ n
+pub end_back : (n : ℕ) → n ≤ memory_limit → bits_of (cell_of n) ≡ n
 end_back n h = of_z-to_z w32 n (omega (arith, h))
 
 -- ---- writes one behind another

@@ -1,7 +1,7 @@
 -- Small tables can be written once the publics are sorted.
 use Rattle.std.proofs.Common.{◌≡◌, ◌≢◌, ◌+◌, ◌*◌, ◌/◌, ◌%◌, ◌≤◌, ℕ, pos, List, [], ◌∷◌, All, length}
 use Rattle.std.proofs.Common.{map, refl, sym, subst, arith}
-use Rattle.std.specs.List.Sorted.{IsSorted}
+use Rattle.std.specs.List.Sorted.{IsPermutation, IsSorted}
 use Rattle.std.specs.Cmp.Lexicographic.{slice_cmp}
 use Rattle.std.specs.Ordering.{nat_cmp}
 use Rattle.std.proofs.Math.ListN.{get_or-map}
@@ -11,7 +11,7 @@ use Rattle.std.proofs.lemmas.List.Elements.{All-nil, All-cons}
 use Rattle.std.proofs.lemmas.List.Sorted.{All-permutation, length_permutation, sum_by-IsPermutation}
 use Rattle.amx_ops.specs.declared.amx.Amx.{Amx}
 use Rattle.amx_ops.specs.declared.amx.Record.{Record}
-use Rattle.amx_ops.specs.Writable.{IsWritable, IsWritableName, names_size}
+use Rattle.amx_ops.specs.Writable.{IsWritable, IsWritableName, code_place, names_size}
 use Rattle.amx_format.specs.Sorts.{Sorts, IsWritableSorted, with_publics}
 
 abbrev name_of : Record → List ℕ
@@ -85,19 +85,39 @@ in_order records publics it k d low high =
 module _ (amx : Amx) (publics : IsSmall 3 amx.publics) (natives : IsSmall 1 amx.natives)
     (libraries : IsSmall 1 amx.libraries)
     (variables : IsSmall 1 amx.variables) (tags : IsSmall 1 amx.tags) where
-  pub writable : amx.flags / 2 % 4 ≡ 0 → (1 ≤ amx.version) × (amx.version ≤ 8) → length amx.code ≡ 7
-      → length amx.store ≡ 9 → amx.room ≡ 4
-      → IsWritableSorted amx
-  writable flags version code store room list sorts =
-      let n : length list ≡ length amx.publics = length_permutation amx.publics list sorts.same in
+  -- at most 3 bytes behind the header, seven records and their names
+  code_begins : (list : List Record) → IsPermutation amx.publics list
+      → code_place (with_publics amx list) ≤ 131
+  code_begins list same =
+      let n : length list ≡ length amx.publics = length_permutation amx.publics list same in
       let s : names_size list ≡ names_size amx.publics =
-      sum_by-IsPermutation (λ (r : Record). length r.name + 1) amx.publics list
-      sorts.same in
+      sum_by-IsPermutation (λ (r : Record). length r.name + 1) amx.publics list same in
       let n_publics = publics.length_is in let s_publics = publics.size in
       let n_natives = natives.length_is in let s_natives = natives.size in
       let n_libraries = libraries.length_is in let s_libraries = libraries.size in
       let n_variables = variables.length_is in let s_variables = variables.size in
       let n_tags = tags.length_is in let s_tags = tags.size in
+      omega (
+        arith,
+        n,
+        s,
+        n_publics,
+        n_natives,
+        n_libraries,
+        n_variables,
+        n_tags,
+        s_publics,
+        s_natives,
+        s_libraries,
+        s_variables,
+        s_tags,
+      )
+
+  pub writable : amx.flags / 2 % 4 ≡ 0 → (1 ≤ amx.version) × (amx.version ≤ 8) → length amx.code ≡ 7
+      → length amx.store ≡ 9 → amx.room ≡ 4
+      → IsWritableSorted amx
+  writable flags version code store room list sorts =
+      let place = code_begins list sorts.same in
       record {
         sorted = in_order amx.publics list sorts;
         publics = All-permutation IsWritableName amx.publics list sorts.same publics.names;
@@ -107,42 +127,7 @@ module _ (amx : Amx) (publics : IsSmall 3 amx.publics) (natives : IsSmall 1 amx.
         tags = tags.names;
         version = version;
         flags = flags;
-        size =
-            omega (
-              arith,
-              n,
-              s,
-              n_publics,
-              n_natives,
-              n_libraries,
-              n_variables,
-              n_tags,
-              s_publics,
-              s_natives,
-              s_libraries,
-              s_variables,
-              s_tags,
-              code,
-              store,
-            );
-        top =
-            omega (
-              arith,
-              n,
-              s,
-              n_publics,
-              n_natives,
-              n_libraries,
-              n_variables,
-              n_tags,
-              s_publics,
-              s_natives,
-              s_libraries,
-              s_variables,
-              s_tags,
-              code,
-              store,
-              room,
-            );
+        size = omega (arith, place, code, store);
+        top = omega (arith, place, code, store, room);
         memory = omega (arith, code, store, room);
       }

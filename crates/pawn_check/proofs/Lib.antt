@@ -1,4 +1,4 @@
 pub mod DeclaredLaws
 pub mod FunctionNameLaws
 pub mod NameFaultLaws
-pub mod WholeLaws
+pub mod TogetherLaws

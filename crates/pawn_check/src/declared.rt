@@ -63,12 +63,13 @@ fn declared_around<'a>(
     faults_are_given();
     let mut point = start(alloc, tree, reading)?;
     let known = Known {
+        alloc,
         cx,
         automata: &reading.source.automata,
         groups: &reading.source.groups,
         fallback: reading.source.fallback,
     };
-    match declarations(alloc, &known, &mut point, tree.decls.as_slice()) {
+    match declarations(&known, &mut point, tree.decls.as_slice()) {
         Ok(done) => Ok(done),
         Err(fault) => Err(fault_of(fault)),
     }

@@ -11,7 +11,7 @@ use Rattle.command_parts.specs.declared.stop.Stop.TheVariants.{FileFault}
 use Rattle.command_parts.specs.declared.command_words.WordsFault.{WordsFault}
 use Rattle.command_parts.specs.declared.command_words.WordsFault.TheVariants as words
 use Rattle.command_parts.specs.Reading.{Reads}
-use Rattle.command_parts.specs.ValidFile.{IsFileNamed}
+use Rattle.command_parts.specs.ValidFile.{IsValidRead}
 use Rattle.command_parts.specs.Told.{Told, Writes, TellsStop, status_told}
 use Rattle.pawn_cli.specs.Answers.{Answers, NoCommand, bad_words, no_memory, words_stop}
 use Rattle.pawn_cli.specs.ReadsFile.{ReadsFile}
@@ -45,14 +45,14 @@ module _ {S : Type 0} {writes : Writes S} {held : Option Held} {old new : S} whe
 
 module _ {S : Type 0} {writes : Writes S} {held after : Option Held} {old new : S}
     (text_of : Amx → ListOf ℕ) (name : ListOf ℕ) where
-  pub reads_none : (stop : Stop) (answer : Status) → IsFileNamed held name (Err stop) → after ≡ held
+  pub reads_none : (stop : Stop) (answer : Status) → IsValidRead held name (Err stop) → after ≡ held
       → TellsStop stop writes old new answer
       → ReadsFile text_of writes name held after old new answer
   reads_none stop answer none kept tells =
       inl (record { stop = stop; comes = none; kept = kept; tells = tells })
 
   pub reads_one : (amx : Amx) (text : ListOf ℕ) (told : Told) (answer : Status)
-      → IsFileNamed held name (Ok amx) → after ≡ held → text ≡ text_of amx
+      → IsValidRead held name (Ok amx) → after ≡ held → text ≡ text_of amx
       → writes old new text told → answer ≡ status_told status.Ok told
       → ReadsFile text_of writes name held after old new answer
   reads_one amx text told answer valid kept e written is =

@@ -7,8 +7,7 @@ use Rattle.command_parts.specs.declared.status.Status.{Status}
 use Rattle.command_parts.specs.declared.status.Status.TheVariants as status
 use Rattle.command_parts.specs.declared.read.TheConstants.{FILE_LIMIT}
 use Rattle.command_parts.specs.Unread.{IsRead}
-use Rattle.command_parts.specs.ValidFile.{IsValidFile}
-use Rattle.command_parts.specs.Program.{NoFile}
+use Rattle.command_parts.specs.ValidFile.{IsValidFile, NoFile}
 use Rattle.command_parts.specs.Told.{Told, Writes, status_told}
 use Rattle.commands.specs.Runs.{IsStopped}
 

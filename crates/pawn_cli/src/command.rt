@@ -1,15 +1,14 @@
-ghost use Rattle.std.specs.Prelude.{◌≡◌, List as ListOf, ℕ, Option, Some, map};
+ghost use Rattle.std.specs.Prelude.{◌≡◌, Some, map};
 ghost use Rattle.std.specs.String.{string_bytes};
 ghost use Rattle.pawn_outside.specs.Said.{Said};
 ghost use Rattle.command_parts.specs.Command.{command_of};
 ghost use Rattle.command_parts.specs.Calls.{CommandCalls};
 ghost use Rattle.pawn_cli.specs.Answers.{Answers, Does, words_stop};
-ghost use Rattle.pawn_cli.specs.Answers.{AreCompile, AreGo, AreResume, AreRun};
 
 use super::list::list;
 use super::verify::verify;
-use command_parts::{Command, Name, Status, Stop, WordsFault, read_words, tell_stop};
-use commands::{CompileWords, GoWords, ResumeWords, RunWords, compile, go, resume, run};
+use command_parts::{Command, Status, Stop, WordsFault, read_words, tell_stop};
+use commands::{compile, go, resume, run};
 use pawn_outside::{Files, Sink};
 use std::alloc::Global;
 
@@ -48,94 +47,11 @@ fn serve<F: Files, S: Sink>(alloc: Global, command: Command, files: &mut F, out:
     ensures calls { CommandCalls F.faults F.never_fails files.old files.new result }
 {
     match command {
-        Command::Compile { src, amx, compact } => {
-            let words = compile_words(&src, &amx, compact);
-            compile(alloc, words, files, out)
-        }
+        Command::Compile(words) => compile(alloc, &words, files, out),
         Command::Verify { amx } => verify(alloc, amx.as_str(), files, out),
         Command::List { amx } => list(alloc, amx.as_str(), files, out),
-        Command::Run {
-            amx,
-            script,
-            image,
-            steps,
-            entry,
-        } => {
-            let words = run_words(&amx, &script, &image, steps, entry.as_slice());
-            run(alloc, words, files, out)
-        }
-        Command::Resume {
-            amx,
-            script,
-            image,
-            steps,
-        } => {
-            let words = resume_words(&amx, &script, &image, steps);
-            resume(alloc, words, files, out)
-        }
-        Command::Go {
-            src,
-            amx,
-            script,
-            steps,
-            sleeps,
-        } => {
-            let words = go_words(&src, &amx, &script, steps, sleeps);
-            go(alloc, words, files, out)
-        }
-    }
-}
-
-fn compile_words<'w>(src: &'w Name, amx: &'w Name, compact: bool) -> CompileWords<'w>
-    ensures { AreCompile result src.now amx.now compact }
-{
-    CompileWords { src, amx, compact }
-}
-
-fn run_words<'w>(
-    amx: &'w Name,
-    script: &'w Name,
-    image: &'w Name,
-    steps: u64,
-    entry: &'w [u8],
-) -> RunWords<'w>
-    ensures { AreRun result amx.now script.now image.now steps entry.now }
-{
-    RunWords {
-        amx,
-        script,
-        image,
-        steps,
-        entry,
-    }
-}
-
-fn resume_words<'w>(amx: &'w Name, script: &'w Name, image: &'w Name, steps: u64) -> ResumeWords<'w>
-    ensures { AreResume result amx.now script.now image.now steps }
-{
-    ResumeWords {
-        amx,
-        script,
-        image,
-        steps,
-    }
-}
-
-fn go_words<'w>(
-    src: &'w Name,
-    amx: &'w Name,
-    script: &'w Option<Name>,
-    steps: u64,
-    sleeps: u32,
-) -> GoWords<'w>
-    ensures { let named : Option (ListOf ℕ) = script.now in
-        AreGo result src.now amx.now named steps sleeps }
-{
-    GoWords {
-        src,
-        amx,
-        script,
-        steps,
-        sleeps,
+        Command::Run(words) => run(alloc, &words, files, out),
+        Command::Resume(words) => resume(alloc, &words, files, out),
+        Command::Go(words) => go(alloc, &words, files, out),
     }
 }

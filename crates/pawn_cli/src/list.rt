@@ -3,6 +3,7 @@ ghost use Rattle.pawn_outside.specs.Said.{Said};
 ghost use Rattle.amx_text.specs.Listing.{listing};
 ghost use Rattle.command_parts.specs.Calls.{CommandCalls};
 ghost use Rattle.pawn_cli.specs.ReadsFile.{Lists};
+ghost use Rattle.amx_ops.specs.Writable.{cells_limit};
 
 use amx_ops::Amx;
 use command_parts::{Status, read_valid, tell_stop, told};
@@ -22,7 +23,7 @@ pub fn list<F: Files, S: Sink>(alloc: Global, amx: &str, files: &mut F, out: &mu
 }
 
 fn say_listing<S: Sink>(amx: &Amx, out: &mut S) -> Result<(), SinkFault>
-    requires { length amx.now.code + length amx.now.store + amx.now.room ≤ 33554432 }
+    requires { length amx.now.code + length amx.now.store + amx.now.room ≤ cells_limit }
     ensures { Said S.taken S.faults S.has_room out.old out.new (listing amx.now) result }
 {
     match amx_text::list(amx, out) {

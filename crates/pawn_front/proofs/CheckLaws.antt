@@ -14,8 +14,9 @@ use Rattle.pawn_verdict.specs.declared.fault.CheckFault.TheVariants.{Source, Mem
 use Rattle.pawn_verdict.specs.Answers.{Answers}
 use Rattle.pawn_check.specs.declared.checked.Checked.{Checked}
 use Rattle.pawn_check.specs.View.{checked_view}
-use Rattle.pawn_front.specs.Checks.{Grows, ChecksTokens, Checks}
-use Rattle.pawn_front.specs.Faults.{too_deep, no_tree, by_tokens, by_tree, behind_bytes}
+use Rattle.pawn_front.specs.Checks.{Cuts, Grows, ChecksTokens, Checks}
+use Rattle.pawn_front.specs.Faults.{too_deep, no_tree, by_tokens, by_tree, by_bytes}
+use Rattle.pawn_front.specs.Faults.{behind_bytes}
 use Rattle.pawn_front.specs.Places.{place_at}
 
 -- ---- the tree of tokens
@@ -55,6 +56,11 @@ no_tree_checked ts dynamic (Source kind place) breaks = by_tokens breaks
 no_tree_checked ts dynamic Memory breaks = tt
 
 -- ---- the program of lines
+
+pub no_tokens_checked : (lines : Lines) (fault : CheckFault) → Cuts lines.lines (Err fault)
+    → Checks lines (Err fault)
+no_tokens_checked lines (Source kind place) first = by_bytes first
+no_tokens_checked lines Memory first = tt
 
 pub checks_behind : (lines : Lines) (ts : List Token) (result : Result Checked CheckFault)
     → AreTokens lines.lines ts

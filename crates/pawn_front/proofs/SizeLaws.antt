@@ -1,5 +1,5 @@
 -- A file of a good program has no more bytes than a file may have, whatever its encoding.
-use Rattle.std.proofs.Common.{◌≡◌, ◌+◌, ◌-◌, ◌*◌, ◌≤◌, ◌∙◌, ℕ, zero, suc, List, [], ◌∷◌, ◌++◌}
+use Rattle.std.proofs.Common.{◌≡◌, ◌+◌, ◌-◌, ◌*◌, ◌≤◌, ◌∙◌, ℕ, suc, List, [], ◌∷◌, ◌++◌}
 use Rattle.std.proofs.Common.{length, map, refl, ap, arith, length-append}
 use Rattle.std.specs.Prelude.{All, sum_by}
 use Rattle.std.proofs.lemmas.List.Sums.{sum_by-append, sum_by-cons}
@@ -16,7 +16,8 @@ use Rattle.amx_format.specs.Layout as layout
 use Rattle.amx_format.specs.Layout.{half, zeros, all_records, header_bytes, layout_header, table}
 use Rattle.amx_format.specs.Layout.{IsRow, IsLayout}
 use Rattle.amx_format.proofs.HeaderLaws.{length-header}
-use Rattle.amx_format.proofs.RowLaws.{names_size-append, row_short}
+use Rattle.amx_format.proofs.FileLaws.{length-zeros, length-half}
+use Rattle.amx_format.proofs.RowLaws.{names_size-append, cells_short}
 use Rattle.amx_format.proofs.TableLaws.{length-table, length-names}
 use Rattle.gen_agrees.specs.Agrees.{Agrees}
 use Rattle.gen_agrees.specs.Shape.{names, native_record}
@@ -129,14 +130,6 @@ module _ (program : Program) (amx : Amx) (good : IsGoodProgram program)
 
 -- ---- bytes
 
-length-zeros : (n : ℕ) → length (zeros n) ≡ n
-length-zeros zero = refl
-length-zeros (suc n) = let ih = length-zeros n in omega (arith, ih)
-
-length-half : (x : ℕ) → length (half x) ≡ 2
-unfolding half
-length-half x = refl
-
 long_of : (a b c d e f : List ℕ)
     → length (a ++ (b ++ (c ++ (d ++ (e ++ f)))))
     ≡ length a + (length b + (length c + (length d + (length e + length f))))
@@ -144,14 +137,6 @@ long_of a b c d e f = simp length-append refl
 
 module _ (encoding : Encoding) (amx : Amx) (row : List ℕ)
     (is_row : IsRow encoding (amx.code ++ amx.store) row) where
-  short : length row ≤ 5 * cells_of amx
-  short =
-      omega (
-        arith,
-        row_short encoding (amx.code ++ amx.store) row is_row,
-        length-append amx.code amx.store,
-      )
-
   all_count : length (all_records amx)
       ≡ length amx.publics + (length amx.natives
       + (length amx.libraries + (length amx.variables + length amx.tags)))
@@ -186,7 +171,7 @@ file_small program amx encoding bytes good agrees it =
       arith,
       ap length it.is,
       long encoding amx it.row it.is_row,
-      short encoding amx it.row it.is_row,
+      cells_short encoding amx it.row it.is_row,
       cells program amx good agrees,
       tables program amx good agrees,
     )

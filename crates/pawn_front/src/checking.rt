@@ -20,14 +20,12 @@ const NO_TREE: u8 = 30;
 
 /// The program of lines, or a fault of the first layer that refuses them: their bytes, their
 /// tokens, or their tree.
-pub fn checked(alloc: Global, lines: &Lines) -> Result<Checked, CheckFault>
+pub fn check_lines(alloc: Global, lines: &Lines) -> Result<Checked, CheckFault>
     requires { IsBounded lines.now }
     ensures { Checks lines.now result }
 {
-    match cut(alloc, lines) {
-        Ok(tokens) => checked_tokens(alloc, &tokens, lines.dynamic),
-        Err(fault) => Err(fault),
-    }
+    let tokens = cut(alloc, lines)?;
+    check_tokens(alloc, &tokens, lines.dynamic)
 }
 
 /// The tokens of lines.
@@ -43,18 +41,16 @@ fn cut(alloc: Global, lines: &Lines) -> Result<Tokens, CheckFault>
 }
 
 /// The program of tokens, for a room of so many cells for heap and stack.
-fn checked_tokens(alloc: Global, tokens: &Tokens, dynamic: i32) -> Result<Checked, CheckFault>
+fn check_tokens(alloc: Global, tokens: &Tokens, dynamic: i32) -> Result<Checked, CheckFault>
     requires { length tokens.now.list < 2 ^ 32 - 1 }
     ensures { ChecksTokens tokens.now.list dynamic result }
 {
-    match grown(alloc, tokens) {
-        Ok(tree) => check(alloc, &tree, dynamic),
-        Err(fault) => Err(fault),
-    }
+    let tree = tree_of(alloc, tokens)?;
+    check(alloc, &tree, dynamic)
 }
 
 /// The tree of tokens.
-fn grown(alloc: Global, tokens: &Tokens) -> Result<Tree, CheckFault>
+fn tree_of(alloc: Global, tokens: &Tokens) -> Result<Tree, CheckFault>
     requires { length tokens.now.list < 2 ^ 32 - 1 }
     ensures { Grows tokens.now.list result }
 {

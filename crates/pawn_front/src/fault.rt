@@ -1,4 +1,5 @@
 use pawn_base::{Bytes, Memory};
+use pawn_pre::PreFault;
 use thiserror::Error;
 
 /// Why a source isn't compiled.
@@ -29,5 +30,27 @@ impl From<Memory> for CompileFault {
 
     fn from(_: Memory) -> CompileFault {
         CompileFault::Memory
+    }
+}
+
+/// The fault that the preprocessor's is.
+impl From<PreFault> for CompileFault {
+    ghost use Rattle.std.specs.Prelude.{◌≡◌};
+    ghost use Rattle.pawn_front.specs.Checks.{fault_of};
+
+    ghost from_gives = { λ fault given. given ≡ fault_of fault };
+
+    fn from(fault: PreFault) -> CompileFault {
+        match fault {
+            PreFault::Source { kind, place, name } => CompileFault::Refused {
+                kind,
+                file: name,
+                line: place.line,
+            },
+            PreFault::NoSource => CompileFault::NoSource,
+            PreFault::TooLarge(name) => CompileFault::TooLarge(name),
+            PreFault::Files => CompileFault::Files,
+            PreFault::Memory => CompileFault::Memory,
+        }
     }
 }

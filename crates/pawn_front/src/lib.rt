@@ -7,12 +7,12 @@ mod compiled;
 mod fault;
 mod files;
 mod good;
-mod laws;
 mod making;
+mod one_program;
 mod source;
 
 pub use amx_format::Encoding;
 pub use compiled::{Compiled, Warning};
 pub use fault::CompileFault;
-pub use laws::{a_source_has_one_program, what_means_is_not_refused};
+pub use one_program::{a_source_has_one_program, what_means_is_not_refused};
 pub use source::compile;

@@ -11,12 +11,10 @@ use std::alloc::Global;
 
 /// The bytes of a program's file.
 #[tactic(auto, using(crate::proofs::MakingLaws::file_is))]
-pub fn made(alloc: Global, program: &Program, encoding: Encoding) -> Result<Bytes, Memory>
+pub fn file_bytes(alloc: Global, program: &Program, encoding: Encoding) -> Result<Bytes, Memory>
     requires { IsGoodProgram (program_view program.now) }
     ensures { IfOk result (HasFile (program_view program.now) encoding) }
 {
-    match generate(alloc, program) {
-        Ok(amx) => write(alloc, &amx, encoding),
-        Err(Memory) => Err(Memory),
-    }
+    let amx = generate(alloc, program)?;
+    write(alloc, &amx, encoding)
 }

@@ -1,25 +1,25 @@
-ghost use Rattle.std.specs.Prelude.{◌≡◌, Err, IfOk};
+ghost use Rattle.std.specs.Prelude.{◌≡◌, Err};
 ghost use Rattle.pawn_outside.specs.OnlyRead.{OnlyRead};
 ghost use Rattle.pawn_pre.specs.Bounds.{IsBounded};
 ghost use Rattle.pawn_meaning.specs.Program.{Program as PlainProgram};
 ghost use Rattle.pawn_meaning.specs.View.{program_view};
-ghost use Rattle.pawn_front.specs.Checks.{Checks, Refuses, RefusesLines, fault_of};
-ghost use Rattle.pawn_front.specs.Compiled.{Compiles, CompilesLines, IsOfLines};
+ghost use Rattle.pawn_front.specs.Checks.{Checks, Refuses, RefusesLines};
+ghost use Rattle.pawn_front.specs.Compiled.{Compiles, CompilesLines};
 ghost use Rattle.types_laws.specs.GoodSources.{IsGoodProgram};
 ghost use Rattle.pawn_front.specs.Means.{IsProgramOf};
 
-use super::checking::checked;
+use super::checking::check_lines;
 use super::compiled::Compiled;
 use super::fault::CompileFault;
 use super::files::{file_name, warnings};
 use super::good::{are_byte_lines, programs_of_sources_are_good};
-use super::making::made;
+use super::making::file_bytes;
 use amx_format::Encoding;
 use pawn_base::{Bytes, Memory};
 use pawn_cells::Place;
 use pawn_check::{CheckFault, Checked};
 use pawn_outside::Files;
-use pawn_pre::{Lines, PreFault, preprocess};
+use pawn_pre::{Lines, preprocess};
 use std::alloc::Global;
 
 /// Compiles the source of a name, over the files that it includes: its lines, their tokens, the
@@ -45,42 +45,20 @@ pub fn compile<F: Files>(
     ensures files { OnlyRead F.held F.faults F.never_fails files.old files.new
         (result ≡ Err CompileFault.Files) }
 {
-    match preprocess(alloc, name, files) {
-        Ok(lines) => compiled_lines(alloc, &lines, encoding),
-        Err(fault) => Err(fault_of(fault)),
-    }
-}
-
-/// The fault that a preprocessor's is.
-fn fault_of(fault: PreFault) -> CompileFault
-    ensures { result ≡ fault_of fault }
-{
-    match fault {
-        PreFault::Source { kind, place, name } => CompileFault::Refused {
-            kind,
-            file: name,
-            line: place.line,
-        },
-        PreFault::NoSource => CompileFault::NoSource,
-        PreFault::TooLarge(name) => CompileFault::TooLarge(name),
-        PreFault::Files => CompileFault::Files,
-        PreFault::Memory => CompileFault::Memory,
-    }
+    let lines = preprocess(alloc, name, files)?;
+    compile_lines(alloc, &lines, encoding)
 }
 
 /// Compiles lines.
-fn compiled_lines(
-    alloc: Global,
-    lines: &Lines,
-    encoding: Encoding,
-) -> Result<Compiled, CompileFault>
+fn compile_lines(alloc: Global, lines: &Lines, encoding: Encoding) -> Result<Compiled, CompileFault>
     requires { IsBounded lines.now }
     ensures { CompilesLines lines.now encoding result }
 {
+    // For the proof alone: the program is as the generator asks.
     programs_of_sources_are_good();
     are_byte_lines(lines.lines.as_slice());
-    match checked(alloc, lines) {
-        Ok(checked) => compiled(alloc, lines, &checked, encoding),
+    match check_lines(alloc, lines) {
+        Ok(checked) => compile_program(alloc, lines, &checked, encoding),
         Err(fault) => Err(fault_in(alloc, lines, fault)),
     }
 }
@@ -91,13 +69,13 @@ fn fault_in(alloc: Global, lines: &Lines, fault: CheckFault) -> CompileFault
     ensures { RefusesLines lines.now result }
 {
     match fault {
-        CheckFault::Source { kind, place } => refused(alloc, lines, kind, place),
+        CheckFault::Source { kind, place } => refusal(alloc, lines, kind, place),
         CheckFault::Memory => CompileFault::Memory,
     }
 }
 
 /// The refusal of a rule that is broken at a place, or want of memory for its file's name.
-fn refused(alloc: Global, lines: &Lines, kind: u8, place: Place) -> CompileFault
+fn refusal(alloc: Global, lines: &Lines, kind: u8, place: Place) -> CompileFault
     ensures { Refuses lines.now.files kind place result }
 {
     match Bytes::from_slice(alloc, file_name(lines.files.as_slice(), place.file)) {
@@ -110,8 +88,8 @@ fn refused(alloc: Global, lines: &Lines, kind: u8, place: Place) -> CompileFault
     }
 }
 
-/// The file of a program of lines, and its warnings, or want of memory.
-fn compiled(
+/// The file of a program of lines, and its warnings.
+fn compile_program(
     alloc: Global,
     lines: &Lines,
     checked: &Checked,
@@ -122,25 +100,7 @@ fn compiled(
     requires good { IsGoodProgram (program_view checked.now.program) }
     ensures { CompilesLines lines.now encoding result }
 {
-    match written(alloc, lines, checked, encoding) {
-        Ok(compiled) => Ok(compiled),
-        Err(Memory) => Err(CompileFault::Memory),
-    }
-}
-
-/// The file of a program of lines, and its warnings.
-fn written(
-    alloc: Global,
-    lines: &Lines,
-    checked: &Checked,
-    encoding: Encoding,
-) -> Result<Compiled, Memory>
-    requires program { let it : PlainProgram = program_view checked.now.program in
-        IsProgramOf lines.now it checked.now.warnings }
-    requires good { IsGoodProgram (program_view checked.now.program) }
-    ensures { IfOk result (IsOfLines lines.now encoding) }
-{
-    let bytes = made(alloc, &checked.program, encoding)?;
+    let bytes = file_bytes(alloc, &checked.program, encoding)?;
     let warnings = warnings(alloc, lines.files.as_slice(), checked.warnings.as_slice())?;
     Ok(Compiled { bytes, warnings })
 }

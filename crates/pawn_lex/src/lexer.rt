@@ -13,6 +13,21 @@ use pawn_pre::Lines;
 use pawn_token::TokenFault;
 use std::alloc::Global;
 
+/// The tokens of lines, or the first fault in the order of bytes.
+pub fn tokens(alloc: Global, lines: &Lines) -> Result<Tokens, LexFault>
+    ensures answer { IsAnswer lines.now.lines result }
+    ensures only_tokens { (list : ListOf TokenOf) → AreTokens lines.now.lines list →
+        AnswersTokens list result }
+    ensures only_fault { (fault : ℕ) (place : PlaceOf) → IsFirstFault lines.now.lines fault place →
+        AnswersFault fault place result }
+    ensures determined { AreDetermined lines.now.lines }
+
+    // What sizes and places come out, for those who go on with the tokens.
+    ensures within { IsWithin lines.now.lines result }
+{
+    read(alloc, lines)
+}
+
 /// Reads line by line.
 fn read(alloc: Global, lines: &Lines) -> Result<Tokens, LexFault>
     ensures { IsAnswer lines.now.lines result }
@@ -29,19 +44,4 @@ fn read(alloc: Global, lines: &Lines) -> Result<Tokens, LexFault>
         }
     }
     Ok(Tokens { list })
-}
-
-/// The tokens of lines, or the first fault in the order of bytes.
-pub fn tokens(alloc: Global, lines: &Lines) -> Result<Tokens, LexFault>
-    ensures answer { IsAnswer lines.now.lines result }
-    ensures only_tokens { (list : ListOf TokenOf) → AreTokens lines.now.lines list →
-        AnswersTokens list result }
-    ensures only_fault { (fault : ℕ) (place : PlaceOf) → IsFirstFault lines.now.lines fault place →
-        AnswersFault fault place result }
-    ensures determined { AreDetermined lines.now.lines }
-
-    // What sizes and places come out, for those who go on with the tokens.
-    ensures within { IsWithin lines.now.lines result }
-{
-    read(alloc, lines)
 }

@@ -6,13 +6,6 @@ use super::token::{Token, Tokens};
 use pawn_token::{Key, Sign, TokenKind};
 
 impl Tokens {
-    /// The token with a number, counted from 0.
-    fn token(&self, at: usize) -> Option<&Token>
-        ensures { option_map (λ token. token.now) result ≡ slice_get self.now.list at }
-    {
-        self.list.as_slice().get(at)
-    }
-
     /// What the token with a number is, or none behind the end.
     pub fn kind(&self, at: usize) -> Option<&TokenKind>
         ensures { option_map (λ kind. kind.now) result ≡ spec.kind_at self.now.list at }
@@ -83,5 +76,12 @@ impl Tokens {
             }
             _ => None,
         }
+    }
+
+    /// The token with a number, counted from 0.
+    fn token(&self, at: usize) -> Option<&Token>
+        ensures { option_map (λ token. token.now) result ≡ slice_get self.now.list at }
+    {
+        self.list.as_slice().get(at)
     }
 }

@@ -38,6 +38,11 @@ pub expr_view-Chain : (e : Box held.Expr Global) (links : List Link)
     → expr_view (held.Chain e links) ≡ plain.Chain (expr_view e.value) (links_view links)
 expr_view-Chain e links = search (rules, links-items, held.the_lemmas)
 
+-- an expression that is a chain
+pub seen_chain : (expr : held.Expr) (e : Box held.Expr Global) (links : List Link)
+    → expr ≡ held.Chain e links → expr_view expr ≡ plain.Chain (expr_view e.value) (links_view links)
+seen_chain expr e links is = rw is (expr_view-Chain e links)
+
 stmts-items : (n : Count) (row : held_stmt.Row_of-Stmt n)
     → stmts_row_view row ≡ stmts_view (held_stmt.items-the_row-Stmt n row)
 stmts-items n held_stmt.end_of-Stmt = refl

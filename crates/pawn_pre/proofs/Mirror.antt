@@ -1,5 +1,5 @@
 -- A stack of open files shows a page: what it has of the marks and of the open lines.
-use Rattle.std.proofs.Common.{◌≡◌, List, [], ◌∷◌, Bool, false, if◌then◌else◌}
+use Rattle.std.proofs.Common.{◌≡◌, List, [], ◌∷◌, Bool, false, if◌then◌else◌, refl}
 use Rattle.pawn_outside.specs.Held.{Held}
 use Rattle.pawn_pre.specs.declared.state.Conditional.{Conditional}
 use Rattle.pawn_pre.specs.declared.state.Part.TheVariants.{Chosen, Waiting, Done}
@@ -113,3 +113,22 @@ pub record Follows (value : Value) (map : Held) (s : Stack) (t : Turn) : Type 0 
 abbrev pub Mirrors : Value → Held → Turned → Turn → Type 0
 Mirrors value map (On s) t = Follows value map s t
 Mirrors value map (Stopped o) t = EndsBy value map t o
+
+-- a page as it is follows the turn that is on its way
+pub shown_stays : (value : Value) (map : Held) (marks : List Mark) (mode : Mode)
+    (outer : List Bool) (lower : List (List Bool)) (top : Level) (below : List Level)
+    → conditionals marks ≡ marked mode outer ∷ lower → Covers lower below
+    → Follows value map (shown marks mode outer top below)
+    (pending value map mode marks (lines_open top below))
+shown_stays value map marks mode outer lower top below opens covers = record {
+  marks = marks;
+  mode = mode;
+  outer = outer;
+  lower = lower;
+  top = top;
+  below = below;
+  shows = refl;
+  opens = opens;
+  covers = covers;
+  leads = λ o ends. ends;
+}

@@ -21,7 +21,7 @@ use Rattle.pawn_pre.specs.Evaluation.{Value}
 use Rattle.pawn_pre.specs.Walk as walks
 use Rattle.pawn_pre.specs.Walk.{Turned, On, Stopped, worked}
 use Rattle.pawn_pre.proofs.Mirror.{Way, Waits, Passes, Drops, Covers, Follows, Mirrors, chosen}
-use Rattle.pawn_pre.proofs.Mirror.{passed, part_by, marked_by, shown, dropped_by, lines_open}
+use Rattle.pawn_pre.proofs.Mirror.{passed, part_by, marked_by, shown, shown_stays, dropped_by, lines_open}
 use Rattle.pawn_pre.proofs.MirrorKept.{fails, by_result, reads_on}
 use Rattle.pawn_pre.proofs.MirrorParts.{opened_by}
 use Rattle.pawn_pre.proofs.PageLaws.{started}
@@ -64,18 +64,8 @@ module _ (value : Value) (map : Held) (marks : List Mark) (lower : List (List Bo
   stays : (way : Way) (inner : List Bool) → conditionals marks ≡ marked_by way outer ∷ lower →
       Follows value map (shown marks (Drops way inner) outer top below)
       (dropped_by way marks (partner inner (lines_open top below)))
-  stays way inner opens = record {
-    marks = marks;
-    mode = Drops way inner;
-    outer = outer;
-    lower = lower;
-    top = top;
-    below = below;
-    shows = refl;
-    opens = opens;
-    covers = covers;
-    leads = λ o ends. ends;
-  }
+  stays way inner opens =
+      shown_stays value map marks (Drops way inner) outer lower top below opens covers
 
   -- what is done in chosen parts only
   module _ (way : Way) (inner : List Bool)

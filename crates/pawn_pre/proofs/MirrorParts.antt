@@ -17,7 +17,7 @@ use Rattle.pawn_pre.specs.Partner.{partner}
 use Rattle.pawn_pre.specs.Evaluation.{Value}
 use Rattle.pawn_pre.specs.Walk.{On, worked, with_work}
 use Rattle.pawn_pre.proofs.Mirror.{Reads, Drops, Waits, Passes, Covers, Mirrors, chosen, passed}
-use Rattle.pawn_pre.proofs.Mirror.{shown, lines_open}
+use Rattle.pawn_pre.proofs.Mirror.{shown, shown_stays, lines_open}
 use Rattle.pawn_pre.proofs.MirrorKept.{by_result, chosen_then, reads_on}
 
 module _ (value : Value) (map : Held) (marks : List Mark) (lower : List (List Bool)) (top : Level)
@@ -28,18 +28,8 @@ module _ (value : Value) (map : Held) (marks : List Mark) (lower : List (List Bo
       (push (shown marks Reads outer top below).work (if zero then Waiting else Chosen))))
       (if_by (not zero) marks (lines_open top below))
   unfolding chosen passed begun kept rules settings conditionals
-  opened_by outer opens true = record {
-    marks = marks;
-    mode = Drops Waits [];
-    outer = outer;
-    lower = lower;
-    top = top;
-    below = below;
-    shows = refl;
-    opens = opens;
-    covers = covers;
-    leads = λ o ends. ends;
-  }
+  opened_by outer opens true =
+      shown_stays value map marks (Drops Waits []) outer lower top below opens covers
   opened_by outer opens false =
       reads_on value map marks lower top below covers number (Opens false ∷ marks) (false ∷ outer)
       (rw opens refl)
@@ -66,18 +56,8 @@ module _ (value : Value) (map : Held) (marks : List Mark) (lower : List (List Bo
   unfolding chosen passed
   elseifs_by [] opens bytes = refl
   elseifs_by (true ∷ outer) opens bytes = refl
-  elseifs_by (false ∷ outer) opens bytes = record {
-    marks = marks;
-    mode = Drops (Passes false) [];
-    outer = outer;
-    lower = lower;
-    top = top;
-    below = below;
-    shows = refl;
-    opens = opens;
-    covers = covers;
-    leads = λ o ends. ends;
-  }
+  elseifs_by (false ∷ outer) opens bytes =
+      shown_stays value map marks (Drops (Passes false) []) outer lower top below opens covers
 
   pub elseifs : (outer : List Bool) → conditionals marks ≡ outer ∷ lower → (bytes : List ℕ) →
       Mirrors value map (worked (shown marks Reads outer top below) number
@@ -94,18 +74,8 @@ module _ (value : Value) (map : Held) (marks : List Mark) (lower : List (List Bo
   unfolding chosen passed
   elses_by [] opens = refl
   elses_by (true ∷ outer) opens = refl
-  elses_by (false ∷ outer) opens = record {
-    marks = marks;
-    mode = Drops (Passes true) [];
-    outer = outer;
-    lower = lower;
-    top = top;
-    below = below;
-    shows = refl;
-    opens = opens;
-    covers = covers;
-    leads = λ o ends. ends;
-  }
+  elses_by (false ∷ outer) opens =
+      shown_stays value map marks (Drops (Passes true) []) outer lower top below opens covers
 
   pub elses : (outer : List Bool) → conditionals marks ≡ outer ∷ lower → (bytes : List ℕ) →
       Mirrors value map (worked (shown marks Reads outer top below) number

@@ -23,6 +23,25 @@ pub enum Mode {
     Star,
 }
 
+/// A line with its comments blanked, and whether one goes on over its end. One may be open where
+/// it begins.
+#[tactic(auto, unfolding(crate::specs::Scan::before, crate::specs::Scan::scan, crate::specs::Scan::closed), using(crate::proofs::CommentLaws::scan_is_clean))]
+pub fn clean_line(alloc: Global, was_open: bool, line: &[u8]) -> Result<(Bytes, bool), Memory>
+    ensures bytes { IfOk result (λ cleaned.
+        cleaned.0 ≡ (clean (part_at was_open) line.now).bytes) }
+    ensures unclosed { IfOk result (λ cleaned.
+        cleaned.1 ≡ (clean (part_at was_open) line.now).unclosed) }
+{
+    let mut out = Bytes::new(alloc);
+    let mut mode = first_mode(was_open);
+    for byte in line {
+        mode.write(*byte, &mut out)?;
+        mode = mode.after(*byte);
+    }
+    let goes_on = mode.close(&mut out)?;
+    Ok((out, goes_on))
+}
+
 /// The mode behind a byte of the text.
 fn text_mode(quote: Quote, byte: u8) -> Mode
     ensures { result ≡ Mode.Reads (quote_after 92 quote byte) }
@@ -89,23 +108,4 @@ fn first_mode(was_open: bool) -> Mode
     } else {
         Mode::Reads(Quote::Outside)
     }
-}
-
-/// A line with its comments blanked, and whether one goes on over its end. One may be open where
-/// it begins.
-#[tactic(auto, unfolding(crate::specs::Scan::before, crate::specs::Scan::scan, crate::specs::Scan::closed), using(crate::proofs::CommentLaws::scan_is_clean))]
-pub fn clean_line(alloc: Global, was_open: bool, line: &[u8]) -> Result<(Bytes, bool), Memory>
-    ensures bytes { IfOk result (λ cleaned.
-        cleaned.0 ≡ (clean (part_at was_open) line.now).bytes) }
-    ensures unclosed { IfOk result (λ cleaned.
-        cleaned.1 ≡ (clean (part_at was_open) line.now).unclosed) }
-{
-    let mut out = Bytes::new(alloc);
-    let mut mode = first_mode(was_open);
-    for byte in line {
-        mode.write(*byte, &mut out)?;
-        mode = mode.after(*byte);
-    }
-    let goes_on = mode.close(&mut out)?;
-    Ok((out, goes_on))
 }

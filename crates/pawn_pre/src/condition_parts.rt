@@ -13,23 +13,6 @@ pub struct Step {
     pub size: usize,
 }
 
-/// The part in front, where no blank stands, if one may stand in a condition.
-fn step_at(alloc: Global, control: u8, bytes: &[u8]) -> Result<Option<Step>, Memory>
-    requires { 0 < length bytes.now }
-    ensures { IfOk result (λ step. step ≡ spec.step_at control bytes.now) }
-{
-    let (kind, rest) = match read_token(alloc, control, false, bytes) {
-        Ok(read) => read,
-        Err(TokenFault::Source(_)) => return Ok(None),
-        Err(TokenFault::Memory) => return Err(Memory),
-    };
-    let size = bytes.len().saturating_sub(rest.len());
-    match part_of(&kind) {
-        Some(part) => Ok(Some(Step { part, size })),
-        None => Ok(None),
-    }
-}
-
 /// The parts of a text, or nothing where some token may not stand in a condition.
 #[tactic(auto, unfolding(crate::specs::ConditionParts::parts_from, crate::specs::ConditionParts::with_parts))]
 pub fn parts(alloc: Global, control: u8, text: &[u8]) -> Result<Option<List<Part>>, Memory>
@@ -55,4 +38,21 @@ pub fn parts(alloc: Global, control: u8, text: &[u8]) -> Result<Option<List<Part
         }
     }
     Ok(Some(parts))
+}
+
+/// The part in front, where no blank stands, if one may stand in a condition.
+fn step_at(alloc: Global, control: u8, bytes: &[u8]) -> Result<Option<Step>, Memory>
+    requires { 0 < length bytes.now }
+    ensures { IfOk result (λ step. step ≡ spec.step_at control bytes.now) }
+{
+    let (kind, rest) = match read_token(alloc, control, false, bytes) {
+        Ok(read) => read,
+        Err(TokenFault::Source(_)) => return Ok(None),
+        Err(TokenFault::Memory) => return Err(Memory),
+    };
+    let size = bytes.len().saturating_sub(rest.len());
+    match part_of(&kind) {
+        Some(part) => Ok(Some(Step { part, size })),
+        None => Ok(None),
+    }
 }

@@ -1,12 +1,42 @@
 ghost use Rattle.std.specs.Prelude.{◌≡◌, ◌+◌, ◌<◌, ◌≤◌, ◌∷◌, ◌==◌, ◌↔◌, IsTrue, length, position};
 ghost use Rattle.std.specs.Prelude.{IfOk};
 ghost use Rattle.std.specs.Str.Lines.{lines, strip_carriage_return};
+ghost use Rattle.pawn_pre.specs.declared.file.TheConstants.{FILE_LIMIT};
 ghost use Rattle.pawn_pre.specs.Joined.{goes_on, rows_of};
 
 use super::row::Row;
 use pawn_base::{Bytes, Memory};
 use std::alloc::Global;
 use std::collections::VecDeque;
+
+/// The lines of a file, those that end in `\` joined with the next.
+pub fn cut_rows(alloc: Global, bytes: &[u8]) -> Result<VecDeque<Row>, Memory>
+    requires { length bytes.now ≤ FILE_LIMIT }
+    ensures { IfOk result (λ rows. rows.items ≡ rows_of bytes.now) }
+{
+    let mut rows = VecDeque::new(alloc);
+    let mut rest = bytes;
+    let mut number: u32 = 1;
+    let mut start: u32 = 1;
+    let mut front = Bytes::new(alloc);
+    while !rest.is_empty() {
+        let (line, behind) = next_line(rest);
+        rest = behind;
+        number += 1;
+        if is_continued(line) && !rest.is_empty() {
+            front.append(line.split_at(line.len() - 1).0)?;
+            continue;
+        }
+        front.append(line)?;
+        rows.push_back(Row {
+            number: start,
+            bytes: front,
+        })?;
+        front = Bytes::new(alloc);
+        start = number;
+    }
+    Ok(rows)
+}
 
 /// Where the first line ends.
 fn line_end(bytes: &[u8]) -> Option<usize>
@@ -46,33 +76,4 @@ fn is_continued(line: &[u8]) -> bool
     ensures { result ≡ goes_on line.now }
 {
     !line.is_empty() && line[line.len() - 1] == b'\\'
-}
-
-/// The lines of a file, those that end in `\` joined with the next.
-pub fn cut_rows(alloc: Global, bytes: &[u8]) -> Result<VecDeque<Row>, Memory>
-    requires { length bytes.now ≤ 16777216 }
-    ensures { IfOk result (λ rows. rows.items ≡ rows_of bytes.now) }
-{
-    let mut rows = VecDeque::new(alloc);
-    let mut rest = bytes;
-    let mut number: u32 = 1;
-    let mut start: u32 = 1;
-    let mut front = Bytes::new(alloc);
-    while !rest.is_empty() {
-        let (line, behind) = next_line(rest);
-        rest = behind;
-        number += 1;
-        if is_continued(line) && !rest.is_empty() {
-            front.append(line.split_at(line.len() - 1).0)?;
-            continue;
-        }
-        front.append(line)?;
-        rows.push_back(Row {
-            number: start,
-            bytes: front,
-        })?;
-        front = Bytes::new(alloc);
-        start = number;
-    }
-    Ok(rows)
 }

@@ -19,6 +19,53 @@ pub struct Definition {
     pub rule: Rule,
 }
 
+/// A name stands in front.
+pub fn begins_name(bytes: &[u8]) -> bool
+    ensures { result ≡ spec.begins_name bytes.now }
+{
+    match bytes {
+        [first, ..] => is_in(Class::NameStart, *first),
+        [] => false,
+    }
+}
+
+/// The definition behind `#define`, or nothing where its pattern or text is bad: the pattern is a
+/// name and a tail up to the first blank, and the text uses only parameters of that tail (Language
+/// Guide, "Directives", on `#define`). Literals of the text are told apart by the control
+/// character.
+///
+/// # Errors
+///
+/// `Memory` for want of memory.
+pub fn read_definition(
+    alloc: Global,
+    control: u8,
+    rest: &[u8],
+) -> Result<Option<Definition>, Memory>
+    ensures { IfOk result (λ found. found ≡ spec.definition control rest.now) }
+{
+    let body = past_blanks(rest);
+    match first_blank(body) {
+        Some(len) => {
+            let (pattern, text) = body.split_at(len);
+            of_parts(alloc, control, pattern, trimmed(text))
+        }
+        None => of_parts(alloc, control, body, trimmed(&[])),
+    }
+}
+
+/// The key behind `#undef`, or nothing where no name stands there (Language Guide, "Directives").
+pub fn undefined(rest: &[u8]) -> Option<&[u8]>
+    ensures { option_map (λ key. key.now) result ≡ spec.undefined rest.now }
+{
+    let bytes = past_blanks(rest);
+    if begins_name(bytes) {
+        Some(split_word(bytes).0)
+    } else {
+        None
+    }
+}
+
 /// Each parameter stands once, and a byte follows it.
 #[tactic(auto, unfolding(crate::specs::Define::is_tail))]
 fn is_tail(alloc: Global, tail: &[Piece]) -> Result<bool, Memory>
@@ -79,16 +126,6 @@ fn is_text(tail: &[Piece], text: &[Piece]) -> bool
     text.iter().all(|piece| is_known(tail, *piece))
 }
 
-/// A name stands in front.
-pub fn begins_name(bytes: &[u8]) -> bool
-    ensures { result ≡ spec.begins_name bytes.now }
-{
-    match bytes {
-        [first, ..] => is_in(Class::NameStart, *first),
-        [] => false,
-    }
-}
-
 /// The definition of a pattern and a text, or nothing where one of them is bad.
 fn of_parts(
     alloc: Global,
@@ -118,41 +155,4 @@ fn first_blank(bytes: &[u8]) -> Option<usize>
     ensures { result ≡ position (class.is_in Class.Blank) bytes.now }
 {
     bytes.iter().position(|byte| is_in(Class::Blank, *byte))
-}
-
-/// The definition behind `#define`, or nothing where its pattern or text is bad: the pattern is a
-/// name and a tail up to the first blank, and the text uses only parameters of that tail (Language
-/// Guide, "Directives", on `#define`). Literals of the text are told apart by the control
-/// character.
-///
-/// # Errors
-///
-/// `Memory` for want of memory.
-pub fn read_definition(
-    alloc: Global,
-    control: u8,
-    rest: &[u8],
-) -> Result<Option<Definition>, Memory>
-    ensures { IfOk result (λ found. found ≡ spec.definition control rest.now) }
-{
-    let body = past_blanks(rest);
-    match first_blank(body) {
-        Some(len) => {
-            let (pattern, text) = body.split_at(len);
-            of_parts(alloc, control, pattern, trimmed(text))
-        }
-        None => of_parts(alloc, control, body, trimmed(&[])),
-    }
-}
-
-/// The key behind `#undef`, or nothing where no name stands there (Language Guide, "Directives").
-pub fn undefined(rest: &[u8]) -> Option<&[u8]>
-    ensures { option_map (λ key. key.now) result ≡ spec.undefined rest.now }
-{
-    let bytes = past_blanks(rest);
-    if begins_name(bytes) {
-        Some(split_word(bytes).0)
-    } else {
-        None
-    }
 }

@@ -19,6 +19,52 @@ struct Question<'a> {
     rest: &'a [u8],
 }
 
+impl Table {
+    /// A condition with each `defined NAME` replaced.
+    #[tactic(auto, unfolding(crate::specs::Defined::answered))]
+    pub(crate) fn answered(&self, alloc: Global, control: u8, bytes: &[u8]) -> Result<Bytes, Memory>
+        ensures { IfOk result (λ out.
+            out ≡ spec.answered self.now control Quote.Outside false 0 bytes.now) }
+    {
+        let mut out = Bytes::new(alloc);
+        let mut quote = Quote::Outside;
+        let mut joined = false;
+        let mut left: usize = 0;
+        for (i, byte) in bytes.iter().enumerate() {
+            let begins = begins_whole_name(quote, joined, *byte);
+            quote = quote.after(control, *byte);
+            joined = is_in(Class::NameByte, *byte);
+            if left > 0 {
+                left -= 1;
+                continue;
+            }
+            let rest = bytes.split_at(i).1;
+            match defined_at(begins, rest) {
+                Some(question) => {
+                    out.push(self.digit(question.name))?;
+                    left = (rest.len() - 1).saturating_sub(question.rest.len());
+                    continue;
+                }
+                None => {
+                    out.push(*byte)?;
+                    continue;
+                }
+            }
+        }
+        Ok(out)
+    }
+
+    fn digit(&self, name: &[u8]) -> u8
+        ensures { result ≡ spec.digit self.now name.now }
+    {
+        if self.find(name).is_some() {
+            b'1'
+        } else {
+            b'0'
+        }
+    }
+}
+
 fn bare(bytes: &[u8]) -> Option<Question<'_>>
     ensures { IsAsked (spec.bare bytes.now) result }
 {
@@ -66,51 +112,5 @@ fn defined_at(begins: bool, bytes: &[u8]) -> Option<Question<'_>>
         asked_behind(behind)
     } else {
         None
-    }
-}
-
-impl Table {
-    fn digit(&self, name: &[u8]) -> u8
-        ensures { result ≡ spec.digit self.now name.now }
-    {
-        if self.find(name).is_some() {
-            b'1'
-        } else {
-            b'0'
-        }
-    }
-
-    /// A condition with each `defined NAME` replaced.
-    #[tactic(auto, unfolding(crate::specs::Defined::answered))]
-    pub(crate) fn answered(&self, alloc: Global, control: u8, bytes: &[u8]) -> Result<Bytes, Memory>
-        ensures { IfOk result (λ out.
-            out ≡ spec.answered self.now control Quote.Outside false 0 bytes.now) }
-    {
-        let mut out = Bytes::new(alloc);
-        let mut quote = Quote::Outside;
-        let mut joined = false;
-        let mut left: usize = 0;
-        for (i, byte) in bytes.iter().enumerate() {
-            let begins = begins_whole_name(quote, joined, *byte);
-            quote = quote.after(control, *byte);
-            joined = is_in(Class::NameByte, *byte);
-            if left > 0 {
-                left -= 1;
-                continue;
-            }
-            let rest = bytes.split_at(i).1;
-            match defined_at(begins, rest) {
-                Some(question) => {
-                    out.push(self.digit(question.name))?;
-                    left = (rest.len() - 1).saturating_sub(question.rest.len());
-                    continue;
-                }
-                None => {
-                    out.push(*byte)?;
-                    continue;
-                }
-            }
-        }
-        Ok(out)
     }
 }

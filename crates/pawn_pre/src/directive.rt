@@ -46,6 +46,41 @@ pub struct PragmaParts<'a> {
     pub rest: &'a [u8],
 }
 
+/// The directive that a line is.
+pub fn directive(line: &[u8]) -> Option<Parts<'_>>
+    ensures { IsDirective (spec.directive line.now) result }
+{
+    match past_blanks(line) {
+        [b'#', rest @ ..] => {
+            let bytes = past_blanks(rest);
+            let (name, rest) = split_word(bytes);
+            let word = word_named(name);
+            Some(Parts { word, rest })
+        }
+        _ => None,
+    }
+}
+
+/// What stands behind `#pragma`.
+pub fn pragma(rest: &[u8]) -> PragmaParts<'_>
+    ensures { IsPragma (spec.pragma rest.now) result }
+{
+    let bytes = past_blanks(rest);
+    let (name, rest) = split_word(bytes);
+    let setting = setting_named(name);
+    PragmaParts { setting, rest }
+}
+
+/// A byte between `'` and `'`.
+pub fn quoted_byte(bytes: &[u8]) -> Option<u8>
+    ensures { result ≡ spec.quoted_byte bytes.now }
+{
+    match bytes {
+        [b'\'', byte, b'\'', ..] => Some(*byte),
+        _ => None,
+    }
+}
+
 fn word_named(name: &[u8]) -> Word
     ensures { result ≡ spec.word_named name.now }
 {
@@ -91,40 +126,5 @@ fn setting_named(name: &[u8]) -> Setting
         Setting::Dynamic
     } else {
         Setting::Other
-    }
-}
-
-/// The directive that a line is.
-pub fn directive(line: &[u8]) -> Option<Parts<'_>>
-    ensures { IsDirective (spec.directive line.now) result }
-{
-    match past_blanks(line) {
-        [b'#', rest @ ..] => {
-            let bytes = past_blanks(rest);
-            let (name, rest) = split_word(bytes);
-            let word = word_named(name);
-            Some(Parts { word, rest })
-        }
-        _ => None,
-    }
-}
-
-/// What stands behind `#pragma`.
-pub fn pragma(rest: &[u8]) -> PragmaParts<'_>
-    ensures { IsPragma (spec.pragma rest.now) result }
-{
-    let bytes = past_blanks(rest);
-    let (name, rest) = split_word(bytes);
-    let setting = setting_named(name);
-    PragmaParts { setting, rest }
-}
-
-/// A byte between `'` and `'`.
-pub fn quoted_byte(bytes: &[u8]) -> Option<u8>
-    ensures { result ≡ spec.quoted_byte bytes.now }
-{
-    match bytes {
-        [b'\'', byte, b'\'', ..] => Some(*byte),
-        _ => None,
     }
 }

@@ -24,6 +24,42 @@ pub enum Wait {
     Second(Reading, Reading),
 }
 
+/// The value of the expression that parts spell, or nothing where they spell none or a divisor is
+/// zero.
+#[tactic(auto, unfolding(crate::specs::ConditionMachine::value_of_parts, crate::specs::ConditionMachine::operator, crate::specs::ConditionMachine::operand))]
+pub fn evaluate(alloc: Global, parts: &[Part]) -> Result<Option<i32>, Memory>
+    ensures { IfOk result (λ value. value ≡ machine.value_of_parts parts.now) }
+{
+    let mut waits = VecDeque::new(alloc);
+    let mut held: Option<Reading> = None;
+    for part in parts {
+        match held {
+            None => match before_operand(&mut waits, *part)? {
+                Some(next) => {
+                    held = next;
+                    continue;
+                }
+                None => return Ok(None),
+            },
+            Some(first) => match behind_operand(&mut waits, *part, first)? {
+                Some(next) => {
+                    held = next;
+                    continue;
+                }
+                None => return Ok(None),
+            },
+        }
+    }
+    let Some(last) = held else {
+        return Ok(None);
+    };
+    let whole = settle(&mut waits, CHOICE_LEVEL, last);
+    if !waits.is_empty() {
+        return Ok(None);
+    }
+    Ok(whole.value)
+}
+
 /// How tightly an operator binds.
 fn level(sign: Infix) -> u32
     ensures { result ≡ spec.level sign }
@@ -133,40 +169,4 @@ fn behind_operand(
         }
         Part::Value(_) | Part::Not | Part::Invert | Part::Open => Ok(None),
     }
-}
-
-/// The value of the expression that parts spell, or nothing where they spell none or a divisor is
-/// zero.
-#[tactic(auto, unfolding(crate::specs::ConditionMachine::value_of_parts, crate::specs::ConditionMachine::operator, crate::specs::ConditionMachine::operand))]
-pub fn evaluate(alloc: Global, parts: &[Part]) -> Result<Option<i32>, Memory>
-    ensures { IfOk result (λ value. value ≡ machine.value_of_parts parts.now) }
-{
-    let mut waits = VecDeque::new(alloc);
-    let mut held: Option<Reading> = None;
-    for part in parts {
-        match held {
-            None => match before_operand(&mut waits, *part)? {
-                Some(next) => {
-                    held = next;
-                    continue;
-                }
-                None => return Ok(None),
-            },
-            Some(first) => match behind_operand(&mut waits, *part, first)? {
-                Some(next) => {
-                    held = next;
-                    continue;
-                }
-                None => return Ok(None),
-            },
-        }
-    }
-    let Some(last) = held else {
-        return Ok(None);
-    };
-    let whole = settle(&mut waits, CHOICE_LEVEL, last);
-    if !waits.is_empty() {
-        return Ok(None);
-    }
-    Ok(whole.value)
 }

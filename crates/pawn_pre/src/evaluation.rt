@@ -1,39 +1,16 @@
-ghost use Rattle.std.specs.Prelude.{◌≡◌, IfOk};
 ghost use Rattle.pawn_pre.specs.Condition.{IsValue};
 ghost use Rattle.pawn_pre.specs.ConditionMachine as machine;
 ghost use Rattle.pawn_pre.specs.Evaluation as spec;
 ghost use Rattle.pawn_pre.specs.Evaluation.{Value};
 ghost use Rattle.pawn_pre.specs.Expansion.{Tells};
 
-use super::refusal::Refusal;
+use super::refusal::{BAD_CONDITION, LONG_LINE, Refusal};
 use super::substitution::is_long;
 use super::table::Table;
-use super::value::value_of;
-use pawn_base::Memory;
+use super::value::computed_value;
 use std::alloc::Global;
 
-/// The value of a text, as the code computes it.
-fn computed(alloc: Global, control: u8, text: &[u8]) -> Result<Option<i32>, Memory>
-    ensures { IfOk result (λ found. found ≡ machine.value_of control text.now) }
-{
-    value_of(alloc, control, text)
-}
-
 impl Table {
-    /// The value of an expression once its names are substituted.
-    fn evaluated(&self, alloc: Global, control: u8, bytes: &[u8]) -> Result<i32, Refusal>
-        ensures { Tells (spec.number machine.value_of self.now control bytes.now) result }
-    {
-        let line = match self.expanded(alloc, control, bytes) {
-            Ok(line) => line,
-            Err(refusal) => return Err(refusal),
-        };
-        match computed(alloc, control, line.as_slice())? {
-            Some(value) => Ok(value),
-            None => Err(Refusal::Fault(11)),
-        }
-    }
-
     /// The value of an expression once its names are substituted (Language Guide, "Directives").
     ///
     /// # Errors
@@ -58,9 +35,20 @@ impl Table {
             Tells (spec.condition value self.now control bytes.now) result }
     {
         if is_long(bytes.len(), 0) {
-            return Err(Refusal::Fault(9));
+            return Err(Refusal::Fault(LONG_LINE));
         }
         let text = self.answered(alloc, control, bytes)?;
         self.number(alloc, control, text.as_slice())
+    }
+
+    /// The value of an expression once its names are substituted.
+    fn evaluated(&self, alloc: Global, control: u8, bytes: &[u8]) -> Result<i32, Refusal>
+        ensures { Tells (spec.number machine.value_of self.now control bytes.now) result }
+    {
+        let line = self.expanded(alloc, control, bytes)?;
+        match computed_value(alloc, control, line.as_slice())? {
+            Some(value) => Ok(value),
+            None => Err(Refusal::Fault(BAD_CONDITION)),
+        }
     }
 }

@@ -22,6 +22,11 @@ pub enum PreFault {
 }
 
 impl From<Memory> for PreFault {
+    ghost use Rattle.std.specs.Prelude.{◌≡◌};
+    ghost use Rattle.pawn_pre.specs.declared.fault.PreFault.TheVariants as fault;
+
+    ghost from_gives = { λ _ e. e ≡ fault.Memory };
+
     fn from(_: Memory) -> PreFault {
         PreFault::Memory
     }

@@ -8,6 +8,9 @@ use pawn_base::Memory;
 use std::alloc::Global;
 use std::collections::VecDeque;
 
+/// The most bytes of a file.
+pub const FILE_LIMIT: u64 = 16_777_216;
+
 /// A file as its lines with their comments blanked. One with a comment open at its end has lost
 /// its last row.
 #[derive(Debug, Drop)]

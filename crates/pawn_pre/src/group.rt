@@ -28,6 +28,14 @@ struct Group {
     quote: Quote,
 }
 
+/// How many bytes a parameter takes that `end` follows.
+pub fn reach(alloc: Global, control: u8, end: u8, bytes: &[u8]) -> Result<Option<usize>, Memory>
+    ensures taken { IfOk result (λ taken. taken ≡ spec.reach control end bytes.now) }
+    ensures within { IfOk result (λ taken. IfSome taken (λ len. len ≤ length bytes.now)) }
+{
+    reach_bytewise(alloc, control, end, bytes)
+}
+
 /// The bracket that closes a group.
 fn closer_of(byte: u8) -> Option<u8>
     ensures { result ≡ spec.closer_of byte }
@@ -103,12 +111,4 @@ fn reach_bytewise(
         }
     }
     Ok(None)
-}
-
-/// How many bytes a parameter takes that `end` follows.
-pub fn reach(alloc: Global, control: u8, end: u8, bytes: &[u8]) -> Result<Option<usize>, Memory>
-    ensures taken { IfOk result (λ taken. taken ≡ spec.reach control end bytes.now) }
-    ensures within { IfOk result (λ taken. IfSome taken (λ len. len ≤ length bytes.now)) }
-{
-    reach_bytewise(alloc, control, end, bytes)
 }

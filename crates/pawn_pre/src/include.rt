@@ -14,6 +14,19 @@ pub struct Named {
     pub valid: bool,
 }
 
+/// The name behind `#include` or `#tryinclude`.
+pub fn include_name(alloc: Global, rest: &[u8]) -> Result<Named, Memory>
+    ensures named { IfOk result (λ found. found ≡ spec.include_name rest.now) }
+    ensures ascii { IfOk result (λ found. IsTrue found.valid → IsAscii found.name) }
+{
+    let bytes = past_blanks(rest);
+    match bytes {
+        [b'"', behind @ ..] => closed_by(alloc, b'"', behind),
+        [b'<', behind @ ..] => closed_by(alloc, b'>', behind),
+        _ => name_of(alloc, true, trimmed_end(bytes)),
+    }
+}
+
 fn is_ascii(name: &[u8]) -> bool
     ensures { result ≡ spec.is_ascii name.now }
 {
@@ -55,18 +68,5 @@ fn closed_by(alloc: Global, sign: u8, bytes: &[u8]) -> Result<Named, Memory>
     match sign_at(sign, bytes) {
         Some(len) => name_of(alloc, true, bytes.split_at(len).0),
         None => name_of(alloc, false, bytes),
-    }
-}
-
-/// The name behind `#include` or `#tryinclude`.
-pub fn include_name(alloc: Global, rest: &[u8]) -> Result<Named, Memory>
-    ensures named { IfOk result (λ found. found ≡ spec.include_name rest.now) }
-    ensures ascii { IfOk result (λ found. IsTrue found.valid → IsAscii found.name) }
-{
-    let bytes = past_blanks(rest);
-    match bytes {
-        [b'"', behind @ ..] => closed_by(alloc, b'"', behind),
-        [b'<', behind @ ..] => closed_by(alloc, b'>', behind),
-        _ => name_of(alloc, true, trimmed_end(bytes)),
     }
 }

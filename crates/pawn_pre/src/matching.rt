@@ -23,22 +23,6 @@ pub struct TailMatch<'a> {
     pub rest: &'a [u8],
 }
 
-/// The bytes that a parameter takes, where a byte follows it in the pattern.
-fn param_len(
-    alloc: Global,
-    control: u8,
-    end: Option<u8>,
-    bytes: &[u8],
-) -> Result<Option<usize>, Memory>
-    ensures taken { IfOk result (λ taken. taken ≡ reach_to control end bytes.now) }
-    ensures within { IfOk result (λ taken. IfSome taken (λ len. len ≤ length bytes.now)) }
-{
-    match end {
-        None => Ok(None),
-        Some(end) => reach(alloc, control, end, bytes),
-    }
-}
-
 /// Matches a tail with the bytes behind its key.
 #[tactic(auto, unfolding(crate::specs::Matching::matched, crate::specs::Matching::with_given))]
 pub fn matched<'a>(
@@ -76,4 +60,20 @@ pub fn matched<'a>(
         }
     }
     Ok(Some(TailMatch { given, rest }))
+}
+
+/// The bytes that a parameter takes, where a byte follows it in the pattern.
+fn param_len(
+    alloc: Global,
+    control: u8,
+    end: Option<u8>,
+    bytes: &[u8],
+) -> Result<Option<usize>, Memory>
+    ensures taken { IfOk result (λ taken. taken ≡ reach_to control end bytes.now) }
+    ensures within { IfOk result (λ taken. IfSome taken (λ len. len ≤ length bytes.now)) }
+{
+    match end {
+        None => Ok(None),
+        Some(end) => reach(alloc, control, end, bytes),
+    }
 }

@@ -26,6 +26,24 @@ pub enum Part {
     Close,
 }
 
+/// What a token is in a condition, if it may stand there.
+pub fn part_of(kind: &TokenKind) -> Option<Part>
+    ensures { result ≡ spec.part_of kind.now }
+{
+    match kind {
+        TokenKind::Name(name) => match predefined(name.as_slice()) {
+            Some(constant) => Some(Part::Value(constant.value)),
+            None => None,
+        },
+        TokenKind::Number(value) => Some(Part::Value(*value)),
+        TokenKind::Sign(sign) => match operator_of(*sign) {
+            Some(operator) => Some(Part::Two(Infix::Cells(operator))),
+            None => other_of(*sign),
+        },
+        TokenKind::Key(_) | TokenKind::Text { .. } => None,
+    }
+}
+
 /// The operator on cells that a sign is.
 #[tactic(auto, unfolding(crate::specs::ConditionParts::operator_of))]
 fn operator_of(sign: Sign) -> Option<Operator>
@@ -68,23 +86,5 @@ fn other_of(sign: Sign) -> Option<Part>
         Sign::OpenParenthesis => Some(Part::Open),
         Sign::CloseParenthesis => Some(Part::Close),
         _ => None,
-    }
-}
-
-/// What a token is in a condition, if it may stand there.
-pub fn part_of(kind: &TokenKind) -> Option<Part>
-    ensures { result ≡ spec.part_of kind.now }
-{
-    match kind {
-        TokenKind::Name(name) => match predefined(name.as_slice()) {
-            Some(constant) => Some(Part::Value(constant.value)),
-            None => None,
-        },
-        TokenKind::Number(value) => Some(Part::Value(*value)),
-        TokenKind::Sign(sign) => match operator_of(*sign) {
-            Some(operator) => Some(Part::Two(Infix::Cells(operator))),
-            None => other_of(*sign),
-        },
-        TokenKind::Key(_) | TokenKind::Text { .. } => None,
     }
 }

@@ -24,6 +24,32 @@ pub fn follower(pieces: &[Piece]) -> Option<u8>
     }
 }
 
+/// Cuts bytes into pieces. With a control character there are no parameters in literals.
+#[tactic(auto, unfolding(crate::specs::Piece::pieces), using(crate::proofs::PieceLaws::pieces_param, crate::proofs::PieceLaws::pieces_byte))]
+pub fn pieces(alloc: Global, control: Option<u8>, bytes: &[u8]) -> Result<List<Piece>, Memory>
+    ensures { IfOk result (λ list. list ≡ spec.pieces control Quote.Outside bytes.now) }
+{
+    let mut list = List::new(alloc);
+    let mut quote = Quote::Outside;
+    let mut rest = bytes;
+    while let [byte, behind @ ..] = rest {
+        match param_at(quote, *byte, behind) {
+            Some(digit) => {
+                list.push(Piece::Param(digit))?;
+                rest = behind.split_at(1).1;
+                continue;
+            }
+            None => {
+                list.push(Piece::Byte(*byte))?;
+                quote = next_quote(control, quote, *byte);
+                rest = behind;
+                continue;
+            }
+        }
+    }
+    Ok(list)
+}
+
 /// Where the byte behind this one stands, if literals are told apart.
 fn next_quote(control: Option<u8>, quote: Quote, byte: u8) -> Quote
     ensures { result ≡ spec.next_quote control quote byte }
@@ -50,30 +76,4 @@ fn param_at(quote: Quote, byte: u8, behind: &[u8]) -> Option<u8>
         [digit, ..] if is_parameter(quote, byte, *digit) => Some(*digit),
         _ => None,
     }
-}
-
-/// Cuts bytes into pieces. With a control character there are no parameters in literals.
-#[tactic(auto, unfolding(crate::specs::Piece::pieces), using(crate::proofs::PieceLaws::pieces_param, crate::proofs::PieceLaws::pieces_byte))]
-pub fn pieces(alloc: Global, control: Option<u8>, bytes: &[u8]) -> Result<List<Piece>, Memory>
-    ensures { IfOk result (λ list. list ≡ spec.pieces control Quote.Outside bytes.now) }
-{
-    let mut list = List::new(alloc);
-    let mut quote = Quote::Outside;
-    let mut rest = bytes;
-    while let [byte, behind @ ..] = rest {
-        match param_at(quote, *byte, behind) {
-            Some(digit) => {
-                list.push(Piece::Param(digit))?;
-                rest = behind.split_at(1).1;
-                continue;
-            }
-            None => {
-                list.push(Piece::Byte(*byte))?;
-                quote = next_quote(control, quote, *byte);
-                rest = behind;
-                continue;
-            }
-        }
-    }
-    Ok(list)
 }

@@ -51,6 +51,18 @@ impl Reading {
         Reading::plain(choose(self.value, first.value, second.value))
     }
 
+    /// An operator between two operands.
+    #[tactic(auto, unfolding(crate::specs::Nested::applied))]
+    pub fn apply(self, sign: Infix, second: Reading) -> Reading
+        ensures { result ≡ spec.applied sign self second }
+    {
+        match sign {
+            Infix::Cells(operator) => Reading::plain(operate(operator, self.value, second.value)),
+            Infix::Compare(comparison) => self.compare(comparison, second),
+            Infix::Logic(operator) => Reading::plain(decide(operator, self.value, second.value)),
+        }
+    }
+
     /// A comparison behind others takes up their last operand.
     fn compare(self, comparison: Comparison, second: Reading) -> Reading
         ensures { result ≡ spec.compared comparison self second }
@@ -64,18 +76,6 @@ impl Reading {
             value,
             last: second.value,
             holds,
-        }
-    }
-
-    /// An operator between two operands.
-    #[tactic(auto, unfolding(crate::specs::Nested::applied))]
-    pub fn apply(self, sign: Infix, second: Reading) -> Reading
-        ensures { result ≡ spec.applied sign self second }
-    {
-        match sign {
-            Infix::Cells(operator) => Reading::plain(operate(operator, self.value, second.value)),
-            Infix::Compare(comparison) => self.compare(comparison, second),
-            Infix::Logic(operator) => Reading::plain(decide(operator, self.value, second.value)),
         }
     }
 }

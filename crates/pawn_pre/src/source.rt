@@ -1,7 +1,6 @@
-ghost use Rattle.std.specs.Prelude.{◌≡◌, ◌≢◌, Some, IfOk};
+ghost use Rattle.std.specs.Prelude.{◌≡◌, Some, IfOk};
 ghost use Rattle.pawn_outside.specs.Held.{Held};
 ghost use Rattle.pawn_outside.specs.OnlyRead.{OnlyRead};
-ghost use Rattle.pawn_outside.specs.Rose.{risen};
 ghost use Rattle.pawn_pre.specs.ConditionMachine.{value_of};
 ghost use Rattle.pawn_pre.specs.Answers.{Answers};
 ghost use Rattle.pawn_pre.specs.Bounds.{IsBounded};
@@ -10,71 +9,12 @@ ghost use Rattle.pawn_pre.specs.Sound.{IsSoundStack};
 ghost use Rattle.pawn_pre.specs.WalkAnswers.{EndsIn};
 
 use super::fault::PreFault;
+use super::file::FILE_LIMIT;
 use super::line::Lines;
-use super::walk::{FILE_LIMIT, Walk};
-use pawn_base::{Bytes, Memory};
+use super::walk::Walk;
+use pawn_base::Bytes;
 use pawn_outside::{Files, ReadAnswer};
 use std::alloc::Global;
-
-/// Settles line after line until no file is open.
-fn drive<F: Files>(alloc: Global, walk: Walk, files: &mut F) -> Result<Lines, PreFault>
-    ensures ends { (map : Held) → F.held files.old ≡ Some map →
-        EndsIn value_of map walk result }
-    ensures bounds { IsSoundStack walk → IfOk result IsBounded }
-
-    // The files were only read.
-    ensures same { F.held files.new ≡ F.held files.old }
-    ensures steady { result ≢ Err PreFault.Files →
-        F.faults files.new ≡ F.faults files.old }
-    ensures cause { result ≡ Err PreFault.Files →
-        F.faults files.new ≡ risen (F.faults files.old) }
-    ensures unfailing { F.never_fails files.old →
-        F.never_fails files.new × (result ≢ Err PreFault.Files) }
-{
-    let mut walk = walk;
-    loop {
-        match walk.turn(alloc, files) {
-            Ok(true) => continue,
-            Ok(false) => {
-                return match walk.finish(alloc) {
-                    Ok(lines) => Ok(lines),
-                    Err(Memory) => Err(PreFault::Memory),
-                };
-            }
-            Err(fault) => return Err(fault),
-        }
-    }
-}
-
-/// The lines of a source, over the files that it includes.
-fn read_lines<F: Files>(alloc: Global, name: &str, files: &mut F) -> Result<Lines, PreFault>
-    ensures answers { (map : Held) → F.held files.old ≡ Some map →
-        Answers map name.now result }
-    ensures bounds { IfOk result IsBounded }
-
-    // The files were only read.
-    ensures same { F.held files.new ≡ F.held files.old }
-    ensures steady { result ≢ Err PreFault.Files →
-        F.faults files.new ≡ F.faults files.old }
-    ensures cause { result ≡ Err PreFault.Files →
-        F.faults files.new ≡ risen (F.faults files.old) }
-    ensures unfailing { F.never_fails files.old →
-        F.never_fails files.new × (result ≢ Err PreFault.Files) }
-{
-    match files.read(alloc, name, FILE_LIMIT) {
-        ReadAnswer::Got(bytes) => match Walk::begin(alloc, name, bytes.as_slice()) {
-            Ok(walk) => drive(alloc, walk, files),
-            Err(Memory) => Err(PreFault::Memory),
-        },
-        ReadAnswer::Missing => Err(PreFault::NoSource),
-        ReadAnswer::TooLarge => match Bytes::from_slice(alloc, name.as_bytes()) {
-            Ok(name) => Err(PreFault::TooLarge(name)),
-            Err(Memory) => Err(PreFault::Memory),
-        },
-        ReadAnswer::Failed => Err(PreFault::Files),
-        ReadAnswer::Memory => Err(PreFault::Memory),
-    }
-}
 
 /// The lines of a source, over the files that it includes: lines are cut and joined, comments
 /// blanked, directives carried out and definitions substituted (Language Guide, "Preprocessor").
@@ -102,4 +42,48 @@ pub fn preprocess<F: Files>(alloc: Global, name: &str, files: &mut F) -> Result<
         (result ≡ Err PreFault.Files) }
 {
     read_lines(alloc, name, files)
+}
+
+/// Settles line after line until no file is open.
+fn drive<F: Files>(alloc: Global, walk: Walk, files: &mut F) -> Result<Lines, PreFault>
+    ensures ends { (map : Held) → F.held files.old ≡ Some map →
+        EndsIn value_of map walk result }
+    ensures bounds { IsSoundStack walk → IfOk result IsBounded }
+    ensures files { OnlyRead F.held F.faults F.never_fails files.old files.new
+        (result ≡ Err PreFault.Files) }
+{
+    let mut walk = walk;
+    loop {
+        match walk.turn(alloc, files) {
+            Ok(true) => continue,
+            Ok(false) => {
+                let lines = walk.finish(alloc)?;
+                return Ok(lines);
+            }
+            Err(fault) => return Err(fault),
+        }
+    }
+}
+
+/// The lines of a source, over the files that it includes.
+fn read_lines<F: Files>(alloc: Global, name: &str, files: &mut F) -> Result<Lines, PreFault>
+    ensures answers { (map : Held) → F.held files.old ≡ Some map →
+        Answers map name.now result }
+    ensures bounds { IfOk result IsBounded }
+    ensures files { OnlyRead F.held F.faults F.never_fails files.old files.new
+        (result ≡ Err PreFault.Files) }
+{
+    match files.read(alloc, name, FILE_LIMIT) {
+        ReadAnswer::Got(bytes) => {
+            let walk = Walk::begin(alloc, name, bytes.as_slice())?;
+            drive(alloc, walk, files)
+        }
+        ReadAnswer::Missing => Err(PreFault::NoSource),
+        ReadAnswer::TooLarge => {
+            let name = Bytes::from_slice(alloc, name.as_bytes())?;
+            Err(PreFault::TooLarge(name))
+        }
+        ReadAnswer::Failed => Err(PreFault::Files),
+        ReadAnswer::Memory => Err(PreFault::Memory),
+    }
 }

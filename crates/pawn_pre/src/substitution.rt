@@ -10,7 +10,7 @@ use super::blanks::split_word;
 use super::matching::{Given, matched};
 use super::piece::{Piece, pieces};
 use super::quote::Quote;
-use super::refusal::Refusal;
+use super::refusal::{LONG_LINE, Refusal, TOO_MANY_SUBSTITUTIONS};
 use super::table::Table;
 use pawn_base::{Bytes, Memory};
 use pawn_token::{Class, is_in};
@@ -36,54 +36,44 @@ pub fn is_long(front: usize, back: usize) -> bool
     front > LONGEST || back > LONGEST - front
 }
 
-/// What a parameter took.
-fn find_given(number: u8, given: &[Given]) -> Option<&Given>
-    ensures { option_copied result ≡
-        find (λ (taken : GivenBytes). taken.number == number) given.now }
-{
-    given.iter().find(|taken| taken.number == number)
-}
-
-/// Puts bytes at the end, no further than until there are too many for a line.
-#[tactic(auto, using(crate::proofs::CutLaws::front_put))]
-fn put(bytes: &[u8], out: &mut Bytes) -> Result<(), Memory>
-    requires { length out.old ≤ 4096 }
-    ensures put { OnOk result (out.new ≡ up_to_long (out.old ++ bytes.now)) }
-{
-    let room = LONGEST + 1 - out.len();
-    let (front, _rest) = bytes.split_at(room.min(bytes.len()));
-    out.append(front)
-}
-
-/// Puts what stands in a piece's place. A parameter that took nothing stays as it is.
-fn put_piece(piece: Piece, given: &[Given], out: &mut Bytes) -> Result<(), Memory>
-    requires { length out.old ≤ 4096 }
-    ensures put { OnOk result (out.new ≡ up_to_long (out.old ++ spec.bytes_for given.now piece)) }
-{
-    match piece {
-        Piece::Byte(byte) => put(&[byte], out),
-        Piece::Param(number) => match find_given(number, given) {
-            Some(taken) => put(taken.bytes.as_slice(), out),
-            None => put(&[b'%', number], out),
-        },
-    }
-}
-
-/// A text with what the parameters took, no further than until it is too long for a line.
-fn filled(alloc: Global, given: &[Given], text: &[Piece]) -> Result<Bytes, Memory>
-    ensures { IfOk result (λ out. out ≡ up_to_long (spec.filled given.now text.now)) }
-{
-    let mut out = Bytes::new(alloc);
-    for piece in text {
-        if is_long(out.len(), 0) {
-            return Ok(out);
-        }
-        put_piece(*piece, given, &mut out)?;
-    }
-    Ok(out)
-}
-
 impl Table {
+    /// A line with each name that is defined replaced, from a cursor on that never goes back, at
+    /// most 1,000 times (Language Guide, "Preprocessor", on text substitution). Literals are told
+    /// apart by the control character.
+    ///
+    /// # Errors
+    ///
+    /// Fault 7 where one more would be replaced, and 9 where the line has more than 4,095 bytes,
+    /// before or after a replacement. `Memory` for want of memory.
+    #[tactic(auto, unfolding(crate::specs::Substitution::expanded))]
+    pub fn expanded(&self, alloc: Global, control: u8, bytes: &[u8]) -> Result<Bytes, Refusal>
+        ensures { Tells (spec.expanded self.now control bytes.now) result }
+    {
+        if is_long(bytes.len(), 0) {
+            return Err(Refusal::Fault(LONG_LINE));
+        }
+        let mut done = Bytes::new(alloc);
+        let mut after = Bytes::from_slice(alloc, bytes)?;
+        let mut left = MOST_STEPS;
+        while let Some(spot) = self.substituted(alloc, control, after.as_slice())? {
+            if left == 0 {
+                return Err(Refusal::Fault(TOO_MANY_SUBSTITUTIONS));
+            }
+            left -= 1;
+            let Spot {
+                before,
+                after: next,
+            } = spot;
+            done.append(before)?;
+            after = next;
+            if is_long(done.len(), after.len()) {
+                return Err(Refusal::Fault(LONG_LINE));
+            }
+        }
+        done.append(after.as_slice())?;
+        Ok(done)
+    }
+
     /// Where the key in front has a definition whose tail matches, what stands from there on.
     #[tactic(auto, unfolding(crate::specs::Substitution::place_at), using(crate::proofs::CutLaws::cut_behind))]
     fn place_at(&self, alloc: Global, control: u8, bytes: &[u8]) -> Result<Option<Bytes>, Memory>
@@ -148,43 +138,6 @@ impl Table {
         }
         Ok(None)
     }
-
-    /// A line with each name that is defined replaced, from a cursor on that never goes back, at
-    /// most 1,000 times (Language Guide, "Preprocessor", on text substitution). Literals are told
-    /// apart by the control character.
-    ///
-    /// # Errors
-    ///
-    /// Fault 7 where one more would be replaced, and 9 where the line has more than 4,095 bytes,
-    /// before or after a replacement. `Memory` for want of memory.
-    #[tactic(auto, unfolding(crate::specs::Substitution::expanded))]
-    pub fn expanded(&self, alloc: Global, control: u8, bytes: &[u8]) -> Result<Bytes, Refusal>
-        ensures { Tells (spec.expanded self.now control bytes.now) result }
-    {
-        if is_long(bytes.len(), 0) {
-            return Err(Refusal::Fault(9));
-        }
-        let mut done = Bytes::new(alloc);
-        let mut after = Bytes::from_slice(alloc, bytes)?;
-        let mut left = MOST_STEPS;
-        while let Some(spot) = self.substituted(alloc, control, after.as_slice())? {
-            if left == 0 {
-                return Err(Refusal::Fault(7));
-            }
-            left -= 1;
-            let Spot {
-                before,
-                after: next,
-            } = spot;
-            done.append(before)?;
-            after = next;
-            if is_long(done.len(), after.len()) {
-                return Err(Refusal::Fault(9));
-            }
-        }
-        done.append(after.as_slice())?;
-        Ok(done)
-    }
 }
 
 /// Whether a whole name begins with a byte.
@@ -192,4 +145,51 @@ pub fn begins_whole_name(quote: Quote, joined: bool, byte: u8) -> bool
     ensures { result ≡ spec.begins_whole_name quote joined byte }
 {
     quote.is_outside() && !joined && is_in(Class::NameStart, byte)
+}
+
+/// What a parameter took.
+fn find_given(number: u8, given: &[Given]) -> Option<&Given>
+    ensures { option_copied result ≡
+        find (λ (taken : GivenBytes). taken.number == number) given.now }
+{
+    given.iter().find(|taken| taken.number == number)
+}
+
+/// Puts bytes at the end, no further than until there are too many for a line.
+#[tactic(auto, using(crate::proofs::CutLaws::front_put))]
+fn put(bytes: &[u8], out: &mut Bytes) -> Result<(), Memory>
+    requires { length out.old ≤ 4096 }
+    ensures put { OnOk result (out.new ≡ up_to_long (out.old ++ bytes.now)) }
+{
+    let room = LONGEST + 1 - out.len();
+    let (front, _rest) = bytes.split_at(room.min(bytes.len()));
+    out.append(front)
+}
+
+/// Puts what stands in a piece's place. A parameter that took nothing stays as it is.
+fn put_piece(piece: Piece, given: &[Given], out: &mut Bytes) -> Result<(), Memory>
+    requires { length out.old ≤ 4096 }
+    ensures put { OnOk result (out.new ≡ up_to_long (out.old ++ spec.bytes_for given.now piece)) }
+{
+    match piece {
+        Piece::Byte(byte) => put(&[byte], out),
+        Piece::Param(number) => match find_given(number, given) {
+            Some(taken) => put(taken.bytes.as_slice(), out),
+            None => put(&[b'%', number], out),
+        },
+    }
+}
+
+/// A text with what the parameters took, no further than until it is too long for a line.
+fn filled(alloc: Global, given: &[Given], text: &[Piece]) -> Result<Bytes, Memory>
+    ensures { IfOk result (λ out. out ≡ up_to_long (spec.filled given.now text.now)) }
+{
+    let mut out = Bytes::new(alloc);
+    for piece in text {
+        if is_long(out.len(), 0) {
+            return Ok(out);
+        }
+        put_piece(*piece, given, &mut out)?;
+    }
+    Ok(out)
 }

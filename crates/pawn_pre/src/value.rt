@@ -9,7 +9,7 @@ use std::alloc::Global;
 
 /// The value of the expression that the parts of a text spell.
 #[tactic(auto, unfolding(crate::specs::ConditionMachine::value_of))]
-fn computed(alloc: Global, control: u8, text: &[u8]) -> Result<Option<i32>, Memory>
+pub fn computed_value(alloc: Global, control: u8, text: &[u8]) -> Result<Option<i32>, Memory>
     ensures { IfOk result (λ found. found ≡ machine.value_of control text.now) }
 {
     match parts(alloc, control, text)? {
@@ -37,5 +37,5 @@ pub fn value_of(alloc: Global, control: u8, text: &[u8]) -> Result<Option<i32>, 
     ensures told { (value : ℕ → List ℕ → Option ℤ) → IsValue value →
         IfOk result (λ found. found ≡ value control text.now) }
 {
-    computed(alloc, control, text)
+    computed_value(alloc, control, text)
 }

@@ -2,8 +2,9 @@ ghost use Rattle.std.specs.Prelude.{◌≡◌, ◌≢◌, ◌≤◌, ◌<◌, �
 ghost use Rattle.std.specs.Prelude.{OnOk, IfOk, IsTrue};
 ghost use Rattle.std.specs.Str.{IsAscii};
 ghost use Rattle.pawn_outside.specs.Held.{Held};
-ghost use Rattle.pawn_outside.specs.Rose.{risen};
+ghost use Rattle.pawn_outside.specs.OnlyRead.{OnlyRead};
 ghost use Rattle.pawn_outside.specs.Answers.{IsRead};
+ghost use Rattle.pawn_pre.specs.declared.file.TheConstants.{FILE_LIMIT};
 ghost use Rattle.pawn_pre.specs.Walk as walks;
 ghost use Rattle.pawn_pre.specs.Outcome.{Fault, name_of};
 ghost use Rattle.pawn_pre.specs.Sound.{IsSoundStack, Leaves};
@@ -13,11 +14,13 @@ ghost use Rattle.pawn_pre.specs.ConditionMachine.{value_of};
 
 use super::directive::{Word, directive};
 use super::fault::PreFault;
-use super::file::read_rows;
+use super::file::{FILE_LIMIT, read_rows};
 use super::include::{Named, include_name};
 use super::level::Level;
 use super::line::Lines;
-use super::refusal::Refusal;
+use super::refusal::{
+    INCLUDE_TOO_DEEP, MISSING_INCLUDE, OPEN_COMMENT, Refusal, UNBALANCED_CONDITIONAL,
+};
 use super::work::Work;
 use pawn_base::{Bytes, Memory, Names};
 use pawn_cells::Place;
@@ -26,9 +29,6 @@ use std::alloc::Global;
 use std::collections::VecDeque;
 use std::marker::Model;
 use std::{mem, str};
-
-/// The most bytes of a file.
-pub const FILE_LIMIT: u64 = 16_777_216;
 
 /// The files that are open, and what is settled.
 #[derive(Drop)]
@@ -54,38 +54,10 @@ impl Model for Walk {
     } };
 }
 
-/// The name of a file by its number.
-fn file_name(names: &Names, file: u64) -> &[u8]
-    ensures { result.now ≡ name_of names.now file }
-{
-    match names.get(file as usize) {
-        Some(name) => name,
-        None => &[],
-    }
-}
-
-/// Reads a file whose name is plain text.
-fn read_named<F: Files>(alloc: Global, files: &mut F, name: &[u8]) -> ReadAnswer
-    requires { IsAscii name.now }
-    ensures same { F.held files.new ≡ F.held files.old }
-    ensures answer { IsRead (F.held files.old) name.now 16777216 result }
-    ensures steady { result ≢ ReadAnswer.Failed →
-        F.faults files.new ≡ F.faults files.old }
-    ensures cause { result ≡ ReadAnswer.Failed →
-        F.faults files.new ≡ risen (F.faults files.old) }
-    ensures unfailing { F.never_fails files.old →
-        F.never_fails files.new × (result ≢ ReadAnswer.Failed) }
-{
-    match str::from_utf8(name) {
-        Ok(text) => files.read(alloc, text, FILE_LIMIT),
-        Err(_) => ReadAnswer::Missing,
-    }
-}
-
 impl Walk {
     /// The source, before its first line.
     pub fn begin(alloc: Global, name: &str, bytes: &[u8]) -> Result<Walk, Memory>
-        requires { length bytes.now ≤ 16777216 }
+        requires { length bytes.now ≤ FILE_LIMIT }
         ensures { IfOk result (λ walk. walk ≡ walks.first_stack name.now bytes.now) }
     {
         let mut names = Names::new(alloc);
@@ -121,6 +93,49 @@ impl Walk {
         })
     }
 
+    /// Settles the next line, or the end of a file: false where no file is open any more.
+    #[tactic(auto, unfolding(crate::specs::Walk::step))]
+    pub fn turn<F: Files>(&mut self, alloc: Global, files: &mut F) -> Result<bool, PreFault>
+        ensures says { (map : Held) → F.held files.old ≡ Some map →
+            Says (walks.step value_of map self.old) result self.new }
+        ensures falls { FallsBelow (remaining self.old) result self.new }
+        ensures bounds { IsSoundStack self.old → Leaves result self.new }
+        ensures files { OnlyRead F.held F.faults F.never_fails files.old files.new
+            (result ≡ Err PreFault.Files) }
+    {
+        let Some(row) = self.work.top.take_row() else {
+            return self.end_file(alloc);
+        };
+        let place = Place {
+            file: self.work.top.file(),
+            line: row.number,
+        };
+        match directive(row.bytes.as_slice()) {
+            None => {
+                let done = self.work.keep(alloc, row.number, row.bytes.as_slice());
+                self.line_answer(alloc, place, done)
+            }
+            Some(parts) => match parts.word {
+                Word::Include => self.include(alloc, files, row.number, false, parts.rest),
+                Word::TryInclude => self.include(alloc, files, row.number, true, parts.rest),
+                Word::Define
+                | Word::Undef
+                | Word::If
+                | Word::ElseIf
+                | Word::Else
+                | Word::Endif
+                | Word::Error
+                | Word::Assert
+                | Word::Endinput
+                | Word::Pragma
+                | Word::Unknown => {
+                    let done = self.work.act(alloc, parts.word, parts.rest);
+                    self.line_answer(alloc, place, done)
+                }
+            },
+        }
+    }
+
     /// A fault at a place, with the name of its file.
     fn fault(&self, alloc: Global, kind: u8, place: Place) -> PreFault
         ensures { IsFault
@@ -145,10 +160,10 @@ impl Walk {
             line: self.work.top.last(),
         };
         if self.work.top.is_unclosed() {
-            return Err(self.fault(alloc, 12, place));
+            return Err(self.fault(alloc, OPEN_COMMENT, place));
         }
         if self.work.top.innermost().is_some() {
-            return Err(self.fault(alloc, 2, place));
+            return Err(self.fault(alloc, UNBALANCED_CONDITIONAL, place));
         }
         match self.below.pop_front() {
             Some(level) => {
@@ -167,7 +182,7 @@ impl Walk {
 
     /// Opens a file that wasn't begun.
     fn enter(&mut self, alloc: Global, name: &[u8], bytes: &[u8]) -> Result<(), Memory>
-        requires short { length bytes.now ≤ 16777216 }
+        requires short { length bytes.now ≤ FILE_LIMIT }
         requires new { walks.is_begun self.old name.now ≡ false }
         ensures entered { OnOk result (self.new ≡ walks.entered self.old name.now bytes.now) }
         ensures falls { OnOk result (remaining self.new < remaining self.old + 1) }
@@ -188,7 +203,7 @@ impl Walk {
         if optional {
             Ok(true)
         } else {
-            Err(self.fault(alloc, 3, place))
+            Err(self.fault(alloc, MISSING_INCLUDE, place))
         }
     }
 
@@ -203,17 +218,12 @@ impl Walk {
     ) -> Result<bool, PreFault>
         requires ascii { IsTrue named.valid → IsAscii named.name }
         requires new { walks.is_begun self.old named.name ≡ false }
-        ensures same { F.held files.new ≡ F.held files.old }
         ensures says { (map : Held) → F.held files.old ≡ Some map →
             Says (walks.asked map self.old line optional named) result self.new }
         ensures falls { FallsBelow (remaining self.old + 1) result self.new }
         ensures bounds { IsSoundStack self.old → Leaves result self.new }
-        ensures steady { result ≢ Err PreFault.Files →
-            F.faults files.new ≡ F.faults files.old }
-        ensures cause { result ≡ Err PreFault.Files →
-            F.faults files.new ≡ risen (F.faults files.old) }
-        ensures unfailing { F.never_fails files.old →
-            F.never_fails files.new × (result ≢ Err PreFault.Files) }
+        ensures files { OnlyRead F.held F.faults F.never_fails files.old files.new
+            (result ≡ Err PreFault.Files) }
     {
         let place = Place {
             file: self.work.top.file(),
@@ -223,14 +233,10 @@ impl Walk {
             return self.missing(alloc, optional, place);
         }
         match read_named(alloc, files, named.name.as_slice()) {
-            ReadAnswer::Got(bytes) => match self.enter(
-                alloc,
-                named.name.as_slice(),
-                bytes.as_slice(),
-            ) {
-                Ok(()) => Ok(true),
-                Err(Memory) => Err(PreFault::Memory),
-            },
+            ReadAnswer::Got(bytes) => {
+                self.enter(alloc, named.name.as_slice(), bytes.as_slice())?;
+                Ok(true)
+            }
             ReadAnswer::Missing => self.missing(alloc, optional, place),
             ReadAnswer::TooLarge => Err(PreFault::TooLarge(named.name)),
             ReadAnswer::Failed => Err(PreFault::Files),
@@ -248,25 +254,17 @@ impl Walk {
         optional: bool,
         rest: &[u8],
     ) -> Result<bool, PreFault>
-        ensures same { F.held files.new ≡ F.held files.old }
         ensures says { (map : Held) → F.held files.old ≡ Some map →
             Says (walks.include map self.old line optional rest.now) result self.new }
         ensures falls { FallsBelow (remaining self.old + 1) result self.new }
         ensures bounds { IsSoundStack self.old → Leaves result self.new }
-        ensures steady { result ≢ Err PreFault.Files →
-            F.faults files.new ≡ F.faults files.old }
-        ensures cause { result ≡ Err PreFault.Files →
-            F.faults files.new ≡ risen (F.faults files.old) }
-        ensures unfailing { F.never_fails files.old →
-            F.never_fails files.new × (result ≢ Err PreFault.Files) }
+        ensures files { OnlyRead F.held F.faults F.never_fails files.old files.new
+            (result ≡ Err PreFault.Files) }
     {
         if !self.work.is_in_chosen() {
             return Ok(true);
         }
-        let named = match include_name(alloc, rest) {
-            Ok(named) => named,
-            Err(Memory) => return Err(PreFault::Memory),
-        };
+        let named = include_name(alloc, rest)?;
         if self.is_begun(named.name.as_slice()) {
             return Ok(true);
         }
@@ -275,13 +273,18 @@ impl Walk {
                 file: self.work.top.file(),
                 line,
             };
-            return Err(self.fault(alloc, 8, place));
+            return Err(self.fault(alloc, INCLUDE_TOO_DEEP, place));
         }
         self.ask(alloc, files, line, optional, named)
     }
 
     /// What became of the work of a line.
-    fn told(&self, alloc: Global, place: Place, done: Result<(), Refusal>) -> Result<bool, PreFault>
+    fn line_answer(
+        &self,
+        alloc: Global,
+        place: Place,
+        done: Result<(), Refusal>,
+    ) -> Result<bool, PreFault>
         ensures { IsTold self.now place done result }
     {
         match done {
@@ -290,52 +293,27 @@ impl Walk {
             Err(Refusal::Memory) => Err(PreFault::Memory),
         }
     }
+}
 
-    /// Settles the next line, or the end of a file: false where no file is open any more.
-    #[tactic(auto, unfolding(crate::specs::Walk::step))]
-    pub fn turn<F: Files>(&mut self, alloc: Global, files: &mut F) -> Result<bool, PreFault>
-        ensures same { F.held files.new ≡ F.held files.old }
-        ensures says { (map : Held) → F.held files.old ≡ Some map →
-            Says (walks.step value_of map self.old) result self.new }
-        ensures falls { FallsBelow (remaining self.old) result self.new }
-        ensures bounds { IsSoundStack self.old → Leaves result self.new }
-        ensures steady { result ≢ Err PreFault.Files →
-            F.faults files.new ≡ F.faults files.old }
-        ensures cause { result ≡ Err PreFault.Files →
-            F.faults files.new ≡ risen (F.faults files.old) }
-        ensures unfailing { F.never_fails files.old →
-            F.never_fails files.new × (result ≢ Err PreFault.Files) }
-    {
-        let Some(row) = self.work.top.take_row() else {
-            return self.end_file(alloc);
-        };
-        let place = Place {
-            file: self.work.top.file(),
-            line: row.number,
-        };
-        match directive(row.bytes.as_slice()) {
-            None => {
-                let done = self.work.keep(alloc, row.number, row.bytes.as_slice());
-                self.told(alloc, place, done)
-            }
-            Some(parts) => match parts.word {
-                Word::Include => self.include(alloc, files, row.number, false, parts.rest),
-                Word::TryInclude => self.include(alloc, files, row.number, true, parts.rest),
-                Word::Define
-                | Word::Undef
-                | Word::If
-                | Word::ElseIf
-                | Word::Else
-                | Word::Endif
-                | Word::Error
-                | Word::Assert
-                | Word::Endinput
-                | Word::Pragma
-                | Word::Unknown => {
-                    let done = self.work.act(alloc, parts.word, parts.rest);
-                    self.told(alloc, place, done)
-                }
-            },
-        }
+/// The name of a file by its number.
+fn file_name(names: &Names, file: u64) -> &[u8]
+    ensures { result.now ≡ name_of names.now file }
+{
+    match names.get(file as usize) {
+        Some(name) => name,
+        None => &[],
+    }
+}
+
+/// Reads a file whose name is plain text.
+fn read_named<F: Files>(alloc: Global, files: &mut F, name: &[u8]) -> ReadAnswer
+    requires { IsAscii name.now }
+    ensures answer { IsRead (F.held files.old) name.now FILE_LIMIT result }
+    ensures files { OnlyRead F.held F.faults F.never_fails files.old files.new
+        (result ≡ ReadAnswer.Failed) }
+{
+    match str::from_utf8(name) {
+        Ok(text) => files.read(alloc, text, FILE_LIMIT),
+        Err(_) => ReadAnswer::Missing,
     }
 }

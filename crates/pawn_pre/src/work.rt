@@ -9,7 +9,10 @@ use super::define::{read_definition, undefined};
 use super::directive::{Setting, Word, pragma, quoted_byte};
 use super::level::Level;
 use super::line::{Line, MOST_BYTES};
-use super::refusal::Refusal;
+use super::refusal::{
+    BAD_CONDITION, BAD_PATTERN, ERROR_DIRECTIVE, FALSE_ASSERT, LONG_SOURCE, Refusal,
+    UNBALANCED_CONDITIONAL, UNKNOWN_DIRECTIVE,
+};
 use super::state::{Conditional, Part, Settings};
 use super::table::Table;
 use pawn_base::{Bytes, List, Memory};
@@ -25,25 +28,6 @@ pub struct Work {
     pub rules: Table,
     pub settings: Settings,
     pub top: Level,
-}
-
-fn part_of(value: i32) -> Part
-    ensures { result ≡ acts.part_of value }
-{
-    if value == 0 {
-        Part::Waiting
-    } else {
-        Part::Chosen
-    }
-}
-
-fn else_part(part: Part) -> Part
-    ensures { result ≡ acts.else_part part }
-{
-    match part {
-        Part::Waiting => Part::Chosen,
-        Part::Chosen | Part::Done => Part::Done,
-    }
 }
 
 impl Work {
@@ -71,13 +55,52 @@ impl Work {
         self.top.is_chosen()
     }
 
+    /// Keeps a line that is no directive.
+    #[tactic(auto, unfolding(crate::specs::Work::keep))]
+    pub fn keep(&mut self, alloc: Global, number: u32, bytes: &[u8]) -> Result<(), Refusal>
+        ensures { Acted (acts.keep self.old number bytes.now) result self.new }
+    {
+        if !self.is_in_chosen() {
+            return Ok(());
+        }
+        let line = self.rules.expanded(alloc, self.settings.control, bytes)?;
+        self.push_line(number, line)
+    }
+
+    /// What a directive does.
+    #[tactic(auto, unfolding(crate::specs::Work::act))]
+    pub fn act(&mut self, alloc: Global, word: Word, rest: &[u8]) -> Result<(), Refusal>
+        ensures { Acted (acts.act value_of self.old word rest.now) result self.new }
+    {
+        match word {
+            Word::If => self.begin_if(alloc, rest),
+            Word::ElseIf => self.turn_elseif(alloc, rest),
+            Word::Else => self.turn_else(),
+            Word::Endif => self.end_if(),
+            Word::Define
+            | Word::Undef
+            | Word::Include
+            | Word::TryInclude
+            | Word::Error
+            | Word::Assert
+            | Word::Endinput
+            | Word::Pragma
+            | Word::Unknown => {
+                if !self.is_in_chosen() {
+                    return Ok(());
+                }
+                self.act_in_chosen(alloc, word, rest)
+            }
+        }
+    }
+
     /// Puts a line at the end.
     fn push_line(&mut self, number: u32, bytes: Bytes) -> Result<(), Refusal>
         ensures { Acted (acts.with_line self.old number bytes) result self.new }
     {
         let len = bytes.len() as u64;
         if self.size > MOST_BYTES || len > MOST_BYTES - self.size {
-            return Err(Refusal::Fault(10));
+            return Err(Refusal::Fault(LONG_SOURCE));
         }
         let line = Line {
             place: Place {
@@ -89,27 +112,9 @@ impl Work {
             packed: self.settings.packed,
             bytes,
         };
-        match self.lines.push(line) {
-            Ok(()) => {
-                self.size += len;
-                Ok(())
-            }
-            Err(Memory) => Err(Refusal::Memory),
-        }
-    }
-
-    /// Keeps a line that is no directive.
-    #[tactic(auto, unfolding(crate::specs::Work::keep))]
-    pub fn keep(&mut self, alloc: Global, number: u32, bytes: &[u8]) -> Result<(), Refusal>
-        ensures { Acted (acts.keep self.old number bytes.now) result self.new }
-    {
-        if !self.is_in_chosen() {
-            return Ok(());
-        }
-        match self.rules.expanded(alloc, self.settings.control, bytes) {
-            Ok(line) => self.push_line(number, line),
-            Err(refusal) => Err(refusal),
-        }
+        self.lines.push(line)?;
+        self.size += len;
+        Ok(())
     }
 
     fn push_part(&mut self, part: Part) -> Result<(), Memory>
@@ -146,13 +151,9 @@ impl Work {
             self.push_part(Part::Done)?;
             return Ok(());
         }
-        match self.condition(alloc, rest) {
-            Ok(value) => {
-                self.push_part(part_of(value))?;
-                Ok(())
-            }
-            Err(refusal) => Err(refusal),
-        }
+        let value = self.condition(alloc, rest)?;
+        self.push_part(part_of(value))?;
+        Ok(())
     }
 
     #[tactic(auto, unfolding(crate::specs::Work::turn_elseif))]
@@ -160,10 +161,10 @@ impl Work {
         ensures { Acted (acts.turn_elseif value_of self.old rest.now) result self.new }
     {
         let Some(open) = self.top.innermost() else {
-            return Err(Refusal::Fault(2));
+            return Err(Refusal::Fault(UNBALANCED_CONDITIONAL));
         };
         if open.past {
-            return Err(Refusal::Fault(2));
+            return Err(Refusal::Fault(UNBALANCED_CONDITIONAL));
         }
         match open.part {
             Part::Chosen | Part::Done => {
@@ -173,16 +174,14 @@ impl Work {
                 })?;
                 Ok(())
             }
-            Part::Waiting => match self.condition(alloc, rest) {
-                Ok(value) => {
-                    self.replace(Conditional {
-                        part: part_of(value),
-                        past: false,
-                    })?;
-                    Ok(())
-                }
-                Err(refusal) => Err(refusal),
-            },
+            Part::Waiting => {
+                let value = self.condition(alloc, rest)?;
+                self.replace(Conditional {
+                    part: part_of(value),
+                    past: false,
+                })?;
+                Ok(())
+            }
         }
     }
 
@@ -191,10 +190,10 @@ impl Work {
         ensures { Acted (acts.turn_else self.old) result self.new }
     {
         let Some(open) = self.top.innermost() else {
-            return Err(Refusal::Fault(2));
+            return Err(Refusal::Fault(UNBALANCED_CONDITIONAL));
         };
         if open.past {
-            return Err(Refusal::Fault(2));
+            return Err(Refusal::Fault(UNBALANCED_CONDITIONAL));
         }
         self.replace(Conditional {
             part: else_part(open.part),
@@ -208,7 +207,7 @@ impl Work {
         ensures { Acted (acts.end_if self.old) result self.new }
     {
         match self.top.innermost() {
-            None => Err(Refusal::Fault(2)),
+            None => Err(Refusal::Fault(UNBALANCED_CONDITIONAL)),
             Some(_open) => {
                 self.top.pop();
                 Ok(())
@@ -220,11 +219,10 @@ impl Work {
     fn assert_true(&mut self, alloc: Global, rest: &[u8]) -> Result<(), Refusal>
         ensures { Acted (acts.assert_true value_of self.old rest.now) result self.new }
     {
-        match self.condition(alloc, rest) {
-            Ok(0) => Err(Refusal::Fault(5)),
-            Ok(_) => Ok(()),
-            Err(refusal) => Err(refusal),
+        if self.condition(alloc, rest)? == 0 {
+            return Err(Refusal::Fault(FALSE_ASSERT));
         }
+        Ok(())
     }
 
     #[tactic(auto, unfolding(crate::specs::Work::define))]
@@ -232,7 +230,7 @@ impl Work {
         ensures { Acted (acts.define self.old rest.now) result self.new }
     {
         let Some(definition) = read_definition(alloc, self.settings.control, rest)? else {
-            return Err(Refusal::Fault(6));
+            return Err(Refusal::Fault(BAD_PATTERN));
         };
         let key = copy_of(alloc, definition.key.as_slice())?;
         self.rules.insert(key, definition.rule)?;
@@ -254,34 +252,28 @@ impl Work {
     {
         let parts = pragma(rest);
         match parts.setting {
-            Setting::Semicolon => match self.number(alloc, parts.rest) {
-                Ok(value) => {
-                    self.settings.strict = value != 0;
-                    Ok(())
-                }
-                Err(refusal) => Err(refusal),
-            },
-            Setting::Pack => match self.number(alloc, parts.rest) {
-                Ok(value) => {
-                    self.settings.packed = value != 0;
-                    Ok(())
-                }
-                Err(refusal) => Err(refusal),
-            },
+            Setting::Semicolon => {
+                let value = self.number(alloc, parts.rest)?;
+                self.settings.strict = value != 0;
+                Ok(())
+            }
+            Setting::Pack => {
+                let value = self.number(alloc, parts.rest)?;
+                self.settings.packed = value != 0;
+                Ok(())
+            }
             Setting::Control => match quoted_byte(past_blanks(parts.rest)) {
                 Some(byte) => {
                     self.settings.control = byte;
                     Ok(())
                 }
-                None => Err(Refusal::Fault(11)),
+                None => Err(Refusal::Fault(BAD_CONDITION)),
             },
-            Setting::Dynamic => match self.number(alloc, parts.rest) {
-                Ok(value) => {
-                    self.settings.dynamic = value;
-                    Ok(())
-                }
-                Err(refusal) => Err(refusal),
-            },
+            Setting::Dynamic => {
+                let value = self.number(alloc, parts.rest)?;
+                self.settings.dynamic = value;
+                Ok(())
+            }
             Setting::Other => Ok(()),
         }
     }
@@ -302,44 +294,36 @@ impl Work {
                 self.undefine(rest);
                 Ok(())
             }
-            Word::Error => Err(Refusal::Fault(4)),
+            Word::Error => Err(Refusal::Fault(ERROR_DIRECTIVE)),
             Word::Assert => self.assert_true(alloc, rest),
             Word::Endinput => {
                 self.end_input();
                 Ok(())
             }
             Word::Pragma => self.set_pragma(alloc, rest),
-            Word::Unknown => Err(Refusal::Fault(1)),
+            Word::Unknown => Err(Refusal::Fault(UNKNOWN_DIRECTIVE)),
             Word::If | Word::ElseIf | Word::Else | Word::Endif | Word::Include | Word::TryInclude =>
                 Ok(()),
         }
     }
+}
 
-    /// What a directive does.
-    #[tactic(auto, unfolding(crate::specs::Work::act))]
-    pub fn act(&mut self, alloc: Global, word: Word, rest: &[u8]) -> Result<(), Refusal>
-        ensures { Acted (acts.act value_of self.old word rest.now) result self.new }
-    {
-        match word {
-            Word::If => self.begin_if(alloc, rest),
-            Word::ElseIf => self.turn_elseif(alloc, rest),
-            Word::Else => self.turn_else(),
-            Word::Endif => self.end_if(),
-            Word::Define
-            | Word::Undef
-            | Word::Include
-            | Word::TryInclude
-            | Word::Error
-            | Word::Assert
-            | Word::Endinput
-            | Word::Pragma
-            | Word::Unknown => {
-                if !self.is_in_chosen() {
-                    return Ok(());
-                }
-                self.act_in_chosen(alloc, word, rest)
-            }
-        }
+fn part_of(value: i32) -> Part
+    ensures { result ≡ acts.part_of value }
+{
+    if value == 0 {
+        Part::Waiting
+    } else {
+        Part::Chosen
+    }
+}
+
+fn else_part(part: Part) -> Part
+    ensures { result ≡ acts.else_part part }
+{
+    match part {
+        Part::Waiting => Part::Chosen,
+        Part::Chosen | Part::Done => Part::Done,
     }
 }
 

@@ -9,7 +9,7 @@ use Rattle.pawn_token.specs.declared.fault.TokenFault.TheVariants as bad
 use Rattle.pawn_token.specs.declared.kind.TokenKind.{TokenKind}
 use Rattle.pawn_token.specs.declared.kind.TokenKind.TheVariants as kind
 use Rattle.pawn_token.specs.declared.sign.Sign.{Sign}
-use Rattle.pawn_token.specs.Readers.{Gives, GivesCharacter, GivesText, IsRead}
+use Rattle.pawn_token.specs.Readers.{Gives, GivesCharacter, GivesSign, GivesText, IsRead}
 use Rattle.pawn_token.specs.Class.{is_in, run, after, byte_at}
 use Rattle.pawn_token.specs.Fault.{bad_byte}
 use Rattle.pawn_token.specs.Forms.{Form, Word, Numeral, Character, Literal, Mark, Fits, IsWord}
@@ -337,3 +337,12 @@ strange_told control setting at place some found =
       no_character = place.no_quote;
       no_text = λ turned inside opened. no_opening at place turned inside opened;
     }) refl
+
+pub mark_told : (control : ℕ) (setting : Bool) (at : List ℕ)
+    (answer : Result (TokenKind × Bor (List ℕ)) TokenFault) → IsMarkPlace at → 0 < length at
+    → GivesSign at answer → IsRead control setting at answer
+mark_told control setting at (Ok read) place some (sign, kind_is, found, follows) =
+    rw (kind_is, follows) (sign_told control setting at sign place found)
+mark_told control setting at (Err (bad.Source fault)) place some (is, none) =
+    rw is (strange_told control setting at place some none)
+mark_told control setting at (Err bad.Memory) place some gives = absurd gives

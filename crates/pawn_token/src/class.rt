@@ -52,6 +52,14 @@ pub fn behind(bytes: &[u8], count: usize) -> &[u8]
     }
 }
 
+/// The bytes of a class at the front, and what follows them.
+pub fn split(class: Class, bytes: &[u8]) -> (&[u8], &[u8])
+    ensures front { result.0.now ≡ run class bytes.now }
+    ensures rest { result.1.now ≡ after class bytes.now }
+{
+    bytes.split_at(run_length(class, bytes))
+}
+
 /// How many bytes of a class stand at the front.
 fn run_length(class: Class, bytes: &[u8]) -> usize
     ensures { result ≡ prefix_len (is_in class) bytes.now }
@@ -62,12 +70,4 @@ fn run_length(class: Class, bytes: &[u8]) -> usize
         }
     }
     bytes.len()
-}
-
-/// The bytes of a class at the front, and what follows them.
-pub fn split(class: Class, bytes: &[u8]) -> (&[u8], &[u8])
-    ensures front { result.0.now ≡ run class bytes.now }
-    ensures rest { result.1.now ≡ after class bytes.now }
-{
-    bytes.split_at(run_length(class, bytes))
 }

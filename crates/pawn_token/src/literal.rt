@@ -11,6 +11,34 @@ use super::number::value;
 use pawn_base::Bytes;
 use std::alloc::Global;
 
+/// A character behind its quote, and what follows it.
+pub fn character(control: u8, inside: &[u8]) -> Result<(TokenKind, &[u8]), TokenFault>
+    ensures { GivesCharacter control inside.now result }
+{
+    match single(control, inside) {
+        Ok((byte, rest)) => Ok((TokenKind::Number(i32::from(byte)), rest)),
+        Err(kind) => Err(TokenFault::Source(kind)),
+    }
+}
+
+/// The bytes of a text behind its quote, and what follows it.
+pub fn text(alloc: Global, control: u8, bytes: &[u8]) -> Result<(Bytes, &[u8]), TokenFault>
+    ensures { ReadsText control bytes.now result }
+{
+    let mut found = Bytes::new(alloc);
+    let mut at = bytes;
+    loop {
+        match next(control, b'"', at) {
+            Ok(Some((byte, rest))) => {
+                found.push(byte)?;
+                at = rest;
+            }
+            Ok(None) => return Ok((found, behind(at, 1))),
+            Err(kind) => return Err(TokenFault::Source(kind)),
+        }
+    }
+}
+
 /// The byte that a letter stands for in an escape.
 #[tactic(auto, unfolding(crate::specs::Literal::named))]
 fn named(letter: u8) -> Option<u8>
@@ -109,33 +137,5 @@ fn single(control: u8, inside: &[u8]) -> Result<(u8, &[u8]), u8>
     match next(control, b'\'', end) {
         Ok(None) => Ok((byte, behind(end, 1))),
         Ok(Some(_)) | Err(_) => Err(OPEN_TEXT),
-    }
-}
-
-/// A character behind its quote, and what follows it.
-pub fn character(control: u8, inside: &[u8]) -> Result<(TokenKind, &[u8]), TokenFault>
-    ensures { GivesCharacter control inside.now result }
-{
-    match single(control, inside) {
-        Ok((byte, rest)) => Ok((TokenKind::Number(i32::from(byte)), rest)),
-        Err(kind) => Err(TokenFault::Source(kind)),
-    }
-}
-
-/// The bytes of a text behind its quote, and what follows it.
-pub fn text(alloc: Global, control: u8, bytes: &[u8]) -> Result<(Bytes, &[u8]), TokenFault>
-    ensures { ReadsText control bytes.now result }
-{
-    let mut found = Bytes::new(alloc);
-    let mut at = bytes;
-    loop {
-        match next(control, b'"', at) {
-            Ok(Some((byte, rest))) => {
-                found.push(byte)?;
-                at = rest;
-            }
-            Ok(None) => return Ok((found, behind(at, 1))),
-            Err(kind) => return Err(TokenFault::Source(kind)),
-        }
     }
 }

@@ -21,6 +21,32 @@ pub enum Radix {
     Two,
 }
 
+/// The value of digits, where it is below a limit of at most 2^32.
+pub fn value(base: u8, digits: &[u8], limit: u64) -> Option<u64>
+    requires some { 0 < limit }
+    requires limited { limit ≤ 2 ^ 32 }
+    requires positive { 0 < base }
+    ensures { SomeIff result (digits_value base digits.now < limit) (digits_value base digits.now) }
+{
+    let mut sum = 0;
+    for byte in digits {
+        let next = sum * u64::from(base) + u64::from(digit(*byte));
+        if next >= limit {
+            return None;
+        }
+        sum = next;
+    }
+    Some(sum)
+}
+
+/// The number at the front, and what follows it.
+pub fn number(bytes: &[u8]) -> Result<(TokenKind, &[u8]), TokenFault>
+    ensures { let radix = radix_at bytes.now in let rest = past_digits radix bytes.now in
+        Gives (kind_of (Numeral (number_value radix bytes.now)) rest) rest result }
+{
+    number_in(radix_at(bytes), bytes)
+}
+
 impl Radix {
     fn prefix_length(self) -> usize
         ensures { result ≡ length (prefix self) }
@@ -64,24 +90,6 @@ fn digit(byte: u8) -> u8
     }
 }
 
-/// The value of digits, where it is below a limit of at most 2^32.
-pub fn value(base: u8, digits: &[u8], limit: u64) -> Option<u64>
-    requires some { 0 < limit }
-    requires limited { limit ≤ 2 ^ 32 }
-    requires positive { 0 < base }
-    ensures { SomeIff result (digits_value base digits.now < limit) (digits_value base digits.now) }
-{
-    let mut sum = 0;
-    for byte in digits {
-        let next = sum * u64::from(base) + u64::from(digit(*byte));
-        if next >= limit {
-            return None;
-        }
-        sum = next;
-    }
-    Some(sum)
-}
-
 /// How the number at the front is written.
 #[tactic(auto, unfolding(crate::specs::Reading::radix_at))]
 fn radix_at(bytes: &[u8]) -> Radix
@@ -121,12 +129,4 @@ fn number_in(radix: Radix, bytes: &[u8]) -> Result<(TokenKind, &[u8]), TokenFaul
         Some(value) => Ok((TokenKind::Number((value as u32).cast_signed()), rest)),
         None => Err(TokenFault::Source(NUMBER_TOO_WIDE)),
     }
-}
-
-/// The number at the front, and what follows it.
-pub fn number(bytes: &[u8]) -> Result<(TokenKind, &[u8]), TokenFault>
-    ensures { let radix = radix_at bytes.now in let rest = past_digits radix bytes.now in
-        Gives (kind_of (Numeral (number_value radix bytes.now)) rest) rest result }
-{
-    number_in(radix_at(bytes), bytes)
 }

@@ -42,8 +42,9 @@ use Rattle.types_laws.specs.Written.{IsWritten, IsAnyName, IsWrittenDim, IsConst
 use Rattle.types_laws.specs.Written.{AreConstantInits, IsWrittenInit}
 use Rattle.types_laws.specs.GoodArrays.{ArraysAreGood}
 use Rattle.types_laws.specs.Plain.{IsValue, IsPlainPath, HasTags}
+use Rattle.pawn_cells.proofs.CellLaws.{wrap_cell, small_cell}
 use Rattle.types_laws.proofs.Facts.{holds_as, when_holds, each_append, each_all, all_each}
-use Rattle.types_laws.proofs.Facts.{each_replicate, wrap_cell, small_cell}
+use Rattle.types_laws.proofs.Facts.{each_replicate}
 use Rattle.types_laws.proofs.RuleValues.{HasText}
 use Rattle.types_laws.proofs.ExpressionValues.{expr_plain}
 

@@ -34,7 +34,8 @@ use Rattle.types_rules.proofs.VerdictLaws.{holds_both}
 use Rattle.types_laws.specs.Meant.{IsReached}
 use Rattle.types_laws.specs.Known.{KnowsAround}
 use Rattle.types_laws.specs.ValidExpressions.{IsValidForm}
-use Rattle.types_laws.proofs.CellLaws.{if_holds, unless_some}
+use Rattle.types_laws.proofs.Facts.{if_holds}
+use Rattle.types_laws.proofs.TestLaws.{unless_some}
 use Rattle.types_laws.proofs.BasicLaws.{Sound, stands, cell_sound}
 use Rattle.types_laws.proofs.OperatorLaws.{IsBinaryBetween, between_binary, chosen_takes}
 use Rattle.types_laws.proofs.OperatorLaws.{target_sound}

@@ -34,7 +34,8 @@ use Rattle.types_rules.proofs.VerdictLaws.{holds_both, holds_all}
 use Rattle.types_laws.specs.Meant.{AreCells, IsReached, IsMeant, KnowsPath}
 use Rattle.types_laws.specs.Placed.{IsShort}
 use Rattle.types_laws.specs.ValidExpressions.{IsValidForm}
-use Rattle.types_laws.proofs.CellLaws.{cell_of_cell, small_cell, if_holds, when_holds}
+use Rattle.pawn_cells.proofs.CellLaws.{cell_of_cell, small_cell}
+use Rattle.types_laws.proofs.Facts.{if_holds, when_holds}
 
 pub record SizeCell (size : ℕ) : Type 0 where
   pub cell : IsCell (pos size)

@@ -55,8 +55,8 @@ use Rattle.types_laws.specs.ValidExpressions.{ExpressionsAreValid}
 use Rattle.types_laws.specs.Objects.{Each, IsGoodObject}
 use Rattle.types_laws.specs.Written.{IsAnyName, IsWrittenVar}
 use Rattle.types_laws.specs.Plain.{IsTag, IsValue, HasTags}
-use Rattle.types_laws.proofs.Facts.{holds_and, when_holds, each_append, each_all, small_cell}
-use Rattle.types_laws.proofs.Facts.{wrap_cell}
+use Rattle.pawn_cells.proofs.CellLaws.{small_cell, wrap_cell}
+use Rattle.types_laws.proofs.Facts.{holds_and, when_holds, each_append, each_all}
 use Rattle.types_laws.proofs.ArrayValues.{PlainConstant, constant_plain}
 use Rattle.types_laws.specs.Sits.{Sits}
 use Rattle.types_laws.specs.Seen.{IsSeenPlace, IsSeenArray, IsSeen, IsSeenPath}

@@ -26,7 +26,7 @@ use Rattle.types_rules.specs.Calls.{Callee, callable, callee_rule, call_code, ar
 use Rattle.types_rules.specs.Calls.{call_by, call_rule}
 use Rattle.types_laws.specs.Known.{slot_by, slot_of, IsDefault, HasDefaults, KnowsAround}
 use Rattle.types_laws.specs.Placed.{IsNumbered}
-use Rattle.types_laws.proofs.CellLaws.{cell_of_cell, small_cell}
+use Rattle.pawn_cells.proofs.CellLaws.{cell_of_cell, small_cell}
 use Rattle.types_laws.proofs.BasicLaws.{Sound, stands}
 use Rattle.types_laws.proofs.AssignmentLaws.{converter_to_takes}
 use Rattle.types_laws.proofs.FillingLaws.{IsFilled, AreFilled, AreValidRest, AreSoundOffers}

@@ -18,7 +18,7 @@ use Rattle.types_rules.specs.Texts.{packed_cells, text_cells}
 use Rattle.types_laws.specs.Placed.{IsShort}
 use Rattle.types_laws.specs.Written.{IsAnyName, IsWritten, AreWrittenLinks, IsWrittenLink}
 use Rattle.types_laws.specs.Written.{AreWrittenArgs, IsWrittenArg}
-use Rattle.types_laws.proofs.Facts.{small_cell}
+use Rattle.pawn_cells.proofs.CellLaws.{small_cell}
 use Rattle.types_laws.specs.WrittenTrees.{IsSmallText, IsSmallKind, AreSmallTokens}
 
 -- ---- what tokens hold

@@ -1,14 +1,11 @@
 -- Facts of cells, tags, lists and objects.
-use Rattle.std.proofs.Common.{◌≡◌, ◌^◌, ◌<◌, ◌%◌, ℕ, zero, suc, ℤ, pos, negsuc, List, [], ◌∷◌, ◌++◌}
-use Rattle.std.proofs.Common.{Bool, true, false, Option, None, Some, refl, subst, cond, arith}
+use Rattle.std.proofs.Common.{◌≡◌, ◌<◌, ℕ, zero, suc, ℤ, List, [], ◌∷◌, ◌++◌}
+use Rattle.std.proofs.Common.{Bool, true, false, Option, None, Some, refl, subst, cond}
 use Rattle.std.specs.Prelude.{if◌then◌else◌, length, replicate, option_map, position, nat_lt}
 use Rattle.std.specs.List.{position_or_len, All}
 use Rattle.std.proofs.lemmas.List.Elements.{All-nil, All-cons, All-head, All-tail}
-use Rattle.std.proofs.Math.Nat.{div-le_self}
 use Rattle.std.proofs.lemmas.Bool.{ltb-true}
-use Rattle.std.proofs.lemmas.Int.{ints, SFits-int_wrap}
-use Rattle.std.proofs.lemmas.Nat.{div-add-mod'}
-use Rattle.pawn_cells.specs.Cells.{IsCell, cell_of, wrap, bits_of, shr, floor_rem, is_zero}
+use Rattle.pawn_cells.specs.Cells.{IsCell, is_zero}
 use Rattle.pawn_cells.specs.Cells as cells
 use Rattle.pawn_cells.specs.Operators.{prefix, binary, logical}
 use Rattle.pawn_cells.specs.declared.operator.Prefix.{Prefix}
@@ -17,6 +14,7 @@ use Rattle.pawn_cells.specs.declared.operator.Operator.{Operator}
 use Rattle.pawn_cells.specs.declared.operator.Operator.TheVariants as between
 use Rattle.pawn_cells.specs.declared.operator.Logical.{Logical}
 use Rattle.pawn_cells.specs.declared.operator.Logical.TheVariants as logic
+use Rattle.pawn_cells.proofs.CellLaws.{wrap_cell, cell_of_cell, shr_cell, truth_cell, floor_rem_cell}
 use Rattle.names_rules.specs.Verdict.{Verdict}
 use Rattle.types_rules.specs.Operators.{value_of_both}
 use Rattle.types_rules.proofs.VerdictLaws.{Holds}
@@ -59,32 +57,6 @@ all_each P [] h = tt
 all_each P (x ∷ xs) h = (All-head P x xs h, all_each P xs (All-tail P x xs h))
 
 -- ---- cells
-
-pub wrap_cell : (z : ℤ) → IsCell (wrap z)
-wrap_cell z = SFits-int_wrap _ z
-
-pub cell_of_cell : (n : ℕ) → IsCell (cell_of n)
-cell_of_cell n = omega (arith, ints)
-
-pub small_cell : (n : ℕ) → n < 2 ^ 31 → IsCell (pos n)
-small_cell n h = omega (arith, ints)
-
-shr_cell : (a b : ℤ) → IsCell a → IsCell (shr a b)
-shr_cell (pos n) b h = omega (arith, ints, div-le_self n (2 ^ (bits_of b % 32)))
-shr_cell (negsuc n) b h = omega (arith, ints, div-le_self n (2 ^ (bits_of b % 32)))
-
-pub truth_cell : (b : Bool) → IsCell (cells.truth b)
-truth_cell true = omega (arith, ints)
-truth_cell false = omega (arith, ints)
-
-floor_rem_cell : (a d : ℤ) → IsCell a → IsCell d → is_zero d ≡ false → IsCell (floor_rem a d)
-floor_rem_cell (pos a) (pos zero) f g z = absurd (let no : ⊥ = cc in no)
-floor_rem_cell (negsuc a) (pos zero) f g z = absurd (let no : ⊥ = cc in no)
-floor_rem_cell (pos a) (pos (suc d)) f g z = omega (arith, ints, div-add-mod' a (suc d))
-floor_rem_cell (negsuc a) (pos (suc d)) f g z = omega (arith, ints, div-add-mod' a (suc d))
-floor_rem_cell (pos zero) (negsuc d) f g z = omega (arith, ints)
-floor_rem_cell (pos (suc a)) (negsuc d) f g z = omega (arith, ints, div-add-mod' a (suc d))
-floor_rem_cell (negsuc a) (negsuc d) f g z = omega (arith, ints, div-add-mod' (suc a) (suc d))
 
 pub prefix_cell : (o : Prefix) (y : ℤ) → IsCell (prefix o y)
 prefix_cell before.Not y = truth_cell (is_zero y)

@@ -28,7 +28,8 @@ use Rattle.types_rules.specs.Given.{given_by, given_rule, rest_place, rest_arg}
 use Rattle.types_laws.specs.Meant.{IsReached}
 use Rattle.types_laws.specs.Known.{array_slot, slot_by, slot_of, KnowsAround}
 use Rattle.types_laws.specs.ValidExpressions.{IsValidForm}
-use Rattle.types_laws.proofs.CellLaws.{small_cell, when_holds}
+use Rattle.pawn_cells.proofs.CellLaws.{small_cell}
+use Rattle.types_laws.proofs.Facts.{when_holds}
 use Rattle.types_laws.proofs.BasicLaws.{Sound, SoundCell, first_size_cell}
 use Rattle.types_laws.proofs.AssignmentLaws.{same_extent, sent_valid}
 

@@ -10,7 +10,6 @@ mod BodyNumbers
 mod CallFaults
 mod CallLaws
 mod CalledLaws
-mod CellLaws
 mod ChainLaws
 mod ClauseLaws
 pub mod ConstantExpressions
@@ -47,6 +46,7 @@ mod OperatorHeads
 mod OperatorLaws
 pub mod PathLaws
 mod PlainPaths
+mod ProgramFaults
 mod PublicLaws
 pub mod Rises
 mod RouteLaws
@@ -63,6 +63,7 @@ pub mod StatementForms
 pub mod StatementLaws
 pub mod StatementParts
 mod TagNames
+mod TestLaws
 mod TokenLaws
 mod TreeCounts
 mod TreeLaws
@@ -72,4 +73,3 @@ mod ValidityLaws
 mod ValueFaults
 pub mod Values
 pub mod Variables
-mod WholeFaults

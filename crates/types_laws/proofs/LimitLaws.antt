@@ -5,6 +5,7 @@ use Rattle.std.specs.Prelude.{map, filter, nat_eq, not, ◌&&◌, int_le}
 use Rattle.std.proofs.lemmas.Bool.{and_parts}
 use Rattle.std.proofs.lemmas.Float.{T_from_true}
 use Rattle.std.proofs.lemmas.List.{append-nil}
+use Rattle.pawn_cells.specs.declared.place.Place.{Place}
 use Rattle.pawn_tree.specs.Declarations.{Tree}
 use Rattle.pawn_meaning.specs.Program.{Slot, StaticObject, Program}
 use Rattle.pawn_meaning.specs.Valid.{IsValidObject}
@@ -21,6 +22,7 @@ use Rattle.types_rules.specs.Programs.{bodies_of, params_of, functions_from, pro
 use Rattle.types_rules.specs.TypedTrees.{Checked, passed, whole_fault, dynamic_faults, entry_faults}
 use Rattle.types_rules.specs.TypedTrees.{unless, sum_faults, whole_faults, source_faults, done}
 use Rattle.types_rules.specs.TypedTrees.{checked_of, typed}
+use Rattle.types_rules.specs.IsTyped.{IsTyped}
 use Rattle.types_rules.specs.Sums.{IsWithinSums, StandsWithinSums}
 use Rattle.types_laws.specs.Known.{KnowsAround}
 use Rattle.types_laws.specs.Objects.{Each, IsGoodObject}
@@ -124,6 +126,28 @@ typed_done tree dynamic =
     holds_after (holds_all (unless (sum_faults (checked_of tree dynamic it).program))) (λ ok3 u.
     stands_itself (HasDone tree dynamic) (checked_of tree dynamic it)
     (record { it = it; stands = e; is = refl; none = none; together = t }))))
+
+-- and the program itself
+pub record ProgramDone (tree : Tree) (dynamic : ℤ) (program : Program) : Type 0 where
+  pub it : Done
+  pub stands : done tree dynamic ≡ Stands it
+  pub is : program
+      ≡ program_of (source_of tree) (all_stated (source_of tree) tree) (tree_marks tree) dynamic it
+  pub none : whole_faults tree dynamic ≡ []
+  pub together : source_faults tree dynamic it.bodies ≡ []
+
+pub program_done : (tree : Tree) (dynamic : ℤ) (program : Program) (warnings : List Place)
+    → IsTyped tree dynamic program warnings
+    → ProgramDone tree dynamic program
+program_done tree dynamic program warnings e =
+    let d = (typed_done tree dynamic).of (record { program = program; warnings = warnings }) e in
+    record {
+      it = d.it;
+      stands = d.stands;
+      is = ap (λ (x : Checked). x.program) d.is;
+      none = d.none;
+      together = d.together;
+    }
 
 pub programs_within : BodiesAreValid → FilesAreSites → StandsWithinSums → ProgramsAreWithinLimits
 programs_within bodies_law files_law sums_law tree dynamic program warnings typed_is written

@@ -1,5 +1,5 @@
 -- The names of a program that stands.
-use Rattle.std.proofs.Common.{◌≡◌, ◌+◌, ◌≤◌, List, [], ◌∷◌, ◌++◌, refl, sym, ap, subst, arith}
+use Rattle.std.proofs.Common.{◌≡◌, ◌+◌, ◌≤◌, List, [], ◌∷◌, ◌++◌, refl, sym, subst, arith}
 use Rattle.std.specs.Prelude.{length, map, IsSorted}
 use Rattle.std.specs.Ordering.{nat_cmp}
 use Rattle.std.specs.Cmp.Lexicographic.{slice_cmp}
@@ -16,10 +16,9 @@ use Rattle.types_rules.specs.Sources.{Source, Stated, name_of, source_of, all_st
 use Rattle.types_rules.specs.Sources.{without_heads, beginning}
 use Rattle.types_rules.specs.Programs.{natives, program_of}
 use Rattle.types_rules.specs.Publics.{publics}
-use Rattle.types_rules.specs.TypedTrees.{Checked}
 use Rattle.types_laws.specs.SortedPublics.{PublicsAreSorted}
 use Rattle.types_laws.proofs.Facts.{each_append, each_all}
-use Rattle.types_laws.proofs.LimitLaws.{typed_done}
+use Rattle.types_laws.proofs.LimitLaws.{program_done}
 use Rattle.types_laws.specs.NamedPrograms.{ProgramsHaveNames, TagsAreFew}
 use Rattle.types_laws.proofs.Sizes.{upto_all, sizes_append, sizes_sum}
 use Rattle.types_laws.proofs.TreeCounts.{own_sizes, tree_counts, tree_named}
@@ -46,12 +45,11 @@ heads_split (Function at of ∷ more) = omega (arith, heads_split more)
 
 pub programs_named : PublicsAreSorted → ProgramsHaveNames
 programs_named sorted_law ts tree dynamic program warnings tokens parse typed_is =
-    let checked : Checked = record { program = program; warnings = warnings } in
-    let d = (typed_done tree dynamic).of checked typed_is in
+    let d = program_done tree dynamic program warnings typed_is in
     let source : Source = source_of tree in
     let all : List Stated = all_stated source tree in
     let it : Program = program_of source all (tree_marks tree) dynamic d.it in
-    let same : program ≡ it = ap (λ (x : Checked). x.program) d.is in
+    let same : program ≡ it = d.is in
     let sorted =
     subst (λ (p : Program). IsSorted (slice_cmp nat_cmp)
     (map (λ (item : Public). item.name) p.publics))

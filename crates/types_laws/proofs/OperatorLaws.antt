@@ -33,7 +33,8 @@ use Rattle.types_rules.proofs.VerdictLaws.{Holds, stands_itself, breaks_holds, h
 use Rattle.types_rules.proofs.VerdictLaws.{holds_both}
 use Rattle.types_laws.specs.Known.{operands, KnowsAround}
 use Rattle.types_laws.specs.ValidExpressions.{IsValidForm}
-use Rattle.types_laws.proofs.CellLaws.{if_holds, when_some}
+use Rattle.types_laws.proofs.Facts.{if_holds}
+use Rattle.types_laws.proofs.TestLaws.{when_some}
 use Rattle.types_laws.proofs.BasicLaws.{Sound, stands, cell_sound}
 
 -- ---- the user operator that is chosen

@@ -1,6 +1,6 @@
 -- What holds of all that the names of a path mean, along declarations.
 use Rattle.std.proofs.Common.{◌≡◌, ℕ, List, [], ◌∷◌, ◌++◌, Bool, true, false, Option, None, Some}
-use Rattle.std.proofs.Common.{reverse, refl, sym, ◌∙◌, subst, ap}
+use Rattle.std.proofs.Common.{reverse, refl, sym, ◌∙◌, subst}
 use Rattle.std.specs.Prelude.{if◌then◌else◌, option_map}
 use Rattle.std.specs.Option.{option_or}
 use Rattle.std.specs.Str.{bytes_eq}
@@ -12,6 +12,7 @@ use Rattle.names_rules.specs.Verdict.{Verdict, Stands, Breaks, after, both}
 use Rattle.types_rules.specs.Scope.{Scope, Meaning, Entry, first_named, found, with_entries}
 use Rattle.types_rules.specs.Scope.{constant_meaning}
 use Rattle.types_rules.specs.Scope as means
+use Rattle.types_rules.proofs.PathLaws.{found_by, found_with}
 use Rattle.types_rules.proofs.VerdictLaws.{Holds, breaks_holds, holds_after}
 use Rattle.types_rules.specs.Constants as constants
 use Rattle.types_rules.specs.Arrays.{Shaped}
@@ -21,22 +22,6 @@ pub record AllMeant (P : Meaning → Type 0) (path : Scope) : Type 0 where
   pub meant : (name : List ℕ) (it : Meaning) → found path name ≡ Some it → P it
 
 -- ---- one more declaration
-
-found_by : (b : Bool) (it : Entry) (rest others : Option Meaning)
-    → option_or (if b then Some it.means else rest) others
-    ≡ if b then Some it.means else option_or rest others
-found_by true it rest others = refl
-found_by false it rest others = refl
-
-pub found_with : (path : Scope) (it : Entry) (name : List ℕ)
-    → found (with_entries path (it ∷ [])) name
-    ≡ if bytes_eq it.name name then Some it.means else found path name
-unfolding found
-found_with [] it name = found_by (bytes_eq it.name name) it None (found [] name)
-found_with (block ∷ outer) it name =
-    ap (λ (entries : List Entry). option_or (first_named entries name) (found outer name))
-    (reverse-append block (it ∷ []))
-    ∙ found_by (bytes_eq it.name name) it (first_named (reverse block) name) (found outer name)
 
 by_first : (P : Meaning → Type 0) (b : Bool) (it means : Meaning) (others : Option Meaning)
     → P it → (others ≡ Some means → P means)

@@ -25,11 +25,11 @@ use Rattle.types_rules.specs.Params.{param_by, param_entries}
 use Rattle.types_rules.specs.Enums.{Counted, value_of, means_value, item_value, behind_item}
 use Rattle.types_rules.specs.Enums.{behind_items, nothing_counted, named, behind_enum}
 use Rattle.types_rules.specs.Paths.{behind_decl}
+use Rattle.pawn_cells.proofs.CellLaws.{small_cell, wrap_cell}
 use Rattle.types_laws.proofs.PathLaws.{meant_with, meant_same, meant_inside}
 use Rattle.types_laws.specs.Objects.{Each}
 use Rattle.types_laws.specs.Written.{IsAnyName, IsWrittenDim, IsWrittenInit, IsWrittenVar}
 use Rattle.types_laws.specs.Plain.{IsTag, IsValue, IsPlainMeaning, IsPlainPath, HasTags}
-use Rattle.types_laws.proofs.Facts.{small_cell, wrap_cell}
 use Rattle.types_laws.proofs.RuleValues.{tag_number_small}
 use Rattle.types_laws.proofs.ArrayValues.{PlainConstant, constant_plain, GoodShaped}
 use Rattle.types_laws.proofs.ArrayValues.{shaped_good}

@@ -58,8 +58,9 @@ use Rattle.types_laws.specs.Placed.{IsShort}
 use Rattle.types_laws.specs.Objects.{Each, IsGoodObject}
 use Rattle.types_laws.specs.Written.{AreBytes}
 use Rattle.types_laws.specs.Plain.{IsTag, IsValue, IsPlainMeaning, IsPlainPath, HasTags}
-use Rattle.types_laws.proofs.Facts.{if_holds, when_holds, each_append, each_all, cell_of_cell}
-use Rattle.types_laws.proofs.Facts.{small_cell, truth_cell, prefix_cell, binary_value}
+use Rattle.pawn_cells.proofs.CellLaws.{cell_of_cell, small_cell, truth_cell}
+use Rattle.types_laws.proofs.Facts.{if_holds, when_holds, each_append, each_all}
+use Rattle.types_laws.proofs.Facts.{prefix_cell, binary_value}
 use Rattle.types_laws.proofs.Facts.{logical_cell, both_value, mapped_value, position_within}
 
 -- a literal is one of the objects

@@ -17,7 +17,7 @@ use Rattle.types_rules.specs.Scope.{Scope, Meaning, Constant, Variable, Array, F
 use Rattle.types_rules.specs.Scope.{Entering, Taken, Unknown, Entry, found, with_entries}
 use Rattle.types_laws.specs.Meant.{AreCells, IsReached, IsMeant, KnowsPath}
 use Rattle.types_laws.specs.Placed.{IsNumbered}
-use Rattle.types_laws.proofs.PathLaws.{found_with}
+use Rattle.types_rules.proofs.PathLaws.{found_with}
 use Rattle.types_laws.specs.Plain.{IsPlainMeaning, IsPlainPath}
 use Rattle.types_laws.specs.Seen.{IsSeenPlace, IsSeenArray, IsSeen, IsSeenPath}
 

@@ -38,7 +38,8 @@ use Rattle.types_rules.specs.Programs.{program_of}
 use Rattle.types_laws.specs.Objects.{Each}
 use Rattle.types_laws.specs.Written.{IsAnyName}
 use Rattle.types_laws.specs.Plain.{IsTag, HasTags}
-use Rattle.types_laws.proofs.Facts.{each_append, position_within, small_cell, truth_cell}
+use Rattle.pawn_cells.proofs.CellLaws.{small_cell, truth_cell}
+use Rattle.types_laws.proofs.Facts.{each_append, position_within}
 use Rattle.types_laws.specs.Seen.{IsNumberedNative, IsSeen, IsSeenPath}
 use Rattle.types_laws.specs.ValidStatements.{IsCalled}
 use Rattle.types_laws.specs.WrittenDeclarations.{IsWrittenTree}

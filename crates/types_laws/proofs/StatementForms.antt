@@ -177,6 +177,20 @@ module _ (law : ExpressionsAreValid) (place : Place) (cx : Around) (Calls : List
         };
   }
 
+  -- all numbers of a part and of what stands behind it
+  numbers_of_both : (made more : List ℕ) (first : ℕ) (xs ys : List Slot)
+      → made ≡ numbers_from first (length xs) → more ≡ numbers_from (first + length xs) (length ys)
+      → made ++ more ≡ numbers_from first (length (xs ++ ys))
+  numbers_of_both made more first xs ys e f =
+      numbers_joined made more first (length xs) (length ys) e f
+      ∙ ap (λ z. numbers_from first z) (sym (length-append xs ys))
+
+  -- the objects of a value, of a part and of what stands behind it
+  good_objects : (xs ys zs : List StaticObject) → Each IsGoodObject xs → Each IsGoodObject ys
+      → Each IsGoodObject zs → Each IsGoodObject (xs ++ (ys ++ zs))
+  good_objects xs ys zs h k l =
+      each_append IsGoodObject xs (ys ++ zs) h (each_append IsGoodObject ys zs k l)
+
   -- a value, a statement or cases, and what stands behind them
   pub if_one : (in_loop : Bool) (point there to last : Point) (k m n i j : ℕ) (c : Used) (x : Stood)
       (other : Other) → UsedFine law place cx Calls known tags result point n c
@@ -207,24 +221,14 @@ module _ (law : ExpressionsAreValid) (place : Place) (cx : Around) (Calls : List
         (omega (arith, counts.slots, es2))
         (sits_right place.program.objects _ x.objects other.stood.objects more)
         (sits_right place.slots point.slots x.slots other.stood.slots slots) in
+        let c_valid = v.valid (sits_left place.program.objects point.objects c.objects _ fits) in
         record {
-          valid = (
-            (
-              v.valid (sits_left place.program.objects point.objects c.objects _ fits),
-              r.valid,
-              o.valid,
-            ),
-            tt,
-          );
+          valid = ((c_valid, r.valid, o.valid), tt);
           all_made = append-nil (all_slots_made (one_of x) ++ all_slots_made_else other.other)
-              ∙ numbers_joined _ _ point.slots (length x.slots) (length other.stood.slots) r.made_is
-              o.made_is
-              ∙ ap (λ z. numbers_from point.slots z)
-              (sym (length-append x.slots other.stood.slots));
+              ∙ numbers_of_both _ _ point.slots x.slots other.stood.slots r.made_is o.made_is;
           slots_good = each_append IsGoodSlot x.slots other.stood.slots r.slots o.slots;
-          objects_good = each_append IsGoodObject c.objects (x.objects ++ other.stood.objects)
-              v.objects
-              (each_append IsGoodObject x.objects other.stood.objects r.objects o.objects);
+          objects_good = good_objects c.objects x.objects other.stood.objects v.objects r.objects
+              o.objects;
           unmade = refl;
         };
   }
@@ -259,24 +263,15 @@ module _ (law : ExpressionsAreValid) (place : Place) (cx : Around) (Calls : List
         (omega (arith, here.low)) (omega (arith, v.count, eo2)) (sym es2)
         (sits_right place.program.objects _ x.objects other.stood.objects more)
         (sits_right place.slots point.slots x.slots other.stood.slots slots) in
+        let c_valid = v.valid (sits_left place.program.objects point.objects c.objects _ fits) in
         record {
-          valid = (
-            (
-              v.valid (sits_left place.program.objects point.objects c.objects _ fits),
-              r.valid,
-              o.valid,
-            ),
-            tt,
-          );
+          valid = ((c_valid, r.valid, o.valid), tt);
           all_made = append-nil (all_slots_made_in it.cases ++ all_slots_made_else other.other)
-              ∙ numbers_joined _ _ point.slots (length x.slots) (length other.stood.slots)
-              (r.made_is ∙ ap (λ z. numbers_from z (length x.slots)) es) o.made_is
-              ∙ ap (λ z. numbers_from point.slots z)
-              (sym (length-append x.slots other.stood.slots));
+              ∙ numbers_of_both _ _ point.slots x.slots other.stood.slots
+              (r.made_is ∙ ap (λ z. numbers_from z (length x.slots)) es) o.made_is;
           slots_good = each_append IsGoodSlot x.slots other.stood.slots r.slots o.slots;
-          objects_good = each_append IsGoodObject c.objects (x.objects ++ other.stood.objects)
-              v.objects
-              (each_append IsGoodObject x.objects other.stood.objects r.objects o.objects);
+          objects_good = good_objects c.objects x.objects other.stood.objects v.objects r.objects
+              o.objects;
           unmade = refl;
         };
   }

@@ -28,7 +28,8 @@ use Rattle.types_rules.proofs.StatementLaws.{MadeStood, stmt_made}
 use Rattle.types_laws.specs.Known.{KnowsAround}
 use Rattle.types_laws.specs.ValidExpressions.{ExpressionsAreValid}
 use Rattle.types_laws.specs.Plain.{IsTag, HasTags}
-use Rattle.types_laws.proofs.Facts.{holds_and, small_cell}
+use Rattle.pawn_cells.proofs.CellLaws.{small_cell}
+use Rattle.types_laws.proofs.Facts.{holds_and}
 use Rattle.types_laws.specs.WrittenStatements.{IsWrittenFirst, MayBeWritten, IsWrittenStmt}
 use Rattle.types_laws.specs.WrittenStatements.{AreWrittenStmts, IsWrittenOther, AreWrittenCases}
 use Rattle.types_laws.specs.WrittenStatements.{IsWrittenCase}

@@ -41,7 +41,8 @@ use Rattle.types_laws.specs.Objects.{Each, IsGoodObject}
 use Rattle.types_laws.specs.Written.{IsAnyName, IsWritten}
 use Rattle.types_laws.specs.Texts.{texts}
 use Rattle.types_laws.specs.Plain.{IsTag, IsValue, HasTags}
-use Rattle.types_laws.proofs.Facts.{small_cell, each_append, each_all, position_within}
+use Rattle.pawn_cells.proofs.CellLaws.{small_cell}
+use Rattle.types_laws.proofs.Facts.{each_append, each_all, position_within}
 use Rattle.types_laws.proofs.ExpressionValues.{expr_plain}
 use Rattle.types_laws.proofs.ArrayValues.{constant_rule_plain}
 use Rattle.types_laws.specs.Sits.{Sits}

@@ -28,7 +28,8 @@ use Rattle.pawn_lex.specs.declared.token.Token.{Token}
 use Rattle.pawn_lex.specs.Lines.{Leads, AreTokens}
 use Rattle.types_laws.specs.Objects.{Each}
 use Rattle.types_laws.specs.Written.{AreBytes}
-use Rattle.types_laws.proofs.Facts.{all_each, each_append, small_cell, cell_of_cell}
+use Rattle.pawn_cells.proofs.CellLaws.{small_cell, cell_of_cell}
+use Rattle.types_laws.proofs.Facts.{all_each, each_append}
 use Rattle.types_laws.proofs.ArrayValues.{each_at}
 use Rattle.types_laws.specs.WrittenTrees.{IsSmallKind}
 use Rattle.types_laws.specs.SmallTokens.{TokensAreSmall, AreByteLines}

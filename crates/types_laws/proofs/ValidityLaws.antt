@@ -18,7 +18,7 @@ use Rattle.types_rules.specs.Sources.{around_of, without_heads, beginning}
 use Rattle.types_rules.specs.Functions.{group_faults, main_name}
 use Rattle.types_rules.specs.Declarations.{Bodied, Done}
 use Rattle.types_rules.specs.Programs.{bodies_of, params_of, function_of, program_of}
-use Rattle.types_rules.specs.TypedTrees.{Checked, dynamic_faults, entry_faults, return_faults}
+use Rattle.types_rules.specs.TypedTrees.{dynamic_faults, entry_faults, return_faults}
 use Rattle.types_laws.specs.Known.{slot_of, KnowsAround}
 use Rattle.types_laws.specs.Objects.{Each}
 use Rattle.types_laws.proofs.Facts.{each_all}
@@ -33,7 +33,7 @@ use Rattle.types_laws.proofs.FirstHeads.{append_none}
 use Rattle.types_laws.specs.FileSites.{FilesAreSites}
 use Rattle.types_laws.proofs.SiteLaws.{tags_are}
 use Rattle.types_laws.specs.WithinLimits.{IsWithin}
-use Rattle.types_laws.proofs.LimitLaws.{typed_done}
+use Rattle.types_laws.proofs.LimitLaws.{program_done}
 use Rattle.types_laws.specs.KnownAround.{AroundsAreKnown, TypedProgramsAreWithinLimits}
 use Rattle.types_laws.proofs.KnownHeads.{IsThere, heads_there}
 use Rattle.types_laws.specs.ValidRoutes.{IsRouted, RoutesAreValid}
@@ -146,12 +146,11 @@ pub programs_valid : AroundsAreKnown → TypedProgramsAreWithinLimits → Bodies
     → FunctionsAreHeaded → HeadsAreSame → RoutesAreValid → ProgramsAreValid
 programs_valid known_law within_law bodies_law files_law headed_law same_law routes_law tree dynamic
     program warnings typed_is written_is few =
-    let checked : Checked = record { program = program; warnings = warnings } in
-    let d = (typed_done tree dynamic).of checked typed_is in
+    let d = program_done tree dynamic program warnings typed_is in
     let source : Source = source_of tree in
     let all : List Stated = all_stated source tree in
     let it : Program = program_of source all (tree_marks tree) dynamic d.it in
-    let same : program ≡ it = ap (λ (x : Checked). x.program) d.is in
+    let same : program ≡ it = d.is in
     let known = subst (λ (p : Program). KnowsAround p (around_of source tree)) same
     (known_law tree dynamic program warnings typed_is written_is few) in
     let within =

@@ -44,7 +44,8 @@ use Rattle.types_laws.specs.Objects.{Each, IsGoodObject}
 use Rattle.types_laws.specs.Written.{IsAnyName, IsWritten, IsWrittenDim, IsWrittenInit}
 use Rattle.types_laws.specs.Written.{IsWrittenVar}
 use Rattle.types_laws.specs.Plain.{IsTag, HasTags}
-use Rattle.types_laws.proofs.Facts.{small_cell, each_append}
+use Rattle.pawn_cells.proofs.CellLaws.{small_cell}
+use Rattle.types_laws.proofs.Facts.{each_append}
 use Rattle.types_laws.proofs.RuleValues.{tag_number_small}
 use Rattle.types_laws.proofs.ArrayValues.{PlainConstant, GoodArray, GoodCells, constant_plain}
 use Rattle.types_laws.proofs.ArrayValues.{array_value_good, static_good, array_object}

@@ -3,6 +3,8 @@ mod CallExamples
 mod DeclarationExamples
 mod HeadExamples
 pub mod LiteralLaws
+pub mod PathLaws
+mod ProgramLaws
 pub mod Samples
 mod SourceExamples
 mod Spellings
@@ -10,4 +12,3 @@ mod StatementExamples
 pub mod StatementLaws
 mod ValueExamples
 pub mod VerdictLaws
-mod ProgramLaws

@@ -7,5 +7,5 @@ use Rattle.check_calls.proofs.filling.fill_by.Given as goal
 
 abbrev pub invariant-loop-it : goal.invariant-loop-it
 invariant-loop-it l =
-    Threaded offer_view (offer_step (around_view l.cx) l.at (head_view l.head))
+    Threaded offer_view (offer_step (around_view l.cx) l.fn.at (head_view l.head))
     (nothing_filled (head_view l.head)) l.fn.offers.items (length l.yielded) (filling_view l.done)

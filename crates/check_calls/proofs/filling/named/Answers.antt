@@ -11,10 +11,10 @@ pub returns-in-Some-param_at : goal.returns-in-Some-param_at
 returns-in-Some-param_at c =
     let P : Option ℕ → Type 0 =
     λ number. Answers filling_view
-    (spec.named (around_view c.args.cx.now) c.args.at (head_view c.args.head.now)
+    (spec.named (around_view c.args.call.cx.now) c.args.call.at (head_view c.args.call.head.now)
     (filling_view c.args.done) number (typed_view c.args.x)) c.for_param.result in
     let Q : Option Param → Type 0 =
-    λ param. Answers filling_view (spec.named_param (around_view c.args.cx.now) c.args.at
-    (head_view c.args.head.now) (filling_view c.args.done) c.in-Some.i param
+    λ param. Answers filling_view (spec.named_param (around_view c.args.call.cx.now) c.args.call.at
+    (head_view c.args.call.head.now) (filling_view c.args.done) c.in-Some.i param
     (typed_view c.args.x)) c.for_param.result in
     subst P c.in-Some.ensures (subst Q c.in-Some-param_at.ensures c.for_param.ensures)

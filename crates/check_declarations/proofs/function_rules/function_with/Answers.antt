@@ -1,6 +1,7 @@
-use Rattle.std.proofs.Common.{◌≡◌, ℕ, sym, ap, subst, ◌∙◌}
+use Rattle.std.proofs.Common.{ℕ, sym, ap, subst, ◌∙◌}
 use Rattle.std.specs.Prelude.{unwrap_or}
-use Rattle.pawn_tree.specs.View.{function_view, head_view}
+use Rattle.pawn_tree.specs.declared.name.At.{At}
+use Rattle.pawn_tree.specs.View.{function_view}
 use Rattle.names_rules.specs.Verdict.{Verdict, faults_of}
 use Rattle.pawn_verdict.specs.Answers.{Fails}
 use Rattle.types_rules.specs.Points.{Point}
@@ -16,18 +17,20 @@ use Rattle.check_declarations.proofs.HeadAndBodyLaws.{parts_fail, head_fails, jo
 use Rattle.check_declarations.proofs.ToldLaws.{exit_ok, ok_holds}
 use Rattle.check_declarations.proofs.function_rules.function_with.Goals as goal
 
+-- what a head and a body that stand are together
+abbrev rule : At → ℕ → Headed → Stood → Verdict Done
+rule at n head x = within_locals at (body_of head x) (bodied n at head x)
+
 pub returns-in_err-parts : goal.returns-in_err-parts
 returns-in_err-parts c =
     let known = c.args.known.now in
     let at = c.args.at in
     let old : Point = point_view c.args.point.now in
     let it = function_view c.args.it.now in
-    let rule : ℕ → Headed → Stood → Verdict Done =
-    λ n head x. within_locals at (body_of head x) (bodied n at head x) in
     record {
       tells = parts_fail (head_parts (around_view known.cx.now) at old.scope it.head)
           (body_verdict known old at it) (head_rule (around_view known.cx.now) at old.scope it.head)
-          rule (unwrap_or (number_of (source_view known).groups (key_view c.args.key)) 0)
+          (rule at) (unwrap_or (number_of (source_view known).groups (key_view c.args.key)) 0)
           c.from_residual.result c.in_err-parts.field-0.0 c.from_residual.ensures.1
           c.in_err-parts.ensures.fault;
       behind = exit_ok _ c.from_residual.result _ c.from_residual.ensures.1;
@@ -39,8 +42,6 @@ returns-in_err-head c =
     let at = c.args.at in
     let old : Point = point_view c.args.point.now in
     let it = function_view c.args.it.now in
-    let rule : ℕ → Headed → Stood → Verdict Done =
-    λ n head x. within_locals at (body_of head x) (bodied n at head x) in
     let P : Point → Type 0 =
     λ p. Fails (faults_of (head_rule (around_view known.cx.now) at p.scope it.head))
     c.in_err-head.field-0.0 in
@@ -48,7 +49,7 @@ returns-in_err-head c =
     record {
       tells = head_fails (head_parts (around_view known.cx.now) at old.scope it.head)
           (body_verdict known old at it) (head_rule (around_view known.cx.now) at old.scope it.head)
-          rule (unwrap_or (number_of (source_view known).groups (key_view c.args.key)) 0)
+          (rule at) (unwrap_or (number_of (source_view known).groups (key_view c.args.key)) 0)
           c.in_ok-parts.parts.head c.in_ok-parts.parts.body
           c.in_ok-parts.ensures.head c.in_ok-parts.ensures.body
           c.from_residual-in_err-head.result c.in_err-head.field-0.0
@@ -62,14 +63,12 @@ returns-clause-tells c =
     let at = c.args.at in
     let old : Point = point_view c.args.point.now in
     let it = function_view c.args.it.now in
-    let rule : ℕ → Headed → Stood → Verdict Done =
-    λ n head x. within_locals at (body_of head x) (bodied n at head x) in
     let head =
     ap (λ (p : Point). head_rule (around_view known.cx.now) at p.scope it.head)
     (sym c.in_ok-parts.ensures.behind) ∙ c.in_ok-head.ensures.tells in
     joined_tells (head_parts (around_view known.cx.now) at old.scope it.head)
     (body_verdict known old at it) (head_rule (around_view known.cx.now) at old.scope it.head)
-    rule (unwrap_or (number_of (source_view known).groups (key_view c.args.key)) 0)
+    (rule at) (unwrap_or (number_of (source_view known).groups (key_view c.args.key)) 0)
     c.in_ok-parts.parts.head c.in_ok-parts.parts.body
     c.in_ok-parts.ensures.head c.in_ok-parts.ensures.body
     c.in_ok-head.head c.number_in-number.result c.function_joined.result head

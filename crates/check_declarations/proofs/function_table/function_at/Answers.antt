@@ -1,4 +1,4 @@
-use Rattle.std.proofs.Common.{◌≡◌, ◌<◌, length, map, sym, ap, ◌∙◌, position, arith}
+use Rattle.std.proofs.Common.{map, sym, ap, ◌∙◌, position}
 use Rattle.types_rules.specs.Groups.{Group}
 use Rattle.types_rules.specs.Functions.{clauses}
 use Rattle.types_rules.specs.Headings.{belongs}
@@ -8,22 +8,16 @@ use Rattle.check_source.specs.AutomataView.{automata_view}
 use Rattle.check_source.specs.GroupsView.{groups_view, group_view}
 use Rattle.check_source.specs.HeadingView.{heading_view}
 use Rattle.check_source.specs.SourceView.{source_view}
-use Rattle.check_functions.proofs.AtLaws.{viewed_in, one_at}
+use Rattle.check_functions.proofs.AtLaws.{seen_within, one_at}
 use Rattle.check_functions.proofs.OwnLaws.{has_number}
 use Rattle.check_declarations.proofs.ProgramLaws.{bare_is}
 use Rattle.check_declarations.proofs.function_table.function_at.Goals as goal
 
 pub returns : goal.returns
 returns c = λ group here.
-    let long : length c.as_slice.result.now ≡ length c.args.source.now.groups =
-    ap length c.as_slice.ensures in
-    let within : c.args.place < length c.args.source.now.groups = c.requires.within in
     let at =
-    viewed_in group_view c.args.source.now.groups c.as_slice.result.now c.args.place
-    c.index-as_slice-place.result c.as_slice.ensures
-    (omega arith) c.index-as_slice-place.is in
-    let same : group_view c.index-as_slice-place.result ≡ group =
-    one_at (group_view c.index-as_slice-place.result) group (sym at ∙ here) in
+    seen_within group_view c.as_slice.ensures c.index-as_slice-place.is c.requires.within in
+    let same = one_at (group_view c.index-as_slice-place.result) group (sym at ∙ here) in
     let first =
     c.first-first.ensures (has_number (groups_view c.args.source.now.groups) c.args.place
     (group_view c.index-as_slice-place.result) at) in

@@ -11,12 +11,12 @@ loop-i-init c = rw c.nothing.ensures (told_begins _ _ _ _ _ _ _)
 pub loop-i-preserved : goal.loop-i-preserved
 loop-i-preserved c =
     told_more _ _ _ _ _ (globals_are _ _ _ _) _ _ _ _ _ _ _ _ _ c.loop-i.invariant (omega arith)
-    c.index-vars-i.is c.in_ok-it.ensures c.in_ok-declare_var.ensures c.in_ok-done.ensures
+    c.index-vars-i.is c.in_ok-it.ensures.tells c.in_ok-it.ensures.behind c.in_ok-done.ensures
 
 pub returns-in_err-it : goal.returns-in_err-it
 returns-in_err-it c =
     let fails = told_fails _ _ _ _ _ (globals_are _ _ _ _) _ _ _ _ _ c.index-vars-i.result _
-    c.loop-i.invariant (omega arith) c.index-vars-i.is c.in_err-it.ensures in
+    c.loop-i.invariant (omega arith) c.index-vars-i.is c.in_err-it.ensures.tells in
     record {
       tells = exit_tells done_view _ c.from_residual.result _ c.from_residual.ensures.1 fails;
       behind = exit_ok _ c.from_residual.result _ c.from_residual.ensures.1;

@@ -7,6 +7,7 @@ pub returns-in-Braces : goal.returns-in-Braces
 returns-in-Braces c =
     rw (
       c.in-Braces.is,
-      static_list (around_view c.args.cx.now) (scope_view c.args.scopes.now) c.args.at c.args.tag
+      static_list (around_view c.args.here.cx.now) (scope_view c.args.here.scopes.now)
+          c.args.here.at c.args.tag
           c.in-Braces.field-0 c.in-Braces.field-1 c.in-Braces.field-2,
-    ) (fails_here _ c.args.at _ c.part_broken.ensures)
+    ) (fails_here _ c.args.here.at _ c.part_broken.ensures)

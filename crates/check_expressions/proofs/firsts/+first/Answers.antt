@@ -12,7 +12,8 @@ pub first_cells-returns-in-Braces : goal.first_cells-returns-in-Braces
 first_cells-returns-in-Braces t c =
     rw (
       c.in-Braces.is,
-      first_list (around_view c.args.cx.now) (scope_view c.args.scopes.now) c.args.at c.args.tag
+      first_list (around_view c.args.here.cx.now) (scope_view c.args.here.scopes.now)
+          c.args.here.at c.args.tag
           c.in-Braces.field-0 c.in-Braces.list c.in-Braces.goes_on (sizes c.args.shape.now),
     ) c.listed.ensures
 
@@ -22,7 +23,8 @@ rows-loop-i-init t c = joins_begins _ _ _ c.nothing.ensures
 pub rows-loop-i-preserved : goal.rows-loop-i-preserved
 rows-loop-i-preserved t c =
     let law =
-    rows_law (around_view c.args.cx.now) (scope_view c.args.scopes.now) c.args.at c.args.tag
+    rows_law (around_view c.args.here.cx.now) (scope_view c.args.here.scopes.now) c.args.here.at
+    c.args.tag
     (sizes c.args.part.now) in
     joins_more _ _ law _ _ _ c.index-items-i.result _ c.loop-i.invariant
     (omega arith) c.index-items-i.is
@@ -31,7 +33,8 @@ rows-loop-i-preserved t c =
 pub rows-returns-in_err-done : goal.rows-returns-in_err-done
 rows-returns-in_err-done t c =
     let law =
-    rows_law (around_view c.args.cx.now) (scope_view c.args.scopes.now) c.args.at c.args.tag
+    rows_law (around_view c.args.here.cx.now) (scope_view c.args.here.scopes.now) c.args.here.at
+    c.args.tag
     (sizes c.args.part.now) in
     let p = err_from_is_err_and c.from_residual.result c.from_residual.ensures.1 in
     rw (← c.as_slice-items.ensures, p.1, p.2)
@@ -42,7 +45,8 @@ rows-returns-in_err-done t c =
 pub rows-returns : goal.rows-returns
 rows-returns t c =
     let law =
-    rows_law (around_view c.args.cx.now) (scope_view c.args.scopes.now) c.args.at c.args.tag
+    rows_law (around_view c.args.here.cx.now) (scope_view c.args.here.scopes.now) c.args.here.at
+    c.args.tag
     (sizes c.args.part.now) in
     rw (← c.as_slice-items.ensures)
     (joins_answers _ _ law _ _ _ c.all_joined.result c.loop-i.invariant

@@ -8,5 +8,6 @@ use Rattle.check_expressions.proofs.firsts.+first.Given as goal
 
 abbrev pub invariant-rows-loop-i : goal.invariant-rows-loop-i
 invariant-rows-loop-i l =
-    Joined (all_rows (around_view l.cx) (scope_view l.scopes) l.at l.tag (sizes l.part)) l.items l.i
+    Joined (all_rows (around_view l.here.cx.now) (scope_view l.here.scopes.now) l.here.at l.tag
+    (sizes l.part)) l.items l.i
     (option_map first_view l.done)

@@ -7,5 +7,6 @@ use Rattle.check_expressions.proofs.firsts.cells_of_list.Given as goal
 
 abbrev pub invariant-loop-i : goal.invariant-loop-i
 invariant-loop-i l =
-    Joined (all_cells (around_view l.cx) (scope_view l.scopes) l.at l.tag) l.items l.i
+    Joined (all_cells (around_view l.here.cx.now) (scope_view l.here.scopes.now) l.here.at l.tag)
+    l.items l.i
     (option_map first_view l.done)

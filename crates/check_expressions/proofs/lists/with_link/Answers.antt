@@ -1,10 +1,10 @@
-use Rattle.std.proofs.Common.{◌≡◌, Global, Vec}
+use Rattle.std.proofs.Common.{◌≡◌, Global, Vec, refl}
 use Rattle.std.proofs.lemmas.Result.{err_from_is_err_and}
 use Rattle.check_nodes.specs.declared.chains.Compared as held_compared
 use Rattle.check_nodes.specs.Compared.{compared_view}
 use Rattle.check_expressions.proofs.LiteralCountLaws.{links_seen}
 use Rattle.check_expressions.proofs.PairLaws.{judged_fail, judged_stand}
-use Rattle.check_expressions.proofs.SoFarLaws.{list_fails, list_stands, seen_behind}
+use Rattle.check_expressions.proofs.SoFarLaws.{list_fails, list_grows}
 use Rattle.check_expressions.proofs.lists.with_link.Goals as goal
 
 pub returns-in_err-all-clause-so_far : goal.returns-in_err-all-clause-so_far
@@ -24,10 +24,8 @@ returns-in_err-all-clause-judged c =
 pub returns-clause-so_far : goal.returns-clause-so_far
 returns-clause-so_far c =
     λ whole rest w h k.
-    seen_behind compared_view whole rest c.in_ok-all.all.items c.push.new.self.items c.in_ok-all.it
-    (list_stands links_seen compared_view whole rest w c.args.all
-    c.args.it c.in_ok-all.all c.in_ok-all.it c.in_ok-all.ensures h k)
-    c.in_ok-push.ensures.items
+    list_grows links_seen compared_view whole rest w c.args.all c.args.it c.in_ok-all.all
+    c.in_ok-all.it _ _ c.in_ok-all.ensures h k refl c.in_ok-push.ensures.items
 
 pub returns-clause-judged : goal.returns-clause-judged
 returns-clause-judged c =

@@ -8,11 +8,13 @@ use Rattle.check_expressions.proofs.sizes.array_dimensions.Goals as goal
 
 pub returns-then-count-le2 : goal.returns-then-count-le2
 returns-then-count-le2 c =
-    rw (few_dimensions (around_view c.args.cx.now) (scope_view c.args.scopes.now) c.args.at
+    rw (few_dimensions (around_view c.args.here.cx.now) (scope_view c.args.here.scopes.now)
+    c.args.here.at
     (dim_view c.args.dim.now) c.args.dims.now (omega arith)) c.few_dimensions.ensures
 
 pub returns-else-count-le2 : goal.returns-else-count-le2
 returns-else-count-le2 c =
-    rw (many_dimensions (around_view c.args.cx.now) (scope_view c.args.scopes.now) c.args.at
+    rw (many_dimensions (around_view c.args.here.cx.now) (scope_view c.args.here.scopes.now)
+    c.args.here.at
     (dim_view c.args.dim.now) c.args.dims.now (omega arith))
-    (fails_here _ c.args.at _ c.part_broken.ensures)
+    (fails_here _ c.args.here.at _ c.part_broken.ensures)

@@ -39,7 +39,7 @@ pub returns : goal.returns
 returns c =
     let whole = fold_all _ _ _ _ _ _ _ (parts_are _ _ _) c.loop-i.invariant.0 (omega arith) in
     let P : Verdict Judged → Type 0 = λ w. PartAnswers judged_view w c.all_parts.result in
-    let all : c.loop-i.i ≡ length c.args.items.now = omega arith in
+    let all : c.loop-i.i ≡ length c.args.them.items.now = omega arith in
     record {
       verdict = subst P (sym whole) c.all_parts.ensures;
       scope =

@@ -1,14 +1,12 @@
-use Rattle.std.proofs.Common.{◌+◌, ℕ, sym, ap, subst, ◌∙◌, refl, arith}
-use Rattle.pawn_tree.specs.View.{param_view}
+use Rattle.std.proofs.Common.{◌+◌, sym, subst, ◌∙◌, refl, arith}
 use Rattle.names_rules.specs.Verdict.{Verdict}
-use Rattle.types_rules.specs.Scope.{Scope, with_entries}
-use Rattle.types_rules.specs.Params.{Headed, param_entries}
+use Rattle.types_rules.specs.Params.{Headed}
 use Rattle.check_nodes.specs.PartAnswers.{PartAnswers}
 use Rattle.check_nodes.specs.ContextView.{around_view}
 use Rattle.check_nodes.specs.Scopes.{scope_view}
 use Rattle.check_heads.specs.HeadedView.{headed_view}
 use Rattle.check_heads.proofs.FoldLaws.{fold_begins, fold_more, fold_fails, fold_all}
-use Rattle.check_heads.proofs.ParamLaws.{params_are}
+use Rattle.check_heads.proofs.ParamLaws.{params_are, spot_behind}
 use Rattle.check_heads.proofs.RuleLaws.{exit_answers, unless_memory}
 use Rattle.check_heads.proofs.heads.params_in.Goals as goal
 
@@ -17,14 +15,9 @@ loop-i-init c = (fold_begins _ _ _ _ (params_are _ _) _ c.nothing-so_far.ensures
 
 pub loop-i-preserved : goal.loop-i-preserved
 loop-i-preserved c =
-    let old : Scope = scope_view c.loop-i.scopes in
-    let means =
-    ap (λ (n : ℕ). with_entries old
-    (param_entries (around_view c.args.cx.now) c.args.at old n
-    (param_view c.index-params-i.result))) c.in_ok-number.ensures in
     let spot =
-    ap (λ (s : Scope). (s, c.loop-i.i + 1))
-    (c.in_ok-declare_param.ensures.scope ∙ means) in (
+    spot_behind (around_view c.args.cx.now) c.args.at (scope_view c.loop-i.scopes) _ _ _ _
+    c.in_ok-number.ensures c.in_ok-declare_param.ensures.scope in (
       fold_more _ _ _ _ _ _ _ (params_are _ _) _ _ _ c.loop-i.invariant.0
           (omega arith) c.index-params-i.is
           (c.in_ok-so_far.ensures _ c.param_rule-it.ensures) spot,

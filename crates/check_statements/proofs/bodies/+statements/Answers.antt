@@ -9,24 +9,19 @@ use Rattle.check_nodes.specs.Scopes.{without}
 use Rattle.check_locals.specs.PointView.{point_view}
 use Rattle.check_nodes.specs.ContextView.{around_view}
 use Rattle.check_statements.proofs.PointLaws.{beyond_none}
-use Rattle.check_statements.specs.BodyJudging.{behind_in, stmt_in, block_in, otherwise_in}
+use Rattle.check_statements.specs.BodyJudging.{block_in}
 use Rattle.check_statements.proofs.QuietLaws.{tells_by, whatever}
-use Rattle.check_statements.proofs.PlaceLaws.{Placed, declares_all, three_places, value_first}
-use Rattle.check_statements.proofs.PlaceLaws.{value_last, back_is, closed_is}
-use Rattle.check_statements.proofs.PlaceLaws.{stmt_placed, all_placed}
-use Rattle.check_statements.proofs.PlaceLaws.{placed_back, placed_out}
-use Rattle.check_statements.proofs.StmtLaws.{if_told_is, if_fails_first}
-use Rattle.check_statements.proofs.StmtLaws.{if_fails_body, if_fails_other}
-use Rattle.check_statements.proofs.StmtLaws.{while_told_is, while_fails_first, while_fails_body}
-use Rattle.check_statements.proofs.StmtLaws.{do_told_is, do_fails_first}
-use Rattle.check_statements.proofs.StmtLaws.{do_fails_part, switch_told_is}
-use Rattle.check_statements.proofs.StmtLaws.{switch_fails_first, switch_fails_cases}
-use Rattle.check_statements.proofs.StmtLaws.{switch_fails_other}
-use Rattle.check_statements.proofs.StmtLaws.{for_told_is, for_fails_first}
-use Rattle.check_statements.proofs.StmtLaws.{for_fails_c, for_fails_step}
+use Rattle.check_statements.proofs.StmtLaws.{for_so, if_told_is, if_fails_first, if_fails_body}
+use Rattle.check_statements.proofs.StmtLaws.{if_fails_other, while_told_is, while_fails_first}
+use Rattle.check_statements.proofs.StmtLaws.{while_fails_body, do_told_is, do_fails_first}
+use Rattle.check_statements.proofs.StmtLaws.{do_fails_part, switch_told_is, switch_fails_first}
+use Rattle.check_statements.proofs.StmtLaws.{switch_fails_cases, switch_fails_other, for_told_is}
+use Rattle.check_statements.proofs.StmtLaws.{for_fails_first, for_fails_c, for_fails_step}
 use Rattle.check_statements.proofs.StmtLaws.{for_fails_body, for_fails_done, other_fails}
-use Rattle.check_statements.proofs.StmtLaws.{block_judged_fails, case_fails_first}
-use Rattle.check_statements.proofs.StmtLaws.{case_fails_second}
+use Rattle.check_statements.proofs.StmtLaws.{block_judged_fails}
+use Rattle.check_statements.proofs.PlaceLaws.{Placed, declares_all, three_places, value_first}
+use Rattle.check_statements.proofs.PlaceLaws.{value_last, back_is, closed_is, stmt_placed}
+use Rattle.check_statements.proofs.PlaceLaws.{all_placed, placed_back, placed_out}
 use Rattle.check_statements.proofs.BlockLaws.{block_begins, block_more, block_fails, block_all}
 use Rattle.check_statements.proofs.BlockLaws.{cases_begin, cases_more, cases_fail, cases_all}
 use Rattle.check_statements.proofs.bodies.+statements.Goals as goal
@@ -113,7 +108,7 @@ block_stmt-returns-clause-behind t c =
 pub while_stmt-returns-clause-tells : goal.while_stmt-returns-clause-tells
 while_stmt-returns-clause-tells t c = λ in_loop.
     tells_by _ _ _ _ (while_told_is c.args.setting.now in_loop
-    (point_view c.args.point.now) c.args.at (expr_view c.args.c.now)
+    (point_view c.args.point.now) c.args.test.at (expr_view c.args.test.c.now)
     (stmt_view c.args.s.now) _ _ _ c.in_ok-c.ensures.tells c.in_ok-c.ensures.behind
     c.in_ok-s.ensures.tells) c.while_told.ensures
 
@@ -123,9 +118,10 @@ while_stmt-returns-clause-behind t c =
 
 pub do_while_stmt-returns-clause-tells : goal.do_while_stmt-returns-clause-tells
 do_while_stmt-returns-clause-tells t c = λ in_loop.
-    tells_by _ _ _ _ (do_told_is c.args.setting.now in_loop (point_view c.args.point.now) c.args.at
-    (expr_view c.args.c.now) (stmt_view c.args.s.now) _ _ _ c.in_ok-s.ensures.tells
-    c.in_ok-s.ensures.behind c.in_ok-c.ensures.tells) c.do_while_told.ensures
+    tells_by _ _ _ _ (do_told_is c.args.setting.now in_loop (point_view c.args.point.now)
+    c.args.test.at (expr_view c.args.test.c.now) (stmt_view c.args.s.now) _ _ _
+    c.in_ok-s.ensures.tells c.in_ok-s.ensures.behind c.in_ok-c.ensures.tells)
+    c.do_while_told.ensures
 
 pub do_while_stmt-returns-clause-behind : goal.do_while_stmt-returns-clause-behind
 do_while_stmt-returns-clause-behind t c =
@@ -133,41 +129,28 @@ do_while_stmt-returns-clause-behind t c =
 
 pub for_stmt-returns-clause-tells : goal.for_stmt-returns-clause-tells
 for_stmt-returns-clause-tells t c = λ in_loop.
-    let begun =
-    back_is (around_view c.args.setting.now.cx.now) c.args.at _ c.args.point.now
-    c.enter.new.self c.judge_first.new.point c.maybe_part.new.point
-    c.maybe_part-2.new.point c.body.new.point _ _ _ _
-    c.in_ok-enter.ensures c.in_ok-judge_first.ensures.behind c.in_ok-c.ensures.behind
-    c.in_ok-step.ensures.behind c.in_ok-s.ensures.behind
-    c.go_back.new.point c.go_back.ensures.scopes c.go_back.ensures.objects
-    c.go_back.ensures.slots in
+    let begun = back_is (around_view c.args.setting.now.cx.now) c.args.at _ c.args.point.now
+    c.enter.new.self c.body.new.point _ _ _ _ c.in_ok-enter.ensures
+    c.in_ok-judge_first.ensures.behind c.in_ok-c.ensures.behind c.in_ok-step.ensures.behind
+    c.in_ok-s.ensures.behind c.go_back.new.point c.go_back.ensures.scopes
+    c.go_back.ensures.objects c.go_back.ensures.slots in
     tells_by _ _ _ _ (for_told_is c.args.setting.now in_loop (point_view c.args.point.now) c.args.at
     (first_view c.args.first.now) (option_map expr_view c.args.c.now)
     (option_map expr_view c.args.step.now) (stmt_view c.args.s.now) _ _ _ _ _ _ _ _ _ _ _
-    (record {
-      entered = c.in_ok-enter.ensures;
-      first_told = c.in_ok-judge_first.ensures.tells;
-      first_place = c.in_ok-judge_first.ensures.behind;
-      c_told = c.in_ok-c.ensures.tells;
-      c_place = c.in_ok-c.ensures.behind;
-      step_told = c.in_ok-step.ensures.tells;
-      step_place = c.in_ok-step.ensures.behind;
-      s_told = c.in_ok-s.ensures.tells;
-    }) _ _ begun c.in_ok-done.ensures.tells) c.for_told.ensures
+    (for_so _ _ _ _ _ _ _ _ c.in_ok-enter.ensures c.in_ok-judge_first.ensures.tells
+    c.in_ok-judge_first.ensures.behind c.in_ok-c.ensures.tells c.in_ok-c.ensures.behind
+    c.in_ok-step.ensures.tells c.in_ok-step.ensures.behind c.in_ok-s.ensures.tells) _ _ begun
+    c.in_ok-done.ensures.tells) c.for_told.ensures
 
 pub for_stmt-returns-clause-behind : goal.for_stmt-returns-clause-behind
 for_stmt-returns-clause-behind t c =
-    let begun =
-    back_is (around_view c.args.setting.now.cx.now) c.args.at _ c.args.point.now
-    c.enter.new.self c.judge_first.new.point c.maybe_part.new.point
-    c.maybe_part-2.new.point c.body.new.point _ _ _ _
-    c.in_ok-enter.ensures c.in_ok-judge_first.ensures.behind c.in_ok-c.ensures.behind
-    c.in_ok-step.ensures.behind c.in_ok-s.ensures.behind
-    c.go_back.new.point c.go_back.ensures.scopes c.go_back.ensures.objects
-    c.go_back.ensures.slots in
-    whatever _ _ (closed_is (around_view c.args.setting.now.cx.now) c.args.at _ c.args.point.now
-    c.enter.new.self c.judge_first.new.point c.maybe_part.new.point c.maybe_part-2.new.point
-    c.body.new.point _ _ _ _
+    let begun = back_is (around_view c.args.setting.now.cx.now) c.args.at _ c.args.point.now
+    c.enter.new.self c.body.new.point _ _ _ _ c.in_ok-enter.ensures
+    c.in_ok-judge_first.ensures.behind c.in_ok-c.ensures.behind c.in_ok-step.ensures.behind
+    c.in_ok-s.ensures.behind c.go_back.new.point c.go_back.ensures.scopes
+    c.go_back.ensures.objects c.go_back.ensures.slots in
+    whatever _ _ (closed_is (around_view c.args.setting.now.cx.now) c.args.at _
+    c.args.point.now c.enter.new.self c.body.new.point _ _ _ _
     c.in_ok-enter.ensures c.in_ok-judge_first.ensures.behind c.in_ok-c.ensures.behind
     c.in_ok-step.ensures.behind c.in_ok-s.ensures.behind
     c.go_back.new.point c.first_done.new.point c.close.new.point begun c.in_ok-done.ensures.behind
@@ -205,9 +188,7 @@ stmt-returns-in_ok-other-in-If-clause-behind t c =
 pub stmt-returns-in_ok-other-in-Switch-clause-tells
     : goal.stmt-returns-in_ok-other-in-Switch-clause-tells
 stmt-returns-in_ok-other-in-Switch-clause-tells t c =
-    let is =
-    ap stmt_view c.in-Switch.is ∙ switch_view c.in-Switch.at c.in-Switch.e c.in-Switch.list
-    c.in-Switch.other in
+    let is = ap stmt_view c.in-Switch.is ∙ switch_view _ _ _ _ in
     rw is (tells_by _ _ _ _ (switch_told_is c.args.setting.now c.args.in_loop
     (point_view c.args.point.now) c.in-Switch.at (expr_view c.in-Switch.e)
     (tree.cases (map case_view c.in-Switch.list))
@@ -219,9 +200,7 @@ stmt-returns-in_ok-other-in-Switch-clause-tells t c =
 pub stmt-returns-in_ok-other-in-Switch-clause-behind
     : goal.stmt-returns-in_ok-other-in-Switch-clause-behind
 stmt-returns-in_ok-other-in-Switch-clause-behind t c =
-    let is =
-    ap stmt_view c.in-Switch.is ∙ switch_view c.in-Switch.at c.in-Switch.e c.in-Switch.list
-    c.in-Switch.other in
+    let is = ap stmt_view c.in-Switch.is ∙ switch_view _ _ _ _ in
     rw is (whatever _ _ (three_places _ _ _ _ _ _ _ _ _ c.in_ok-x-in-Switch.ensures.behind
     c.in_ok-parts-in-Switch.ensures.behind c.in_ok-other-in-Switch.ensures.behind))
 
@@ -238,8 +217,7 @@ stmt-returns-in_err-c-in-If-clause-tells t c =
 
 pub stmt-returns-in_err-s-in-If-clause-tells : goal.stmt-returns-in_err-s-in-If-clause-tells
 stmt-returns-in_err-s-in-If-clause-tells t c =
-    let p =
-    err_from_is_err_and c.from_residual-in_err-s-in-If.result
+    let p = err_from_is_err_and c.from_residual-in_err-s-in-If.result
     c.from_residual-in_err-s-in-If.ensures.1 in
     rw (p.1, p.2) (rw (ap stmt_view c.in-If.is
     ∙ if_view c.in-If.at c.in-If.c c.in-If.s c.in-If.other)
@@ -252,8 +230,7 @@ stmt-returns-in_err-s-in-If-clause-tells t c =
 
 pub stmt-returns-in_err-other-in-If-clause-tells : goal.stmt-returns-in_err-other-in-If-clause-tells
 stmt-returns-in_err-other-in-If-clause-tells t c =
-    let p =
-    err_from_is_err_and c.from_residual-in_err-other-in-If.result
+    let p = err_from_is_err_and c.from_residual-in_err-other-in-If.result
     c.from_residual-in_err-other-in-If.ensures.1 in
     rw (p.1, p.2) (rw (ap stmt_view c.in-If.is
     ∙ if_view c.in-If.at c.in-If.c c.in-If.s c.in-If.other)
@@ -267,8 +244,7 @@ stmt-returns-in_err-other-in-If-clause-tells t c =
 
 pub stmt-returns-in_err-x-in-Switch-clause-tells : goal.stmt-returns-in_err-x-in-Switch-clause-tells
 stmt-returns-in_err-x-in-Switch-clause-tells t c =
-    let p =
-    err_from_is_err_and c.from_residual-in_err-x-in-Switch.result
+    let p = err_from_is_err_and c.from_residual-in_err-x-in-Switch.result
     c.from_residual-in_err-x-in-Switch.ensures.1 in
     rw (p.1, p.2) (rw (ap stmt_view c.in-Switch.is
     ∙ switch_view c.in-Switch.at c.in-Switch.e c.in-Switch.list c.in-Switch.other)
@@ -281,8 +257,7 @@ stmt-returns-in_err-x-in-Switch-clause-tells t c =
 pub stmt-returns-in_err-parts-in-Switch-clause-tells
     : goal.stmt-returns-in_err-parts-in-Switch-clause-tells
 stmt-returns-in_err-parts-in-Switch-clause-tells t c =
-    let p =
-    err_from_is_err_and c.from_residual-in_err-parts-in-Switch.result
+    let p = err_from_is_err_and c.from_residual-in_err-parts-in-Switch.result
     c.from_residual-in_err-parts-in-Switch.ensures.1 in
     rw (p.1, p.2) (rw (ap stmt_view c.in-Switch.is
     ∙ switch_view c.in-Switch.at c.in-Switch.e c.in-Switch.list c.in-Switch.other)
@@ -296,8 +271,7 @@ stmt-returns-in_err-parts-in-Switch-clause-tells t c =
 pub stmt-returns-in_err-other-in-Switch-clause-tells
     : goal.stmt-returns-in_err-other-in-Switch-clause-tells
 stmt-returns-in_err-other-in-Switch-clause-tells t c =
-    let p =
-    err_from_is_err_and c.from_residual-in_err-other-in-Switch.result
+    let p = err_from_is_err_and c.from_residual-in_err-other-in-Switch.result
     c.from_residual-in_err-other-in-Switch.ensures.1 in
     rw (p.1, p.2) (rw (ap stmt_view c.in-Switch.is
     ∙ switch_view c.in-Switch.at c.in-Switch.e c.in-Switch.list c.in-Switch.other)
@@ -369,8 +343,7 @@ otherwise-returns-in_ok-it-in-Some-clause-behind t c =
 pub block_stmt-returns-in_err-it-clause-tells : goal.block_stmt-returns-in_err-it-clause-tells
 block_stmt-returns-in_err-it-clause-tells t c =
     let p =
-    err_from_is_err_and c.from_residual-in_err-it.result
-    c.from_residual-in_err-it.ensures.1 in
+    err_from_is_err_and c.from_residual-in_err-it.result c.from_residual-in_err-it.ensures.1 in
     rw (p.1, p.2) (rw (sym c.in_ok-enter.ensures)
     (block_judged_fails (block_in c.args.setting.now
     (point_view c.enter.new.self) c.args.in_loop
@@ -380,39 +353,36 @@ pub while_stmt-returns-in_err-c-clause-tells : goal.while_stmt-returns-in_err-c-
 while_stmt-returns-in_err-c-clause-tells t c =
     let p = err_from_is_err_and c.from_residual.result c.from_residual.ensures.1 in
     λ in_loop. rw (p.1, p.2) (while_fails_first c.args.setting.now in_loop
-    (point_view c.args.point.now) c.args.at (expr_view c.args.c.now)
+    (point_view c.args.point.now) c.args.test.at (expr_view c.args.test.c.now)
     (stmt_view c.args.s.now) _ c.in_err-c.ensures.tells)
 
 pub while_stmt-returns-in_err-s-clause-tells : goal.while_stmt-returns-in_err-s-clause-tells
 while_stmt-returns-in_err-s-clause-tells t c =
     let p =
-    err_from_is_err_and c.from_residual-in_err-s.result
-    c.from_residual-in_err-s.ensures.1 in
+    err_from_is_err_and c.from_residual-in_err-s.result c.from_residual-in_err-s.ensures.1 in
     λ in_loop. rw (p.1, p.2) (while_fails_body c.args.setting.now in_loop
-    (point_view c.args.point.now) c.args.at (expr_view c.args.c.now)
+    (point_view c.args.point.now) c.args.test.at (expr_view c.args.test.c.now)
     (stmt_view c.args.s.now) _ _ c.in_ok-c.ensures.behind c.in_err-s.ensures.tells)
 
 pub do_while_stmt-returns-in_err-s-clause-tells : goal.do_while_stmt-returns-in_err-s-clause-tells
 do_while_stmt-returns-in_err-s-clause-tells t c =
     let p = err_from_is_err_and c.from_residual.result c.from_residual.ensures.1 in
     λ in_loop. rw (p.1, p.2) (do_fails_first c.args.setting.now in_loop
-    (point_view c.args.point.now) c.args.at (expr_view c.args.c.now)
+    (point_view c.args.point.now) c.args.test.at (expr_view c.args.test.c.now)
     (stmt_view c.args.s.now) _ c.in_err-s.ensures.tells)
 
 pub do_while_stmt-returns-in_err-c-clause-tells : goal.do_while_stmt-returns-in_err-c-clause-tells
 do_while_stmt-returns-in_err-c-clause-tells t c =
     let p =
-    err_from_is_err_and c.from_residual-in_err-c.result
-    c.from_residual-in_err-c.ensures.1 in
+    err_from_is_err_and c.from_residual-in_err-c.result c.from_residual-in_err-c.ensures.1 in
     λ in_loop. rw (p.1, p.2) (do_fails_part c.args.setting.now in_loop
-    (point_view c.args.point.now) c.args.at (expr_view c.args.c.now)
+    (point_view c.args.point.now) c.args.test.at (expr_view c.args.test.c.now)
     (stmt_view c.args.s.now) _ _ c.in_ok-s.ensures.behind c.in_err-c.ensures.tells)
 
 pub for_stmt-returns-in_err-judge_first-clause-tells
     : goal.for_stmt-returns-in_err-judge_first-clause-tells
 for_stmt-returns-in_err-judge_first-clause-tells t c =
-    let p =
-    err_from_is_err_and c.from_residual-in_err-judge_first.result
+    let p = err_from_is_err_and c.from_residual-in_err-judge_first.result
     c.from_residual-in_err-judge_first.ensures.1 in
     λ in_loop. rw (p.1, p.2) (for_fails_first c.args.setting.now in_loop
     (point_view c.args.point.now) c.args.at (first_view c.args.first.now)
@@ -423,8 +393,7 @@ for_stmt-returns-in_err-judge_first-clause-tells t c =
 pub for_stmt-returns-in_err-c-clause-tells : goal.for_stmt-returns-in_err-c-clause-tells
 for_stmt-returns-in_err-c-clause-tells t c =
     let p =
-    err_from_is_err_and c.from_residual-in_err-c.result
-    c.from_residual-in_err-c.ensures.1 in
+    err_from_is_err_and c.from_residual-in_err-c.result c.from_residual-in_err-c.ensures.1 in
     λ in_loop. rw (p.1, p.2) (for_fails_c c.args.setting.now in_loop
     (point_view c.args.point.now) c.args.at (first_view c.args.first.now)
     (option_map expr_view c.args.c.now) (option_map expr_view c.args.step.now)
@@ -434,8 +403,7 @@ for_stmt-returns-in_err-c-clause-tells t c =
 pub for_stmt-returns-in_err-step-clause-tells : goal.for_stmt-returns-in_err-step-clause-tells
 for_stmt-returns-in_err-step-clause-tells t c =
     let p =
-    err_from_is_err_and c.from_residual-in_err-step.result
-    c.from_residual-in_err-step.ensures.1 in
+    err_from_is_err_and c.from_residual-in_err-step.result c.from_residual-in_err-step.ensures.1 in
     λ in_loop. rw (p.1, p.2) (for_fails_step c.args.setting.now in_loop
     (point_view c.args.point.now) c.args.at (first_view c.args.first.now)
     (option_map expr_view c.args.c.now) (option_map expr_view c.args.step.now)
@@ -446,8 +414,7 @@ for_stmt-returns-in_err-step-clause-tells t c =
 pub for_stmt-returns-in_err-s-clause-tells : goal.for_stmt-returns-in_err-s-clause-tells
 for_stmt-returns-in_err-s-clause-tells t c =
     let p =
-    err_from_is_err_and c.from_residual-in_err-s.result
-    c.from_residual-in_err-s.ensures.1 in
+    err_from_is_err_and c.from_residual-in_err-s.result c.from_residual-in_err-s.ensures.1 in
     λ in_loop. rw (p.1, p.2) (for_fails_body c.args.setting.now in_loop
     (point_view c.args.point.now) c.args.at (first_view c.args.first.now)
     (option_map expr_view c.args.c.now) (option_map expr_view c.args.step.now)
@@ -458,30 +425,20 @@ for_stmt-returns-in_err-s-clause-tells t c =
 pub for_stmt-returns-in_err-done-clause-tells : goal.for_stmt-returns-in_err-done-clause-tells
 for_stmt-returns-in_err-done-clause-tells t c =
     let p =
-    err_from_is_err_and c.from_residual-in_err-done.result
-    c.from_residual-in_err-done.ensures.1 in
-    let begun =
-    back_is (around_view c.args.setting.now.cx.now) c.args.at _ c.args.point.now
-    c.enter.new.self c.judge_first.new.point c.maybe_part.new.point
-    c.maybe_part-2.new.point c.body.new.point _ _ _ _
-    c.in_ok-enter.ensures c.in_ok-judge_first.ensures.behind c.in_ok-c.ensures.behind
-    c.in_ok-step.ensures.behind c.in_ok-s.ensures.behind
-    c.go_back.new.point c.go_back.ensures.scopes c.go_back.ensures.objects
-    c.go_back.ensures.slots in
+    err_from_is_err_and c.from_residual-in_err-done.result c.from_residual-in_err-done.ensures.1 in
+    let begun = back_is (around_view c.args.setting.now.cx.now) c.args.at _ c.args.point.now
+    c.enter.new.self c.body.new.point _ _ _ _ c.in_ok-enter.ensures
+    c.in_ok-judge_first.ensures.behind c.in_ok-c.ensures.behind c.in_ok-step.ensures.behind
+    c.in_ok-s.ensures.behind c.go_back.new.point c.go_back.ensures.scopes
+    c.go_back.ensures.objects c.go_back.ensures.slots in
     λ in_loop. rw (p.1, p.2) (for_fails_done c.args.setting.now in_loop
     (point_view c.args.point.now) c.args.at (first_view c.args.first.now)
     (option_map expr_view c.args.c.now) (option_map expr_view c.args.step.now)
     (stmt_view c.args.s.now) _ _ _ _ _ _ _ _ _ _ _
-    (record {
-      entered = c.in_ok-enter.ensures;
-      first_told = c.in_ok-judge_first.ensures.tells;
-      first_place = c.in_ok-judge_first.ensures.behind;
-      c_told = c.in_ok-c.ensures.tells;
-      c_place = c.in_ok-c.ensures.behind;
-      step_told = c.in_ok-step.ensures.tells;
-      step_place = c.in_ok-step.ensures.behind;
-      s_told = c.in_ok-s.ensures.tells;
-    }) _ _ begun c.in_err-done.ensures.tells)
+    (for_so _ _ _ _ _ _ _ _ c.in_ok-enter.ensures c.in_ok-judge_first.ensures.tells
+    c.in_ok-judge_first.ensures.behind c.in_ok-c.ensures.tells c.in_ok-c.ensures.behind
+    c.in_ok-step.ensures.tells c.in_ok-step.ensures.behind c.in_ok-s.ensures.tells) _ _ begun
+    c.in_err-done.ensures.tells)
 
 -- ---- statements that hold no other
 

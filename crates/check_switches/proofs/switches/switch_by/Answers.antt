@@ -11,7 +11,7 @@ use Rattle.check_switches.proofs.switches.switch_by.Goals as goal
 pub returns : goal.returns
 returns c =
     subst (λ v. Answers stood_view v c.switch_bare.result)
-    (sym (bare_enough c.args.at (other_view c.args.other)
-    (use_in (around_view c.args.cx.now) c.args.at (typed_view c.args.x))
-    (cased_in (around_view c.args.cx.now) c.args.at c.args.x.tag
-    (parts_view c.args.parts)))) c.switch_bare.ensures
+    (sym (bare_enough c.args.at (other_view c.args.s.other)
+    (use_in (around_view c.args.cx.now) c.args.at (typed_view c.args.s.x))
+    (cased_in (around_view c.args.cx.now) c.args.at c.args.s.x.tag
+    (parts_view c.args.s.parts)))) c.switch_bare.ensures

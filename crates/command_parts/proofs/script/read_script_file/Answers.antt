@@ -1,17 +1,17 @@
-use Rattle.std.proofs.Common.{Err, inl, ap}
-use Rattle.std.proofs.lemmas.Result.{err_from_is_err_and}
-use Rattle.command_parts.proofs.ReadLaws.{only_as, only_other, script_named, script_no_fault}
+use Rattle.std.proofs.Common.{inl, refl}
+use Rattle.command_parts.specs.ScriptFile.{IsScriptFileRead}
+use Rattle.command_parts.proofs.ReadCallLaws.{handed, only_handed, only_other}
+use Rattle.command_parts.proofs.ReadLaws.{script_named, script_no_fault}
 use Rattle.command_parts.proofs.script.read_script_file.Goals as goal
 
 pub returns-in_err-bytes-clause-calls : goal.returns-in_err-bytes-clause-calls
 returns-in_err-bytes-clause-calls g c =
-    let p = err_from_is_err_and c.from_residual.result c.from_residual.ensures.1 in
-    only_as (λ e. ap Err (cc (p.1, p.2, e))) (λ e. cc (p.1, p.2, e)) c.in_err-bytes.ensures.calls
+    only_handed c.from_residual.result c.from_residual.ensures.1 refl c.in_err-bytes.ensures.calls
 
 pub returns-in_err-bytes-clause-answer : goal.returns-in_err-bytes-clause-answer
 returns-in_err-bytes-clause-answer g c =
-    let p = err_from_is_err_and c.from_residual.result c.from_residual.ensures.1 in
-    rw (p.1, p.2) (inl c.in_err-bytes.ensures.answer)
+    handed (IsScriptFileRead (g.F.Files.held c.args.files.now) c.args.name.now)
+    c.from_residual.result c.from_residual.ensures.1 (inl c.in_err-bytes.ensures.answer)
 
 pub returns-clause-calls : goal.returns-clause-calls
 returns-clause-calls g c =
@@ -20,6 +20,5 @@ returns-clause-calls g c =
 
 pub returns-clause-answer : goal.returns-clause-answer
 returns-clause-answer g c =
-    script_named _ c.args.name.now c.in_ok-bytes.bytes c.as_slice.result.now c.script_of.result
-    c.in_ok-bytes.ensures.answer c.as_slice.ensures
-    c.script_of.ensures.answer
+    script_named _ c.args.name.now c.script_of.result c.in_ok-bytes.ensures.answer
+    c.as_slice.ensures c.script_of.ensures.answer

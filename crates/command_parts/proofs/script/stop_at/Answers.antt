@@ -1,5 +1,4 @@
 use Rattle.std.proofs.Common.{◌∙◌, ap}
-use Rattle.script_reader.specs.declared.fault.ScriptFault.TheVariants.{Shape, Range}
 use Rattle.script_reader.specs.Reading.{number_of}
 use Rattle.command_parts.specs.ScriptFile.{field_stop}
 use Rattle.command_parts.proofs.script.stop_at.Goals as goal

@@ -1,15 +1,14 @@
-use Rattle.std.proofs.Common.{◌≡◌, ◌∙◌, ℕ, List, ap, refl}
+use Rattle.std.proofs.Common.{◌∙◌, ap}
 use Rattle.amx_ops.specs.declared.amx.Amx.{Amx}
 use Rattle.amx_ops.specs.Moves.{name_of}
-use Rattle.command_parts.specs.declared.stop.Stop.TheVariants.{Unregistered}
-use Rattle.commands.specs.Prepared.{no_memory}
+use Rattle.commands.specs.Served.{no_memory}
 use Rattle.commands.proofs.PreparedLaws.{unserved_is}
 use Rattle.commands.proofs.bind.bind_natives.Goals as goal
 
 pub returns-in-Err-Unregistered : goal.returns-in-Err-Unregistered
 returns-in-Err-Unregistered c =
     let first = rw c.in-Err-Unregistered.field-0-is at c.in-Err-Unregistered.ensures in
-    unserved_is c.args.program.now c.in-Err-Unregistered.number c.name_at.result.now
+    unserved_is c.args.file.now c.args.script.now c.in-Err-Unregistered.number c.name_at.result.now
     c.unregistered.result first
     (c.name_at.ensures ∙ ap (λ natives. name_of natives c.in-Err-Unregistered.number)
     (c.as_slice-natives.ensures ∙ ap (λ (it : Amx). it.natives) c.amx.ensures.value))

@@ -5,7 +5,7 @@ use Rattle.commands.proofs.compiles.compile.Goals as goal
 
 pub returns-in-Ok-clause-answer : goal.returns-in-Ok-clause-answer
 returns-in-Ok-clause-answer g c =
-    compiles_good c.args.words _ _ _ _ _ c.encoding_of.result c.in-Ok.compiled c.put_file.result
+    compiles_good c.args.words.now _ _ _ _ _ c.encoding_of.result c.in-Ok.compiled c.put_file.result
     c.as_str.ensures c.as_str-in-Ok.ensures
     c.encoding_of.ensures c.in-Ok.ensures.answer c.in-Ok.ensures.calls.same
     c.put_file.ensures.answer
@@ -16,7 +16,7 @@ returns-in-Ok-clause-calls g c =
 
 pub returns-in-Err-clause-answer : goal.returns-in-Err-clause-answer
 returns-in-Err-clause-answer g c =
-    compiles_nothing c.args.words _ _ _ c.in-Err.cause c.tell_stop.result c.as_str.ensures
+    compiles_nothing c.args.words.now _ _ _ c.in-Err.cause c.tell_stop.result c.as_str.ensures
     c.in-Err.ensures.answer c.in-Err.ensures.calls.same
     c.tell_stop.ensures
 

@@ -1,4 +1,4 @@
-use Rattle.std.proofs.Common.{◌∙◌, rules, w32, FitsSigned, refl, sym, ap, to_z, of_z}
+use Rattle.std.proofs.Common.{◌∙◌, rules, w32, FitsSigned, refl, sym}
 use Rattle.std.specs.Prelude.{negsuc}
 use Rattle.std.proofs.lemmas.Int.{to_z-of_z}
 use Rattle.pawn_cells.specs.Cells.{equal}

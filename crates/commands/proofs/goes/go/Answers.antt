@@ -5,7 +5,7 @@ use Rattle.commands.proofs.goes.go.Goals as goal
 
 pub returns-in-Ok-clause-answer : goal.returns-in-Ok-clause-answer
 returns-in-Ok-clause-answer g c =
-    goes_good c.args.words _ _ _ c.in-Ok.prepared c.make.result c.in-Ok.ensures.answer
+    goes_good c.args.words.now _ _ _ c.in-Ok.prepared c.make.result c.in-Ok.ensures.answer
     c.in-Ok.ensures.ranges c.in-Ok.ensures.calls.same
     c.make.ensures.answer
 
@@ -14,7 +14,7 @@ returns-in-Ok-clause-calls g c = calls_then (only_calls c.in-Ok.ensures.calls) c
 
 pub returns-in-Err-clause-answer : goal.returns-in-Err-clause-answer
 returns-in-Err-clause-answer g c =
-    goes_nowhere c.args.words _ _ c.in-Err.stop c.tell_stop.result c.in-Err.ensures.answer
+    goes_nowhere c.args.words.now _ _ c.in-Err.stop c.tell_stop.result c.in-Err.ensures.answer
     c.in-Err.ensures.calls.same c.tell_stop.ensures
 
 pub returns-in-Err-clause-calls : goal.returns-in-Err-clause-calls

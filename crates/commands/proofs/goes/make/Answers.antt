@@ -5,7 +5,7 @@ use Rattle.commands.proofs.goes.make.Goals as goal
 
 pub returns-in-Ok-clause-answer : goal.returns-in-Ok-clause-answer
 returns-in-Ok-clause-answer g c =
-    makes_put c.args.words c.args.prepared.now _ _ _ _ c.tell_and_run.result c.as_str.ensures
+    makes_put c.args.words.now c.args.prepared.now _ _ _ _ c.tell_and_run.result c.as_str.ensures
     c.as_slice.ensures c.in-Ok.ensures.answer
     c.tell_and_run.ensures.answer
 
@@ -14,7 +14,7 @@ returns-in-Ok-clause-calls g c = calls_other c.tell_and_run.ensures.fault c.in-O
 
 pub returns-in-Err-clause-answer : goal.returns-in-Err-clause-answer
 returns-in-Err-clause-answer g c =
-    makes_none c.args.words c.args.prepared.now _ _ _ c.in-Err.stop c.tell_stop.result
+    makes_none c.args.words.now c.args.prepared.now _ _ _ c.in-Err.stop c.tell_stop.result
     c.as_str.ensures c.in-Err.ensures.answer
     c.tell_stop.ensures
 

@@ -1,6 +1,6 @@
 use Rattle.command_parts.proofs.FaultCountLaws.{stop_no_fault}
+use Rattle.command_parts.proofs.ValidLaws.{bytes_no_fault}
 use Rattle.commands.proofs.GoFileLaws.{natives_fit, reads_none, reads_same, run_no_fault}
-use Rattle.commands.proofs.MadeLaws.{file_no_fault}
 use Rattle.commands.proofs.goes.run_bytes.Goals as goal
 
 pub run_file-requires-clause-natives : goal.run_file-requires-clause-natives
@@ -10,7 +10,7 @@ run_file-requires-clause-natives g c =
 pub returns-in-Ok-clause-answer : goal.returns-in-Ok-clause-answer
 returns-in-Ok-clause-answer g c =
     reads_same c.args.prepared.now.compiled.bytes c.as_slice.result.now c.args.prepared.now.script
-    c.args.words.steps c.args.words.sleeps c.in-Ok.file
+    c.args.words.now.steps c.args.words.now.sleeps c.in-Ok.file
     c.run_file.result c.as_slice.ensures c.in-Ok.ensures c.run_file.ensures
 
 pub returns-in-Ok-clause-fault : goal.returns-in-Ok-clause-fault
@@ -20,10 +20,10 @@ returns-in-Ok-clause-fault g c =
 pub returns-in-Err-clause-answer : goal.returns-in-Err-clause-answer
 returns-in-Err-clause-answer g c =
     reads_none c.args.prepared.now.compiled.bytes c.as_slice.result.now c.args.prepared.now.script
-    c.args.words.steps c.args.words.sleeps c.in-Err.stop
+    c.args.words.now.steps c.args.words.now.sleeps c.in-Err.stop
     c.tell_stop.result c.as_slice.ensures c.in-Err.ensures c.tell_stop.ensures
 
 pub returns-in-Err-clause-fault : goal.returns-in-Err-clause-fault
 returns-in-Err-clause-fault g c =
     stop_no_fault c.in-Err.stop c.tell_stop.result
-    (file_no_fault c.as_slice.result.now c.in-Err.stop c.in-Err.ensures) c.tell_stop.ensures
+    (bytes_no_fault c.in-Err.ensures) c.tell_stop.ensures

@@ -29,9 +29,11 @@ returns-in-Ok g c =
     let is = c.requires.ready in
     let begins : started machine (negsuc 0) [] ≡ Some c.start.new.self.state = c.in-Ok.ensures.0 in
     let same =
-    goes_on machine is.serves.machine is.main c.args.script.now c.args.steps c.args.sleeps
+    goes_on machine is.serves.machine is.main c.args.script.now c.args.words.now.steps
+    c.args.words.now.sleeps
     c.start.new.self begins c.in-Ok.ensures.1 in
-    c.finish.ensures (trace_of machine.amx c.args.script.now c.args.steps c.args.sleeps)
+    c.finish.ensures
+    (trace_of machine.amx c.args.script.now c.args.words.now.steps c.args.words.now.sleeps)
     c.args.out.now
     (subst (λ (t : Traced Config End). StopsAs t.stop c.run_segments-end.result)
     (sym same) c.run_segments-end.ensures.answer)
@@ -41,8 +43,8 @@ pub returns : goal.returns
 returns g c =
     let is = c.requires.ready in
     let fits : FitsSigned w32 c.code.result = search rules in
-    tells_at_once c.args.ready.machine is.serves.machine is.main c.args.script.now c.args.steps
-    c.args.sleeps c.in-Err.fault c.start.new.self
+    tells_at_once c.args.ready.machine is.serves.machine is.main c.args.script.now
+    c.args.words.now.steps c.args.words.now.sleeps c.in-Err.fault c.start.new.self
     c.code.result c.say_end.result c.told.result c.in-Err.ensures c.code.ensures
     (rw (to_z-of_z w32 c.code.result fits) at c.say_end.ensures)
     c.told.ensures

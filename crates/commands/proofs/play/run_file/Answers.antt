@@ -13,7 +13,7 @@ play-requires-clause-ready g c =
 pub returns-in-Ok : goal.returns-in-Ok
 returns-in-Ok g c =
     let P : Amx → Type 0 =
-    λ a. TellsTrace (trace_of a c.args.script.now c.args.steps c.args.sleeps)
+    λ a. TellsTrace (trace_of a c.args.script.now c.args.words.now.steps c.args.words.now.sleeps)
     (Said g.S.Sink.taken g.S.Sink.faults g.S.Sink.has_room)
     c.args.out.now c.play.new.out c.play.result in
     ran c.in-Ok.ensures.main c.in-Ok.ensures.serves.served

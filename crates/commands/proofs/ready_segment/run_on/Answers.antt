@@ -1,4 +1,4 @@
-use Rattle.std.proofs.Common.{◌∙◌, refl, sym, ap, subst, ℕ, List}
+use Rattle.std.proofs.Common.{◌∙◌, refl, sym, subst, ℕ, List}
 use Rattle.host_script.specs.declared.event.End.TheVariants as end
 use Rattle.host_run.specs.Segments.{Place, segment_of}
 use Rattle.amx_image.specs.declared.version.Version.TheVariants.{Live}

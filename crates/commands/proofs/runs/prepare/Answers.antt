@@ -1,35 +1,11 @@
-use Rattle.std.proofs.Common.{refl, ap, arith}
 use Rattle.std.proofs.lemmas.Result.{err_from_is_err_and}
-use Rattle.amx_image.specs.Buffer.{Buffer}
-use Rattle.commands.specs.Prepared.{no_memory}
+use Rattle.commands.specs.Served.{no_memory}
 use Rattle.commands.proofs.runs.prepare.Goals as goal
-
-pub returns-in_err-bound : goal.returns-in_err-bound
-returns-in_err-bound c =
-    let p = err_from_is_err_and c.from_residual.result c.from_residual.ensures.1 in
-    rw (p.1, p.2) c.in_err-bound.ensures
 
 pub returns-in_err-machine : goal.returns-in_err-machine
 returns-in_err-machine c =
-    let p =
-    err_from_is_err_and c.from_residual-in_err-machine.result
-    c.from_residual-in_err-machine.ensures.1 in
-    rw (p.1, p.2) no_memory
-
-pub returns-in_err-buffer : goal.returns-in_err-buffer
-returns-in_err-buffer c =
-    let p =
-    err_from_is_err_and c.from_residual-in_err-buffer.result
-    c.from_residual-in_err-buffer.ensures.1 in
+    let p = err_from_is_err_and c.from_residual.result c.from_residual.ensures.1 in
     rw (p.1, p.2) no_memory
 
 pub returns : goal.returns
-returns c =
-    let room = ap (λ (b : Buffer). b.room) c.in_ok-buffer.ensures in
-    record {
-      machine = c.in_ok-machine.ensures;
-      bound = c.in_ok-bound.ensures.1;
-      position = refl;
-      room = omega (arith, room);
-      served = c.in_ok-bound.ensures.0;
-    }
+returns c = rw c.in_ok-machine.ensures at c.ready_at.ensures

@@ -8,7 +8,7 @@ run_program-requires-clause-limits g c = within _ _ _ c.in-Ok.program c.in-Ok.en
 
 pub returns-in-Ok-clause-answer : goal.returns-in-Ok-clause-answer
 returns-in-Ok-clause-answer g c =
-    runs_good c.args.words _ _ _ _ _ c.in-Ok.program c.run_program.result c.as_str.ensures
+    runs_good c.args.words.now _ _ _ _ _ c.in-Ok.program c.run_program.result c.as_str.ensures
     c.as_str-2.ensures c.in-Ok.ensures.answer
     c.in-Ok.ensures.calls.same c.run_program.ensures.answer
 
@@ -18,7 +18,7 @@ returns-in-Ok-clause-calls g c =
 
 pub returns-in-Err-clause-answer : goal.returns-in-Err-clause-answer
 returns-in-Err-clause-answer g c =
-    stops_unread c.args.words _ _ _ _ c.in-Err.stop c.tell_stop.result c.as_str.ensures
+    stops_unread c.args.words.now _ _ _ _ c.in-Err.stop c.tell_stop.result c.as_str.ensures
     c.as_str-2.ensures c.in-Err.ensures.answer
     c.in-Err.ensures.calls.same c.tell_stop.ensures
 

@@ -1,26 +1,43 @@
-use Rattle.std.proofs.Common.{rules, w32, FitsSigned}
+use Rattle.std.proofs.Common.{inr, rules, w32, FitsSigned}
 use Rattle.std.proofs.lemmas.Int.{to_z-of_z}
 use Rattle.command_parts.proofs.FaultCountLaws.{calls_nothing, stop_no_fault}
-use Rattle.commands.proofs.PreparedLaws.{entry_no_fault}
-use Rattle.commands.proofs.RunLaws.{stops_at_entry}
+use Rattle.commands.proofs.PreparedLaws.{entry_no_fault, unserved_no_fault}
+use Rattle.commands.proofs.RunLaws.{stops_at_entry, stops_at_native}
 use Rattle.commands.proofs.runs.run_program.Goals as goal
 
 pub entry_of-requires : goal.entry_of-requires
 entry_of-requires g c = rw c.runnable.ensures.value c.requires.limits.publics
 
-pub run_entry-requires-clause-there : goal.run_entry-requires-clause-there
-run_entry-requires-clause-there g c =
+pub start-requires-clause-there : goal.start-requires-clause-there
+start-requires-clause-there g c =
     let fits : FitsSigned w32 c.in-Some.entry = search rules in
-    rw (to_z-of_z w32 c.in-Some.entry fits) (rw c.runnable.ensures.value at c.in-Some.ensures)
+    rw (to_z-of_z w32 c.in-Some.entry fits)
+    (rw (c.runnable.ensures.value, c.as_slice.ensures) at c.in-Some.ensures)
+
+pub returns-in-Ok-clause-answer : goal.returns-in-Ok-clause-answer
+returns-in-Ok-clause-answer g c = inr c.start.ensures.answer
+
+pub returns-in-Err-clause-answer : goal.returns-in-Err-clause-answer
+returns-in-Err-clause-answer g c =
+    stops_at_native c.args.program.now c.args.words.now _ c.in-Some.entry c.in-Err.stop
+    c.tell_stop.result (rw (c.runnable.ensures.value, c.as_slice.ensures) at c.in-Some.ensures)
+    c.in-Err.ensures c.tell_stop.ensures
+
+pub returns-in-Err-clause-calls : goal.returns-in-Err-clause-calls
+returns-in-Err-clause-calls g c =
+    calls_nothing c.args.files.now
+    (stop_no_fault c.in-Err.stop c.tell_stop.result (unserved_no_fault c.in-Err.ensures)
+    c.tell_stop.ensures)
 
 pub returns-in-None-clause-answer : goal.returns-in-None-clause-answer
 returns-in-None-clause-answer g c =
-    stops_at_entry c.args.program.now c.args.words _ c.no_entry.result c.tell_stop.result
-    (rw c.runnable.ensures.value at c.in-None.ensures)
-    c.no_entry.ensures c.tell_stop.ensures
+    stops_at_entry c.args.program.now c.args.words.now _ c.no_entry.result
+    c.tell_stop-in-None.result
+    (rw (c.runnable.ensures.value, c.as_slice.ensures) at c.in-None.ensures)
+    (rw c.as_slice-in-None.ensures at c.no_entry.ensures) c.tell_stop-in-None.ensures
 
 pub returns-in-None-clause-calls : goal.returns-in-None-clause-calls
 returns-in-None-clause-calls g c =
     calls_nothing c.args.files.now
-    (stop_no_fault c.no_entry.result c.tell_stop.result
-    (entry_no_fault _ c.no_entry.result c.no_entry.ensures) c.tell_stop.ensures)
+    (stop_no_fault c.no_entry.result c.tell_stop-in-None.result
+    (entry_no_fault _ c.no_entry.result c.no_entry.ensures) c.tell_stop-in-None.ensures)

@@ -1,7 +1,6 @@
-use Rattle.std.proofs.Common.{◌≡◌, ◌*◌, ◌+◌, ◌≤◌, length, All, arith}
+use Rattle.std.proofs.Common.{All, arith}
 use Rattle.pawn_cells.specs.Cells.{IsCell}
 use Rattle.amx_ops.specs.Keeps.{IsRunnable}
-use Rattle.amx_ops.specs.Writable.{memory_limit}
 use Rattle.amx_ops.proofs.KeepsLaws.{keeps_states}
 use Rattle.commands.proofs.runs.runnable.Goals as goal
 

@@ -1,5 +1,5 @@
-use Rattle.std.proofs.Common.{◌≡◌, ◌∙◌, rules, w32, FitsSigned, refl, sym, ap, subst, List, [], ℕ}
-use Rattle.std.proofs.Common.{ℤ, Ok, Err}
+use Rattle.std.proofs.Common.{◌∙◌, rules, w32, FitsSigned, sym, subst, []}
+use Rattle.std.proofs.Common.{ℤ, Err}
 use Rattle.std.proofs.lemmas.Int.{to_z-of_z}
 use Rattle.command_parts.specs.declared.status.Status.TheVariants as status
 use Rattle.amx_machine.specs.Machine.{Machine, IsIdle}
@@ -15,7 +15,7 @@ pub run_on-requires : goal.run_on-requires
 run_on-requires g c =
     let fits : FitsSigned w32 c.args.entry = search rules in
     let started = rw (to_z-of_z w32 c.args.entry fits) at c.in-Ok.ensures in
-    ready_there c.args.program.now c.args.ready c.args.words.entry.now c.args.entry
+    ready_there c.args.program.now c.args.ready c.args.words.now.entry c.args.entry
     c.requires.prepared c.requires.can c.requires.script
     c.requires.there c.start.new.self started
 
@@ -23,10 +23,10 @@ pub returns-in-Ok-clause-answer : goal.returns-in-Ok-clause-answer
 returns-in-Ok-clause-answer g c =
     let fits : FitsSigned w32 c.args.entry = search rules in
     let started = rw (to_z-of_z w32 c.args.entry fits) at c.in-Ok.ensures in
-    finishes_there _ c.args.program.now c.args.ready c.args.words c.args.entry c.requires.prepared
-    c.requires.there c.start.new.self started
-    c.as_str.result.now c.as_str.ensures _ _ c.args.out.now c.run_on.new.out c.run_on.result
-    c.run_on.ensures.answer
+    finishes_there _ c.args.program.now c.args.ready c.args.words.now c.args.entry
+    c.requires.prepared c.requires.there c.start.new.self started
+    c.as_str-image.result.now c.as_str-image.ensures _ _ c.args.out.now c.run_on.new.out
+    c.run_on.result c.run_on.ensures.answer
 
 pub returns-in-Ok-clause-calls : goal.returns-in-Ok-clause-calls
 returns-in-Ok-clause-calls g c = c.run_on.ensures.calls
@@ -39,8 +39,8 @@ returns-in-Err-clause-answer g c =
     (Err c.in-Err.fault) c.start.new.self in
     let failed = subst P (to_z-of_z w32 c.args.entry fits) c.in-Err.ensures in
     let code_fits : FitsSigned w32 c.code.result = search rules in
-    finishes_at_once _ c.args.program.now c.args.ready c.args.words c.args.entry c.requires.prepared
-    c.requires.there c.in-Err.fault
+    finishes_at_once _ c.args.program.now c.args.ready c.args.words.now c.args.entry
+    c.requires.prepared c.requires.there c.in-Err.fault
     c.start.new.self failed c.code.result c.code.ensures _ c.args.out.now c.say_end.new.out
     c.say_end.result c.told.result
     (rw (to_z-of_z w32 c.code.result code_fits) at c.say_end.ensures) c.told.ensures

@@ -1,5 +1,6 @@
 use Rattle.std.proofs.Common.{Err, ap}
-use Rattle.command_parts.proofs.ReadLaws.{only_as, only_other}
+use Rattle.pawn_outside.proofs.OnlyReadLaws.{read_as}
+use Rattle.command_parts.proofs.ReadCallLaws.{only_other}
 use Rattle.commands.proofs.SourceStopLaws.{source_stop, stop_fault}
 use Rattle.commands.proofs.sources.compiled_source.Goals as goal
 
@@ -8,7 +9,7 @@ returns-in-Ok-clause-calls g c = only_other (λ e. absurd (cc e)) c.in-Ok.ensure
 
 pub returns-in-Err-clause-calls : goal.returns-in-Err-clause-calls
 returns-in-Err-clause-calls g c =
-    only_as (λ e. ap Err (stop_fault c.args.src.now c.in-Err.fault c.stop_of.result
+    read_as (λ e. ap Err (stop_fault c.args.src.now c.in-Err.fault c.stop_of.result
     c.stop_of.ensures.stop (cc e)))
     (λ e. ap Err (c.stop_of.ensures.files (cc e))) c.in-Err.ensures.files
 

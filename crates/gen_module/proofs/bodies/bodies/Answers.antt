@@ -4,7 +4,7 @@ use Rattle.std.proofs.lemmas.Int.{to_z-of_z}
 use Rattle.pawn_meaning.specs.View.{slot_view}
 use Rattle.gen_expr.specs.Built.{with_items}
 use Rattle.gen_module.specs.Source.{program_of}
-use Rattle.gen_module.proofs.PartLaws.{body_part, bodies_row, bodies_begin}
+use Rattle.gen_module.proofs.FunctionRows.{body_part, bodies_row, bodies_begin}
 use Rattle.gen_module.proofs.RowLaws.{Row, row_none, row_more, row_all}
 use Rattle.gen_module.proofs.bodies.bodies.Goals as goal
 

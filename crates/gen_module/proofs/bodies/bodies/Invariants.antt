@@ -1,7 +1,7 @@
 use Rattle.std.proofs.Common.{map}
 use Rattle.pawn_meaning.specs.View.{slot_view}
 use Rattle.gen_module.specs.Source.{program_of}
-use Rattle.gen_module.proofs.PartLaws.{body_part}
+use Rattle.gen_module.proofs.FunctionRows.{body_part}
 use Rattle.gen_module.proofs.RowLaws.{Row}
 use Rattle.gen_module.proofs.bodies.bodies.Given as goal
 

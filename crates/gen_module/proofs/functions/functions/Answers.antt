@@ -3,7 +3,7 @@ use Rattle.std.proofs.Common.{sym, ap, subst, ◌∙◌, arith}
 use Rattle.std.proofs.lemmas.Int.{to_z-of_z}
 use Rattle.gen_expr.specs.Built.{with_items}
 use Rattle.gen_module.specs.Source.{program_of}
-use Rattle.gen_module.proofs.PartLaws.{function_part, functions_row, functions_begin}
+use Rattle.gen_module.proofs.FunctionRows.{function_part, functions_row, functions_begin}
 use Rattle.gen_module.proofs.RowLaws.{Row, row_none, row_more, row_all}
 use Rattle.gen_module.proofs.functions.functions.Goals as goal
 

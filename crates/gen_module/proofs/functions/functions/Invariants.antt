@@ -1,5 +1,5 @@
 use Rattle.gen_module.specs.Source.{program_of}
-use Rattle.gen_module.proofs.PartLaws.{function_part}
+use Rattle.gen_module.proofs.FunctionRows.{function_part}
 use Rattle.gen_module.proofs.RowLaws.{Row}
 use Rattle.gen_module.proofs.functions.functions.Given as goal
 

@@ -10,6 +10,6 @@ use Rattle.gen_stmt.proofs.nodes.local.Goals as goal
 pub returns-clause-code : goal.returns-clause-code
 returns-clause-code c =
     then_plain c.args.b c.in_ok-valued.valued c.in_ok-pushed.pushed
-    (λ exits. value_items (scope_in c.args.place.now c.args.locals.now.made.items)
+    (λ exits. value_items (scope_in c.args.at.now.place c.args.locals.now.made.items)
     (4 * length c.args.b.code.code) (expr_view c.args.e.now))
     (alone op.PushPri ∷ []) c.in_ok-valued.ensures c.in_ok-pushed.ensures

@@ -6,6 +6,6 @@ use Rattle.gen_stmt.proofs.nodes.local_array.Goals as goal
 pub returns-clause-code : goal.returns-clause-code
 returns-clause-code c =
     code_grown c.args.b c.in_ok-code.code
-    (local_array_code (scope_in c.args.place.now c.args.locals.now.made.items) c.args.s
+    (local_array_code (scope_in c.args.at.now.place c.args.locals.now.made.items) c.args.s
     c.args.o)
     c.in_ok-code.ensures

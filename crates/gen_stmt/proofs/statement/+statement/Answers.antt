@@ -29,18 +29,20 @@ use Rattle.gen_stmt.proofs.statement.+statement.Goals as goal
 
 pub part-returns-clause-made : goal.part-returns-clause-made
 part-returns-clause-made t c =
-    back_to c.args.place.now c.args.locals.now c.statement.new.locals c.mark-begun.result
+    let here = c.args.at.now in
+    back_to here.place c.args.locals.now c.statement.new.locals c.mark-begun.result
     (slots_made (stmt_view c.args.s.now)) c.requires.stands
     c.mark-begun.ensures c.in_ok-done.ensures.made c.leave.new.self.made.items c.leave.ensures.made
 
 pub part-returns-clause-within : goal.part-returns-clause-within
 part-returns-clause-within t c =
-    within_same c.args.place.now c.args.since c.args.locals.now c.leave.new.self c.requires
-    (stands_back c.args.place.now c.args.locals.now c.statement.new.locals c.mark-begun.result
+    let here = c.args.at.now in
+    within_same here.place here.since c.args.locals.now c.leave.new.self c.requires
+    (stands_back here.place c.args.locals.now c.statement.new.locals c.mark-begun.result
     (slots_made (stmt_view c.args.s.now)) c.requires.stands
     c.mark-begun.ensures c.in_ok-done.ensures.made c.leave.new.self
     c.in_ok-done.ensures.within.stands c.leave.ensures.keeps)
-    (back_to c.args.place.now c.args.locals.now c.statement.new.locals c.mark-begun.result
+    (back_to here.place c.args.locals.now c.statement.new.locals c.mark-begun.result
     (slots_made (stmt_view c.args.s.now)) c.requires.stands
     c.mark-begun.ensures c.in_ok-done.ensures.made c.leave.new.self.made.items c.leave.ensures.made)
 
@@ -49,17 +51,19 @@ first_part-turn-requires t c = omega (arith, c.in_ok-other.ensures, c.in_ok-firs
 
 pub first_part-returns-clause-code : goal.first_part-returns-clause-code
 first_part-returns-clause-code t c =
+    let here = c.args.at.now in
     first_grown c.args.b c.in_ok-tested.tested c.in_ok-first.first c.in_ok-opened.opened
-    (λ exits q. stmt_items (here_in c.args.place.now c.args.locals.now.made.items c.args.since.made
-    exits) q (stmt_view c.args.s.now))
+    (λ exits q. stmt_items (here_in here.place c.args.locals.now.made.items here.since.made exits) q
+    (stmt_view c.args.s.now))
     c.in_ok-other.other c.in_ok-tested.ensures c.in_ok-other.ensures c.in_ok-first.ensures.code
     c.in_ok-opened.ensures
 
 pub first_part-returns-clause-free : goal.first_part-returns-clause-free
 first_part-returns-clause-free t c =
+    let here = c.args.at.now in
     first_free c.args.b c.in_ok-tested.tested c.in_ok-first.first c.in_ok-opened.opened
-    (λ exits q. stmt_items (here_in c.args.place.now c.args.locals.now.made.items c.args.since.made
-    exits) q (stmt_view c.args.s.now))
+    (λ exits q. stmt_items (here_in here.place c.args.locals.now.made.items here.since.made exits) q
+    (stmt_view c.args.s.now))
     c.in_ok-other.other c.in_ok-tested.ensures c.in_ok-other.ensures c.in_ok-first.ensures.code
     c.in_ok-opened.ensures
 
@@ -74,11 +78,12 @@ body-returns-clause-code t c =
     c.new-begun.result c.in_ok-done.done (stmt_view c.args.s.now)
     c.new-begun.ensures (ap (λ (m : Mark). m.made) c.mark-since.ensures) c.in_ok-done.ensures.code
 
-pub while_loop-returns-clause-code : goal.while_loop-returns-clause-code
-while_loop-returns-clause-code t c =
+pub while_do-returns-clause-code : goal.while_do-returns-clause-code
+while_do-returns-clause-code t c =
+    let here = c.args.at.now in
     let f : FitsSigned w32 c.in_ok-top.top = search rules in
     let g : FitsSigned w32 c.in_ok-more.more = search rules in
-    while_done c.args.place.now c.args.locals.now.made.items c.args.b c.in_ok-tested.tested
+    while_done here.place c.args.locals.now.made.items c.args.b c.in_ok-tested.tested
     c.in_ok-jumped.jumped _ c.in_ok-code.code _
     (expr_view c.args.c.now) (stmt_view c.args.s.now) c.in_ok-top.top c.in_ok-more.more
     c.in_ok-hole.hole c.in_ok-top.ensures c.in_ok-tested.ensures
@@ -109,19 +114,21 @@ for_loop-returns-clause-code t c =
     (rw (to_z-of_z w32 c.in_ok-top.top f, to_z-of_z w32 c.in_ok-more.more g, c.as_slice.ensures) at
     c.in_ok-code.ensures)
 
-pub until_loop-close_until-requires : goal.until_loop-close_until-requires
-until_loop-close_until-requires t c =
+pub do_while-close_until-requires : goal.do_while-close_until-requires
+do_while-close_until-requires t c =
+    let here = c.args.at.now in
     rw c.as_slice.ensures
     (in_more _ (length c.in_ok-tested.tested.code) _ (keeps_cells _ c.in_ok-tested.tested
-    (value_items (scope_in c.args.place.now c.body.new.locals.made.items) _
+    (value_items (scope_in here.place c.body.new.locals.made.items) _
     (expr_view c.args.c.now)) c.in_ok-tested.ensures)
     (c.in_ok-passed.ensures.code.inside tt))
 
-pub until_loop-returns-clause-code : goal.until_loop-returns-clause-code
-until_loop-returns-clause-code t c =
+pub do_while-returns-clause-code : goal.do_while-returns-clause-code
+do_while-returns-clause-code t c =
+    let here = c.args.at.now in
     let f : FitsSigned w32 c.in_ok-top.top = search rules in
     let g : FitsSigned w32 c.in_ok-more.more = search rules in
-    until_loop_done c.args.place.now c.args.locals.now.made.items c.args.b c.in_ok-begun.begun
+    until_loop_done here.place c.args.locals.now.made.items c.args.b c.in_ok-begun.begun
     c.in_ok-tested.tested c.in_ok-code.code _
     (expr_view c.args.c.now) (stmt_view c.args.s.now) c.in_ok-top.top c.in_ok-more.more
     c.in_ok-top.ensures c.in_ok-begun.ensures
@@ -134,12 +141,14 @@ until_loop-returns-clause-code t c =
 
 pub statements-loop-i-init : goal.statements-loop-i-init
 statements-loop-i-init t c =
-    all_left c.args.place.now c.args.since c.args.locals.now c.as_slice-items.result.now c.args.b
+    let here = c.args.at.now in
+    all_left here.place here.since c.args.locals.now c.as_slice-items.result.now c.args.b
     c.requires
 
 pub statements-loop-i-preserved : goal.statements-loop-i-preserved
 statements-loop-i-preserved t c =
-    one_less c.args.place.now c.args.since c.args.locals.now c.loop-i.locals c.statement.new.locals
+    let here = c.args.at.now in
+    one_less here.place here.since c.args.locals.now c.loop-i.locals c.statement.new.locals
     c.as_slice-items.result.now c.loop-i.i
     c.index-items-i.result c.args.b c.loop-i.grown c.in_ok-grown.grown
     (omega arith) c.index-items-i.is c.loop-i.invariant
@@ -147,42 +156,46 @@ statements-loop-i-preserved t c =
 
 pub statements-returns-clause-code : goal.statements-returns-clause-code
 statements-returns-clause-code t c =
+    let here = c.args.at.now in
     rw (sym c.as_slice-items.ensures)
-    (none_left c.args.place.now c.args.since c.args.locals.now c.loop-i.locals
+    (none_left here.place here.since c.args.locals.now c.loop-i.locals
     c.as_slice-items.result.now c.loop-i.i c.args.b c.loop-i.grown
     (omega arith) c.loop-i.invariant).1
 
 -- ---- cases
 
 pub all_cases-loop-i-init : goal.all_cases-loop-i-init
-all_cases-loop-i-init t c = (
-  refl,
-  c.requires,
-  cases_first c.args.place.now c.args.locals.now.made.items c.args.since.made
-      c.as_slice-items.result.now _ c.in_ok-draft.draft
-      c.new-begins.result c.new-ends.result c.in_ok-draft.ensures c.new-begins.ensures
-      c.new-ends.ensures,
-)
+all_cases-loop-i-init t c =
+    let here = c.args.at.now in (
+      refl,
+      c.requires,
+      cases_first here.place c.args.locals.now.made.items here.since.made
+          c.as_slice-items.result.now _ c.in_ok-draft.draft
+          c.new-begins.result c.new-ends.result c.in_ok-draft.ensures c.new-begins.ensures
+          c.new-ends.ensures,
+    )
 
 pub one_case-returns-clause-code : goal.one_case-returns-clause-code
 one_case-returns-clause-code t c =
+    let here = c.args.at.now in
     one_done c.args.b c.in_ok-done.done c.in_ok-jumped.jumped c.in_ok-hole.hole
-    (λ exits. stmt_items (here_in c.args.place.now c.args.locals.now.made.items c.args.since.made
-    exits) (4 * length c.args.b.code.code)
+    (λ exits. stmt_items (here_in here.place c.args.locals.now.made.items here.since.made exits)
+    (4 * length c.args.b.code.code)
     (stmt_view c.args.case.now.stmt)) c.in_ok-done.ensures.code c.in_ok-jumped.ensures
     c.in_ok-hole.ensures.at c.in_ok-hole.ensures.exit
 
 pub all_cases-loop-i-preserved : goal.all_cases-loop-i-preserved
 all_cases-loop-i-preserved t c =
+    let here = c.args.at.now in
     let f : FitsSigned w32 c.in_ok-address.field-0 = search rules in (
       c.in_ok-next.ensures.made ∙ c.loop-i.invariant.0,
       c.in_ok-next.ensures.within,
-      case_pushed c.args.place.now c.args.locals.now.made.items c.args.since.made
+      case_pushed here.place c.args.locals.now.made.items here.since.made
           c.as_slice-items.result.now c.loop-i.i c.index-items-i.result _
           c.loop-i.draft _ c.loop-i.begins _ c.loop-i.ends _ c.in_ok-address.field-0 _
           (omega arith) c.index-items-i.is c.loop-i.invariant.2 c.in_ok-address.ensures
-          (made_as c.args.place.now c.loop-i.locals.made.items c.args.locals.now.made.items
-          c.args.since.made (4 * length c.loop-i.draft.code.code)
+          (made_as here.place c.loop-i.locals.made.items c.args.locals.now.made.items
+          here.since.made (4 * length c.loop-i.draft.code.code)
           c.loop-i.draft _ _ (stmt_view c.index-items-i.result.stmt) c.loop-i.invariant.0
           c.in_ok-next.ensures.code)
           (rw (to_z-of_z w32 c.in_ok-address.field-0 f) at c.in_ok-push.ensures.ok)
@@ -191,23 +204,25 @@ all_cases-loop-i-preserved t c =
 
 pub all_cases-returns-clause-cased : goal.all_cases-returns-clause-cased
 all_cases-returns-clause-cased t c =
+    let here = c.args.at.now in
     let f : FitsSigned w32 c.in_ok-default.default = search rules in
     rw (to_z-of_z w32 c.in_ok-default.default f, sym c.as_slice-items.ensures)
-    (cases_done c.args.place.now c.args.locals.now.made.items c.args.since.made
+    (cases_done here.place c.args.locals.now.made.items here.since.made
     c.as_slice-items.result.now c.loop-i.i c.args.b _ c.loop-i.draft _
-    (omega arith) refl c.loop-i.invariant.2 c.in_ok-at.ensures c.in_ok-default.ensures)
+    (omega arith) refl c.loop-i.invariant.2 c.in_ok-table.ensures c.in_ok-default.ensures)
 
 -- ---- statements
 
 pub statement-returns-in_ok-done-in-Block-clause-code
     : goal.statement-returns-in_ok-done-in-Block-clause-code
 statement-returns-in_ok-done-in-Block-clause-code t c =
+    let here = c.args.at.now in
     let made = c.args.locals.now.made.items in
-    seen_code c.leave_block.result c.args.place.now made c.args.since.made
+    seen_code c.leave_block.result here.place made here.since.made
     (4 * length c.args.b.code.code) c.args.b (stmt_view c.args.s.now)
     (plain.Block (stmts_view c.in-Block.list))
     (ap stmt_view c.in-Block.is ∙ stmt_view-Block c.in-Block.list)
-    (block_done c.args.place.now c.args.since.made c.args.locals.now.cells made
+    (block_done here.place here.since.made c.args.locals.now.cells made
     c.statements.new.locals.made.items c.mark-begun.result
     (stmts_view c.in-Block.list) c.args.b c.in_ok-done-in-Block.done c.leave_block.result
     c.in_ok-done-in-Block.ensures.code c.mark-begun.ensures
@@ -216,17 +231,18 @@ statement-returns-in_ok-done-in-Block-clause-code t c =
 pub statement-returns-in_ok-second-in-If-clause-code
     : goal.statement-returns-in_ok-second-in-If-clause-code
 statement-returns-in_ok-second-in-If-clause-code t c =
+    let here = c.args.at.now in
     let made = c.args.locals.now.made.items in
     let p = 4 * length c.args.b.code.code in
-    seen_code c.land.result c.args.place.now made c.args.since.made p c.args.b
+    seen_code c.land.result here.place made here.since.made p c.args.b
     (stmt_view c.args.s.now)
     (plain.If (expr_view c.in-If.c) (stmt_view c.in-If.a.value) (else_view c.in-If.other))
     (ap stmt_view c.in-If.is ∙ stmt_view-If c.in-If.c c.in-If.a c.in-If.other)
     (if_done c.args.b _ c.in_ok-first-in-If.first c.in_ok-second-in-If.second c.land.result
-    (value_items (scope_in c.args.place.now made) p (expr_view c.in-If.c))
-    (λ exits q. stmt_items (here_in c.args.place.now made c.args.since.made exits) q
+    (value_items (scope_in here.place made) p (expr_view c.in-If.c))
+    (λ exits q. stmt_items (here_in here.place made here.since.made exits) q
     (stmt_view c.in-If.a.value))
-    (λ exits q. else_items (here_in c.args.place.now made c.args.since.made exits) q
+    (λ exits q. else_items (here_in here.place made here.since.made exits) q
     (else_view c.in-If.other)) c.in_ok-end-in-If.end
     c.in_ok-effect-in-If.ensures (rw c.deref.ensures at c.in_ok-first-in-If.ensures.code)
     c.in_ok-first-in-If.ensures.free c.in_ok-end-in-If.ensures
@@ -235,13 +251,14 @@ statement-returns-in_ok-second-in-If-clause-code t c =
 pub statement-returns-in_ok-done-in-For-clause-code
     : goal.statement-returns-in_ok-done-in-For-clause-code
 statement-returns-in_ok-done-in-For-clause-code t c =
+    let here = c.args.at.now in
     let made = c.args.locals.now.made.items in
-    seen_code c.leave_block-in-For.result c.args.place.now made c.args.since.made
+    seen_code c.leave_block-in-For.result here.place made here.since.made
     (4 * length c.args.b.code.code) c.args.b (stmt_view c.args.s.now)
     (plain.For (stmts_view c.in-For.first) (perhaps_view c.in-For.c) (perhaps_view c.in-For.next)
     (stmt_view c.in-For.s.value))
     (ap stmt_view c.in-For.is ∙ stmt_view-For c.in-For.first c.in-For.c c.in-For.next c.in-For.s)
-    (for_done c.args.place.now c.args.since.made c.args.locals.now.cells made
+    (for_done here.place here.since.made c.args.locals.now.cells made
     c.statements-in-For.new.locals.made.items c.for_loop.new.locals.made.items
     c.mark-begun-in-For.result (stmts_view c.in-For.first) (perhaps_view c.in-For.c)
     (perhaps_view c.in-For.next) (stmt_view c.in-For.s.value)
@@ -263,18 +280,19 @@ statement-close-requires-clause-ends t c =
 pub statement-returns-in_ok-done-in-Switch-clause-code
     : goal.statement-returns-in_ok-done-in-Switch-clause-code
 statement-returns-in_ok-done-in-Switch-clause-code t c =
+    let here = c.args.at.now in
     let made = c.args.locals.now.made.items in
     let p = 4 * length c.args.b.code.code in
-    seen_code c.close.result c.args.place.now made c.args.since.made p c.args.b
+    seen_code c.close.result here.place made here.since.made p c.args.b
     (stmt_view c.args.s.now)
     (plain.Switch (expr_view c.in-Switch.e) (cases_view c.in-Switch.cases)
     (else_view c.in-Switch.other))
     (ap stmt_view c.in-Switch.is ∙ stmt_view-Switch c.in-Switch.e c.in-Switch.cases
     c.in-Switch.other)
-    (switch_done c.args.place.now made c.args.since.made c.args.b c.in_ok-valued-in-Switch.valued _
+    (switch_done here.place made here.since.made c.args.b c.in_ok-valued-in-Switch.valued _
     c.in_ok-done-in-Switch.done _ c.close.result
     (cases_view c.in-Switch.cases) (else_view c.in-Switch.other)
-    (value_items (scope_in c.args.place.now made) p (expr_view c.in-Switch.e))
+    (value_items (scope_in here.place made) p (expr_view c.in-Switch.e))
     c.in_ok-valued-in-Switch.ensures c.in_ok-cased-in-Switch.ensures.cased
     (rw c.in_ok-cased-in-Switch.ensures.made at c.in_ok-done-in-Switch.ensures.code)
     (rw c.as_slice.ensures at c.close.ensures))

@@ -8,7 +8,7 @@ use Rattle.types_rules.specs.TypedTrees.{Checked}
 use Rattle.check_source.specs.SourceView.{source_view}
 use Rattle.check_declarations.specs.DoneView.{done_view}
 use Rattle.pawn_check.specs.TreeParts.{checked_by}
-use Rattle.pawn_check.proofs.WholeLaws.{whole_within}
+use Rattle.pawn_check.proofs.TogetherLaws.{whole_within}
 use Rattle.pawn_check.proofs.source_verdict.finish.Goals as goal
 
 pub returns : goal.returns

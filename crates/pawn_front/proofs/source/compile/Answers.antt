@@ -1,23 +1,27 @@
 use Rattle.std.proofs.Common.{refl}
+use Rattle.std.proofs.lemmas.Result.{err_from_is_err_and}
 use Rattle.pawn_front.proofs.CompileLaws.{compiles, not_compiled, read_before, read_fault}
 use Rattle.pawn_front.proofs.source.compile.Goals as goal
 
-pub returns-in-Ok-clause-answer : goal.returns-in-Ok-clause-answer
-returns-in-Ok-clause-answer g c =
-    compiles (g.F.Files.held c.args.files.now) c.args.name.now c.in-Ok.lines c.args.encoding
-    c.compiled_lines.result c.in-Ok.ensures.answers
-    c.compiled_lines.ensures
+pub returns-in_err-lines-clause-answer : goal.returns-in_err-lines-clause-answer
+returns-in_err-lines-clause-answer g c =
+    let p = err_from_is_err_and c.from_residual.result c.from_residual.ensures.1 in
+    rw p.1
+    (not_compiled (g.F.Files.held c.args.files.now) c.args.name.now c.in_err-lines.field-0.0 p.0
+    c.in_err-lines.ensures.answers p.2)
 
-pub returns-in-Err-clause-answer : goal.returns-in-Err-clause-answer
-returns-in-Err-clause-answer g c =
-    not_compiled (g.F.Files.held c.args.files.now) c.args.name.now c.in-Err.fault c.fault_of.result
-    c.in-Err.ensures.answers c.fault_of.ensures
+pub returns-in_err-lines-clause-files : goal.returns-in_err-lines-clause-files
+returns-in_err-lines-clause-files g c =
+    let p = err_from_is_err_and c.from_residual.result c.from_residual.ensures.1 in
+    read_fault c.in_err-lines.field-0.0 p.0 p.2 refl p.1 c.in_err-lines.ensures.files
 
-pub returns-in-Ok-clause-files : goal.returns-in-Ok-clause-files
-returns-in-Ok-clause-files g c =
-    read_before c.in-Ok.lines c.args.encoding c.compiled_lines.result c.compiled_lines.ensures refl
-    c.in-Ok.ensures.files
+pub returns-clause-answer : goal.returns-clause-answer
+returns-clause-answer g c =
+    compiles (g.F.Files.held c.args.files.now) c.args.name.now c.in_ok-lines.lines c.args.encoding
+    c.compile_lines.result c.in_ok-lines.ensures.answers
+    c.compile_lines.ensures
 
-pub returns-in-Err-clause-files : goal.returns-in-Err-clause-files
-returns-in-Err-clause-files g c =
-    read_fault c.in-Err.fault c.fault_of.result c.fault_of.ensures refl refl c.in-Err.ensures.files
+pub returns-clause-files : goal.returns-clause-files
+returns-clause-files g c =
+    read_before c.in_ok-lines.lines c.args.encoding c.compile_lines.result c.compile_lines.ensures
+    refl c.in_ok-lines.ensures.files

@@ -6,5 +6,5 @@ pub returns-in-Source : goal.returns-in-Source
 returns-in-Source c =
     let breaks : Breaks c.args.lines.now c.in-Source.kind c.in-Source.place =
     rw c.in-Source.is at c.requires in
-    refuses_lines c.args.lines.now c.in-Source.kind c.in-Source.place c.refused.result breaks
-    c.refused.ensures
+    refuses_lines c.args.lines.now c.in-Source.kind c.in-Source.place c.refusal.result breaks
+    c.refusal.ensures

@@ -4,7 +4,7 @@ use Rattle.std.proofs.lemmas.Grind.{common_steps}
 use Rattle.pawn_cells.specs.Operators.{cell_in}
 use Rattle.pawn_meaning.specs.Program as plain
 use Rattle.pawn_meaning.specs.View.{expr_view, arg_view, links_view}
-use Rattle.pawn_meaning.proofs.ViewLaws.{expr_view-Chain}
+use Rattle.pawn_meaning.proofs.ViewLaws.{seen_chain}
 use Rattle.pawn_meaning.specs.Capped.{capped}
 use Rattle.pawn_meaning.specs.Fold.{is_constant, are_constant, constant_value, links_value}
 use Rattle.pawn_meaning.specs.Fold.{binary_value, and_value, or_value, choice_value}
@@ -80,9 +80,7 @@ weigh-returns-in-Cond-clause-weight t c =
 
 pub weigh-returns-in-Chain-clause-constant : goal.weigh-returns-in-Chain-clause-constant
 weigh-returns-in-Chain-clause-constant t c =
-    let e : expr_view c.args.expr.now
-    ≡ (plain.Chain (expr_view c.in-Chain.x.value) (links_view c.in-Chain.links)) =
-    rw c.in-Chain.is (expr_view-Chain c.in-Chain.x c.in-Chain.links) in
+    let e = seen_chain _ c.in-Chain.x c.in-Chain.links c.in-Chain.is in
     let k : c.built-in-Chain.result.share.constant
     ≡ (is_constant (expr_view c.in-Chain.x.value)
     && are_constant (links_view c.in-Chain.links)) = grind (arith, common_steps) in
@@ -90,9 +88,7 @@ weigh-returns-in-Chain-clause-constant t c =
 
 pub weigh-returns-in-Chain-clause-value : goal.weigh-returns-in-Chain-clause-value
 weigh-returns-in-Chain-clause-value t c =
-    let e : expr_view c.args.expr.now
-    ≡ (plain.Chain (expr_view c.in-Chain.x.value) (links_view c.in-Chain.links)) =
-    rw c.in-Chain.is (expr_view-Chain c.in-Chain.x c.in-Chain.links) in
+    let e = seen_chain _ c.in-Chain.x c.in-Chain.links c.in-Chain.is in
     let law =
     chain_law (constant_value (expr_view c.in-Chain.x.value)) c.in-Chain.links
     c.is_empty.result c.is_empty.ensures in
@@ -103,9 +99,7 @@ weigh-returns-in-Chain-clause-value t c =
 
 pub weigh-returns-in-Chain-clause-weight : goal.weigh-returns-in-Chain-clause-weight
 weigh-returns-in-Chain-clause-weight t c =
-    let e : expr_view c.args.expr.now
-    ≡ (plain.Chain (expr_view c.in-Chain.x.value) (links_view c.in-Chain.links)) =
-    rw c.in-Chain.is (expr_view-Chain c.in-Chain.x c.in-Chain.links) in
+    let e = seen_chain _ c.in-Chain.x c.in-Chain.links c.in-Chain.is in
     let law =
     chain_law (constant_value (expr_view c.in-Chain.x.value)) c.in-Chain.links
     c.is_empty.result c.is_empty.ensures in

@@ -1,5 +1,6 @@
 use Rattle.std.proofs.Common.{◌≡◌, Some}
 use Rattle.pawn_outside.specs.Held.{Held}
+use Rattle.pawn_outside.specs.OnlyRead.{OnlyRead}
 use Rattle.pawn_pre.specs.ConditionMachine.{value_of}
 use Rattle.pawn_pre.specs.Sound.{IsSoundStack}
 use Rattle.pawn_pre.specs.Remaining.{remaining}
@@ -9,9 +10,7 @@ use Rattle.pawn_pre.proofs.source.drive.Given as goal
 
 abbrev pub invariant-loop-walk : goal.invariant-loop-walk
 invariant-loop-walk g l = record {
-  same : g.F.Files.held l.files ≡ g.F.Files.held l.fn.files;
-  unfailing : g.F.Files.never_fails l.fn.files → g.F.Files.never_fails l.files;
-  steady : g.F.Files.faults l.files ≡ g.F.Files.faults l.fn.files;
+  read : OnlyRead g.F.Files.held g.F.Files.faults g.F.Files.never_fails l.fn.files l.files ⊥;
   leads : (map : Held) → g.F.Files.held l.fn.files ≡ Some map → (o : Outcome) →
       Ends value_of map l.walk o → Ends value_of map l.fn.walk o;
   sound : IsSoundStack l.fn.walk → IsSoundStack l.walk;

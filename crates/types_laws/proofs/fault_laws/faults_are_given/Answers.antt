@@ -1,4 +1,4 @@
-use Rattle.types_laws.proofs.WholeFaults as whole
+use Rattle.types_laws.proofs.ProgramFaults as whole
 use Rattle.types_laws.proofs.fault_laws.faults_are_given.Goals as goal
 
 pub returns-clause-whole : goal.returns-clause-whole

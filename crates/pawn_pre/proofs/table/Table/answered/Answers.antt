@@ -1,13 +1,10 @@
-use Rattle.std.proofs.Common.{◌≡◌, ◌∷◌, ◌+◌, ◌-◌, drop, get_or, length, arith}
-use Rattle.std.proofs.lemmas.Grind.{common_steps}
-use Rattle.pawn_pre.proofs.AnswerLaws.{kept_byte, answered_name}
+use Rattle.std.proofs.Common.{◌≡◌, ◌+◌, ◌-◌, drop, length, arith}
+use Rattle.pawn_pre.proofs.AnswerLaws.{next_bytes, kept_byte, answered_name}
 use Rattle.pawn_pre.proofs.table.Table.answered.Goals as goal
 
 pub loop-i-preserved-in-Some : goal.loop-i-preserved-in-Some
 loop-i-preserved-in-Some c =
-    let cut : drop c.loop-i.i c.args.bytes.now
-    ≡ get_or c.args.bytes.now c.loop-i.i 0 ∷ drop (c.loop-i.i + 1) c.args.bytes.now =
-    grind (arith, common_steps) in
+    let cut = next_bytes c.args.bytes.now c.loop-i.i (grind arith) in
     let first : c.loop-i.left ≡ 0 = grind arith in
     let so_far = rw (cut, first) at c.loop-i.invariant in
     let found =
@@ -28,9 +25,7 @@ loop-i-preserved-in-Some c =
 
 pub loop-i-preserved : goal.loop-i-preserved
 loop-i-preserved c =
-    let cut : drop c.loop-i.i c.args.bytes.now
-    ≡ get_or c.args.bytes.now c.loop-i.i 0 ∷ drop (c.loop-i.i + 1) c.args.bytes.now =
-    grind (arith, common_steps) in
+    let cut = next_bytes c.args.bytes.now c.loop-i.i (grind arith) in
     let first : c.loop-i.left ≡ 0 = grind arith in
     let so_far = rw (cut, first) at c.loop-i.invariant in
     let found =

@@ -10,7 +10,7 @@ returns-in-None-clause-bounds g c = λ k.
     let old =
     row_sound _ c.take_row.new.self (ap (λ (t : Level). t.file) c.take_row.ensures.rest)
     (subst IsSoundStack (sym c.self.view_is) k) in
-    told_leaves (record c.args.self.now { names = _ }) _ _ _ _ c.told.ensures
+    told_leaves (record c.args.self.now { names = _ }) _ _ _ _ c.line_answer.ensures
     (kept_page _ c.keep-done.new.self _ _ _ old c.keep-done.ensures)
 
 pub returns-in-Include-clause-bounds : goal.returns-in-Include-clause-bounds
@@ -30,13 +30,13 @@ returns-clause-bounds g c = λ k.
     let old =
     row_sound _ c.take_row.new.self (ap (λ (t : Level). t.file) c.take_row.ensures.rest)
     (subst IsSoundStack (sym c.self.view_is) k) in
-    told_leaves (record c.args.self.now { names = _ }) _ _ _ _ c.told-in-Define.ensures
+    told_leaves (record c.args.self.now { names = _ }) _ _ _ _ c.line_answer-in-Define.ensures
     (acted_page _ c.act-done.new.self _ _ _ _ old c.act-done.ensures)
 
 pub returns-in-None-clause-falls : goal.returns-in-None-clause-falls
 returns-in-None-clause-falls g c = rw (← c.self.view_is)
     (kept_line _ c.take_row.new.self c.in-Some.row c.in-Some.ensures.row c.take_row.ensures.rest
-    c.keep-done.new.self _ _ _ _ _ _ c.keep-done.ensures c.told.ensures)
+    c.keep-done.new.self _ _ _ _ _ _ c.keep-done.ensures c.line_answer.ensures)
 
 pub returns-in-Include-clause-falls : goal.returns-in-Include-clause-falls
 returns-in-Include-clause-falls g c = rw (← c.self.view_is)
@@ -51,4 +51,4 @@ returns-in-TryInclude-clause-falls g c = rw (← c.self.view_is)
 pub returns-clause-falls : goal.returns-clause-falls
 returns-clause-falls g c = rw (← c.self.view_is)
     (acted_line _ c.take_row.new.self c.in-Some.row c.in-Some.ensures.row c.take_row.ensures.rest
-    c.act-done.new.self _ _ _ _ _ _ _ c.act-done.ensures c.told-in-Define.ensures)
+    c.act-done.new.self _ _ _ _ _ _ _ c.act-done.ensures c.line_answer-in-Define.ensures)

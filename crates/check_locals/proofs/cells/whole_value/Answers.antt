@@ -1,5 +1,0 @@
-use Rattle.check_locals.proofs.ToldLaws.{tells}
-use Rattle.check_locals.proofs.cells.whole_value.Goals as goal
-
-pub returns : goal.returns
-returns c = rw c.told.ensures (tells _ _ _ c.array_value.ensures)

@@ -1,9 +1,0 @@
-use Rattle.std.proofs.Common.{◌∙◌, inl, inr, ap, refl}
-use Rattle.command_parts.specs.declared.stop.Stop.TheVariants.{NoFile}
-use Rattle.commands.proofs.sources.no_source.Goals as goal
-
-pub returns-in-Ok : goal.returns-in-Ok
-returns-in-Ok c = inl (ap NoFile (c.in-Ok.ensures ∙ c.as_bytes.ensures.value))
-
-pub returns-in-Err : goal.returns-in-Err
-returns-in-Err c = inr refl

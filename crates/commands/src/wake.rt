@@ -1,0 +1,67 @@
+ghost use Rattle.host_script.specs.Ranges.{IsScript};
+ghost use Rattle.amx_format.specs.Limits.{IsWithinLimits};
+ghost use Rattle.commands.specs.Wakes.{Wakes};
+
+use super::ready_segment::{ReadySegment, ready_at};
+use amx_image::{ImageFault, restore_into};
+use amx_machine::Machine;
+use command_parts::{Program, Stop};
+use pawn_base::Memory;
+use std::alloc::Global;
+
+/// Why a machine isn't woken at an image.
+#[derive(Drop)]
+pub enum WakeFault {
+    Stop(Stop),
+    Image(ImageFault),
+}
+
+impl From<Memory> for WakeFault {
+    ghost use Rattle.std.specs.Prelude.{◌≡◌};
+    ghost use Rattle.command_parts.specs.declared.stop.Stop.TheVariants.{NoMemory};
+    ghost use Rattle.commands.specs.declared.wake.WakeFault.TheVariants as variants;
+
+    ghost from_gives = { λ _ fault. fault ≡ variants.Stop NoMemory };
+
+    fn from(_: Memory) -> WakeFault {
+        WakeFault::Stop(Stop::NoMemory)
+    }
+}
+
+impl From<Stop> for WakeFault {
+    ghost use Rattle.std.specs.Prelude.{◌≡◌};
+    ghost use Rattle.commands.specs.declared.wake.WakeFault.TheVariants as variants;
+
+    ghost from_gives = { λ stop fault. fault ≡ variants.Stop stop };
+
+    fn from(stop: Stop) -> WakeFault {
+        WakeFault::Stop(stop)
+    }
+}
+
+impl From<ImageFault> for WakeFault {
+    ghost use Rattle.std.specs.Prelude.{◌≡◌};
+    ghost use Rattle.commands.specs.declared.wake.WakeFault.TheVariants as variants;
+
+    ghost from_gives = { λ image fault. fault ≡ variants.Image image };
+
+    fn from(fault: ImageFault) -> WakeFault {
+        WakeFault::Image(fault)
+    }
+}
+
+/// A machine of a program, set to the state of an image, with all that it takes to go on.
+pub fn wake<'p>(
+    alloc: Global,
+    image: &[u8],
+    program: &'p Program,
+) -> Result<ReadySegment<'p>, WakeFault>
+    requires limits { IsWithinLimits program.now.file }
+    requires script { IsScript program.now.script }
+    ensures { Wakes program.now image.now result }
+{
+    let mut machine = Machine::load(alloc, &program.file)?;
+    let at = restore_into(&mut machine, &program.file, &program.digest, image)?;
+    let ready = ready_at(alloc, machine, at, program)?;
+    Ok(ready)
+}

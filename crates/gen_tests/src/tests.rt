@@ -1,0 +1,6 @@
+mod arrays;
+mod data;
+mod frames;
+mod generated_nodes;
+mod lists;
+mod places;

@@ -1,5 +1,0 @@
-use Rattle.pawn_front.proofs.SourceLaws as laws
-use Rattle.pawn_front.proofs.laws.a_source_has_one_program.Goals as goal
-
-pub returns : goal.returns
-returns c = laws.a_source_has_one_program

@@ -1,0 +1,11 @@
+mod cells;
+mod ground;
+mod includes;
+mod large_sources;
+mod line_sources;
+mod lines;
+mod macros;
+mod name_tables;
+mod outside;
+mod shown_lines;
+mod tokens;

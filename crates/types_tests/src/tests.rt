@@ -1,0 +1,16 @@
+mod arrays;
+mod automata;
+mod calls;
+mod declared_names;
+mod deep_blocks;
+mod judged_names;
+mod judged_types;
+mod name_sources;
+mod rooms;
+mod shown_trees;
+mod states;
+mod tag_operators;
+mod tag_warnings;
+mod towers;
+mod tree_sources;
+mod trees;
