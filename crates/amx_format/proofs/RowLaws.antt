@@ -13,7 +13,7 @@ use Rattle.std.specs.Int.{w32, cast_unsigned}
 use Rattle.amx_compact.specs.Spelled.{Shortest, ShortestAll}
 use Rattle.amx_ops.specs.declared.amx.Amx.{Amx}
 use Rattle.amx_ops.specs.declared.amx.Record.{Record}
-use Rattle.amx_ops.specs.Writable.{names_size, cells_of}
+use Rattle.amx_ops.specs.Writable.{names_size, stored_cells}
 use Rattle.amx_format.specs.declared.encoding.Encoding.{Encoding}
 use Rattle.amx_format.specs.declared.encoding.Encoding.TheVariants.{Plain, Compact}
 use Rattle.amx_format.specs.Layout.{word, cells, table, names, all_records, IsRow}
@@ -92,7 +92,7 @@ row_short Compact row bytes s = length-shortest row bytes s
 
 -- those of a file
 pub cells_short : (encoding : Encoding) (amx : Amx) (row : List ℕ)
-    → IsRow encoding (amx.code ++ amx.store) row → length row ≤ 5 * cells_of amx
+    → IsRow encoding (amx.code ++ amx.store) row → length row ≤ 5 * stored_cells amx
 cells_short encoding amx row is_row =
     omega (
       arith,

@@ -3,7 +3,8 @@ ghost use Rattle.std.specs.Prelude.{List as ListOf, length, IfOk, OnOk, FitsSign
 ghost use Rattle.std.specs.Int.{w32};
 ghost use Rattle.pawn_base.specs.Cells.{AreCells};
 ghost use Rattle.amx_compact.specs.Spelled.{ShortestAll};
-ghost use Rattle.amx_ops.specs.Writable.{IsWritable, cells_of, table_size, names_size, over_tables};
+ghost use Rattle.amx_ops.specs.Writable.{IsWritable, stored_cells, table_size, names_size};
+ghost use Rattle.amx_ops.specs.Writable.{over_tables};
 ghost use Rattle.amx_format.specs.Layout.{half, word, words, cells, table, names, zeros, flag_of};
 ghost use Rattle.amx_format.specs.Layout.{all_records, header_bytes, layout_header, layout};
 ghost use Rattle.amx_format.specs.Layout.{IsRow, IsLayout};
@@ -192,7 +193,7 @@ fn flags_for(flags: u16, encoding: Encoding) -> u16
 /// The header of a file whose code and data take so many bytes.
 fn header_for(publics: &[Record], amx: &Amx, encoding: Encoding, row: u32) -> Header
     requires writable { IsWritable (with_publics amx.now publics.now) }
-    requires row { row ≤ 5 * cells_of amx.now }
+    requires row { row ≤ 5 * stored_cells amx.now }
     ensures { result ≡ layout_header encoding (with_publics amx.now publics.now) row }
 {
     let natives = HEADER + table_size_of(publics);

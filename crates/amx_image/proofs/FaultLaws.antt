@@ -19,7 +19,7 @@ use Rattle.amx_image.specs.declared.version.Version.{Version}
 use Rattle.amx_image.specs.declared.version.Version.TheVariants.{Whole, Live}
 use Rattle.amx_image.specs.declared.version.TheConstants.{WHOLE, LIVE}
 use Rattle.amx_image.specs.declared.place.TheConstants.{MAGIC, VERSION, ZERO, DIGEST, COUNT, CELLS}
-use Rattle.amx_image.specs.Version.{number_of, version_of}
+use Rattle.amx_image.specs.Version.{version_number, version_of}
 use Rattle.amx_image.specs.Image.{registers_at, IsImage}
 use Rattle.amx_image.specs.Faults.{has_magic, version_in, has_digest, has_count, is_heap, is_stack}
 use Rattle.amx_image.specs.Faults.{are_zero, has_cells, cells_fault, state_fault, fault_behind}
@@ -61,7 +61,7 @@ and_so false b f g = absurd (false≢true f)
 
 by_number : (n : ℕ) (v : Version) (a b : Bool) → (n == WHOLE) ≡ a → (n == LIVE) ≡ b
     → (if a then Some Whole else if b then Some Live else None) ≡ Some v
-    → n ≡ number_of v
+    → n ≡ version_number v
 by_number n Whole true b e f h = eqb-true n WHOLE e
 by_number n Live true b e f h = absurd (let no : ⊥ = cc in no)
 by_number n Whole false true e f h = absurd (let no : ⊥ = cc in no)
@@ -69,11 +69,11 @@ by_number n Live false true e f h = eqb-true n LIVE f
 by_number n v false false e f h = absurd (let no : ⊥ = cc in no)
 
 by_zero : (z n : ℕ) (v : Version) (a : Bool) → (z == 0) ≡ a
-    → (if a then version_of n else None) ≡ Some v → (z ≡ 0) × (n ≡ number_of v)
+    → (if a then version_of n else None) ≡ Some v → (z ≡ 0) × (n ≡ version_number v)
 by_zero z n v true e h = (eqb-true z 0 e, by_number n v (n == WHOLE) (n == LIVE) refl refl h)
 by_zero z n v false e h = absurd (let no : ⊥ = cc in no)
 
-version_back : (v : Version) → version_of (number_of v) ≡ Some v
+version_back : (v : Version) → version_of (version_number v) ≡ Some v
 version_back Whole = refl
 version_back Live = refl
 
@@ -90,7 +90,7 @@ pub record IsSound (amx : Amx) (count : ℕ) (version : Version)
     (digest bytes : List ℕ) : Type 0 where
   pub long : CELLS ≤ length bytes
   pub magic : take 4 bytes ≡ MAGIC
-  pub version_is : half_at bytes VERSION ≡ number_of version
+  pub version_is : half_at bytes VERSION ≡ version_number version
   pub zero_is : half_at bytes ZERO ≡ 0
   pub digest_is : take 32 (drop DIGEST bytes) ≡ digest
   pub count_is : word_at bytes COUNT ≡ count

@@ -14,7 +14,7 @@ use Rattle.amx_format.specs.Numbers.{cells_at}
 use Rattle.amx_image.specs.declared.version.Version.{Version}
 use Rattle.amx_image.specs.declared.version.Version.TheVariants.{Whole, Live}
 use Rattle.amx_image.specs.declared.place.TheConstants.{CELLS}
-use Rattle.amx_image.specs.Version.{number_of}
+use Rattle.amx_image.specs.Version.{version_number}
 use Rattle.amx_image.specs.Image.{stored, IsImage}
 use Rattle.amx_image.specs.Resumed.{AnImageIsOfOneState}
 
@@ -25,7 +25,7 @@ address_back n h = of_z-to_z w32 n h
 pub same_address : (m n : ℕ) → m < 2 ^ 32 → n < 2 ^ 32 → cell_of m ≡ cell_of n → m ≡ n
 same_address m n f g e = sym (address_back m f) ∙ ap bits_of e ∙ address_back n g
 
-pub same_version : (v w : Version) → number_of v ≡ number_of w → v ≡ w
+pub same_version : (v w : Version) → version_number v ≡ version_number w → v ≡ w
 same_version Whole Whole e = refl
 same_version Whole Live e = absurd (let no : ⊥ = omega (arith, e) in no)
 same_version Live Whole e = absurd (let no : ⊥ = omega (arith, e) in no)

@@ -20,7 +20,7 @@ use Rattle.amx_image.specs.declared.version.Version.TheVariants.{Live}
 use Rattle.amx_image.specs.declared.version.TheConstants.{LIVE}
 use Rattle.amx_image.specs.declared.place.TheConstants.{MAGIC, VERSION, ZERO, DIGEST, POSITION, PRI}
 use Rattle.amx_image.specs.declared.place.TheConstants.{COUNT, CELLS}
-use Rattle.amx_image.specs.Version.{number_of}
+use Rattle.amx_image.specs.Version.{version_number}
 use Rattle.amx_image.specs.Image.{stored, registers_at, IsImage}
 use Rattle.amx_image.specs.Spelled.{row_of, front, spelled}
 use Rattle.amx_image.proofs.ImageLaws.{address_back}
@@ -151,7 +151,7 @@ module _ (s : State) (position : ℕ) (digest : List ℕ) (r : Registers) (heap 
         length-append heap stack,
       )
 
-  version_there : half_at bytes VERSION ≡ number_of Live
+  version_there : half_at bytes VERSION ≡ version_number Live
   unfolding half half_at
   version_there = refl
 

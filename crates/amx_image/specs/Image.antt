@@ -8,7 +8,7 @@ use Rattle.amx_image.specs.declared.version.Version.{Version}
 use Rattle.amx_image.specs.declared.version.Version.TheVariants.{Whole, Live}
 use Rattle.amx_image.specs.declared.place.TheConstants.{MAGIC, VERSION, ZERO, DIGEST, POSITION, PRI}
 use Rattle.amx_image.specs.declared.place.TheConstants.{ALT, FRM, CIP, STK, HEA, COUNT, CELLS}
-use Rattle.amx_image.specs.Version.{number_of}
+use Rattle.amx_image.specs.Version.{version_number}
 
 -- the cells that an image holds: all, or those below HEA and then those from STK on
 abbrev pub stored : Version → State → List ℤ
@@ -31,7 +31,7 @@ pub record IsImage (version : Version) (s : State) (position : ℕ)
     (digest bytes : List ℕ) : Type 0 where
   pub length_is : length bytes ≡ CELLS + 4 * length (stored version s)
   pub magic : take 4 bytes ≡ MAGIC
-  pub version_is : half_at bytes VERSION ≡ number_of version
+  pub version_is : half_at bytes VERSION ≡ version_number version
   pub zero_is : half_at bytes ZERO ≡ 0
   pub digest_is : take 32 (drop DIGEST bytes) ≡ digest
   pub position_is : word_at bytes POSITION ≡ position

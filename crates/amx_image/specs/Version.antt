@@ -5,9 +5,9 @@ use Rattle.amx_image.specs.declared.version.Version.TheVariants.{Whole, Live}
 use Rattle.amx_image.specs.declared.version.TheConstants.{WHOLE, LIVE}
 
 -- as an image holds it
-abbrev pub number_of : Version → ℕ
-number_of Whole = WHOLE
-number_of Live = LIVE
+abbrev pub version_number : Version → ℕ
+version_number Whole = WHOLE
+version_number Live = LIVE
 
 -- the version with a number
 abbrev pub version_of : ℕ → Option Version

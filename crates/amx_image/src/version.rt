@@ -1,5 +1,5 @@
 ghost use Rattle.std.specs.Prelude.{◌≡◌};
-ghost use Rattle.amx_image.specs.Version.{number_of, version_of};
+ghost use Rattle.amx_image.specs.Version.{version_number, version_of};
 
 /// The number of images with all cells.
 pub const WHOLE: u16 = 1;

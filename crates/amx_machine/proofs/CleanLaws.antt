@@ -6,7 +6,7 @@ use Rattle.std.proofs.lemmas.List.{length-take, length-replicate, take_at, drop_
 use Rattle.amx_ops.specs.declared.amx.Amx.{Amx}
 use Rattle.amx_ops.specs.Table.{is_number}
 use Rattle.amx_ops.specs.State.{State, Turned, Goes, Errs, Halts, Asks, swept}
-use Rattle.amx_ops.specs.Effects.{halted}
+use Rattle.amx_ops.specs.Effects.{swept_if}
 use Rattle.amx_ops.specs.Step.{step}
 use Rattle.amx_step.specs.Machine.{Machine as Core}
 use Rattle.amx_step.specs.Hosting.{AreInOrder}
@@ -103,7 +103,7 @@ within h k n xs e low high =
     )
 
 halted_clean : (amx : Amx) (b : Bool) (code : ℤ) (u s : State)
-    → s ≡ record (halted b u) { cip = s.cip } → AreInOrder amx s → IsClean (asleep_or b code) s
+    → s ≡ record (swept_if b u) { cip = s.cip } → AreInOrder amx s → IsClean (asleep_or b code) s
 halted_clean amx true code u s e o =
     let hea : s.hea ≡ u.hea = ap (λ t. t.hea) e in
     let stk : s.stk ≡ u.stk = ap (λ t. t.stk) e in

@@ -8,12 +8,12 @@ use Rattle.amx_ops.specs.declared.op.Op.TheVariants as op
 use Rattle.amx_ops.specs.Table.{op_of, is_number}
 use Rattle.amx_ops.specs.Instructions.{fetched}
 use Rattle.amx_ops.specs.State.{State, Turned, Goes, Errs, Halts, Asks}
-use Rattle.amx_ops.specs.Effects.{jump_if, stack_to, heap_to, halted}
+use Rattle.amx_ops.specs.Effects.{jump_if, stack_to, heap_to, swept_if}
 use Rattle.amx_ops.specs.Step.{act, act_by, act_on, step}
 
 -- a state that a halt left
 abbrev pub IsHalted : ℤ → State → Type 0
-IsHalted code s = (u : State) × (s ≡ record (halted (is_number 12 code) u) { cip = s.cip })
+IsHalted code s = (u : State) × (s ≡ record (swept_if (is_number 12 code) u) { cip = s.cip })
 
 abbrev pub SweptBy : Turned → Type 0
 SweptBy (Goes s) = Unit {0}

@@ -16,7 +16,7 @@ use Rattle.amx_ops.specs.States.{IsState}
 use Rattle.amx_ops.specs.Keeps.{Leaves}
 use Rattle.amx_ops.specs.Effects.{at_next, jump, jump_if, paired, case_in, case_of, register}
 use Rattle.amx_ops.specs.Effects.{divide, stack_to, heap_to, when_multiple, set_register, returned}
-use Rattle.amx_ops.specs.Effects.{halted, ask}
+use Rattle.amx_ops.specs.Effects.{swept_if, ask}
 use Rattle.pawn_cells.proofs.CellLaws.{cell_of_cell, wrap_cell, bits_fit, small_cell, floor_rem_cell}
 use Rattle.amx_ops.proofs.StateLaws.{guard, with_pri, with_alt, with_frm, with_cip, with_stk}
 use Rattle.amx_ops.proofs.StateLaws.{with_hea, swept_keeps, swept_same}
@@ -193,7 +193,7 @@ module _ (amx : Amx) where
 
   halted_by : (v : ℤ) (b : Bool) (q : ℕ) (s : State) → is_number 12 v ≡ b → q < 2 ^ 32
       → IsState amx s
-      → Leaves amx (Halts v (record (halted b s) { cip = q }))
+      → Leaves amx (Halts v (record (swept_if b s) { cip = q }))
   halted_by v true q s e c h = (
     with_cip amx (swept s) q c (swept_keeps amx s h),
     λ sleep. ap (λ (t : State). record t { cip = q }) (swept_same amx s h),
@@ -202,7 +202,7 @@ module _ (amx : Amx) where
       (with_cip amx s q c h, λ sleep. absurd (false≢true (sym e ∙ ap (is_number 12) sleep)))
 
   pub halted_keeps : (v : ℤ) (q : ℕ) (s : State) → q < 2 ^ 32 → IsState amx s
-      → Leaves amx (Halts v (record (halted (is_number 12 v) s) { cip = q }))
+      → Leaves amx (Halts v (record (swept_if (is_number 12 v) s) { cip = q }))
   halted_keeps v q s c h = halted_by v (is_number 12 v) q s refl c h
 
   pub ask_keeps : (n : ℕ) (s : State) → IsState amx s → Leaves amx (ask amx n s)

@@ -18,7 +18,7 @@ use Rattle.amx_ops.specs.States.{IsState}
 use Rattle.amx_ops.specs.Keeps.{Leaves}
 use Rattle.amx_ops.specs.Access.{is_live, is_live_part, are_live, load, store, raise, load_part}
 use Rattle.amx_ops.specs.Access.{store_part, part, with_part, bytes_at, is_touched, four_bytes}
-use Rattle.amx_ops.specs.Access.{byte_moved, moved, cell_moved, copy, compare, order_of, fill}
+use Rattle.amx_ops.specs.Access.{byte_moved, cells_moved, cell_moved, copy, compare, order_of, fill}
 use Rattle.pawn_cells.proofs.CellLaws.{cell_of_cell, wrap_cell, small_cell}
 
 -- a cell of a list, or 0 behind its end
@@ -184,8 +184,8 @@ module _ (amx : Amx) where
       → Leaves amx (copy s from to n go)
   copy_keeps s from to n go h f =
       guard (are_live s from n && are_live s to n)
-      (go (record s { cells = moved s.cells from to n })) (pos 5)
-      (λ e. f _ (with_cells s (moved s.cells from to n)
+      (go (record s { cells = cells_moved s.cells from to n })) (pos 5)
+      (λ e. f _ (with_cells s (cells_moved s.cells from to n)
       (moved_cells s.cells from to n 0 (length s.cells) h.cells)
       (length-map-range_with_len (cell_moved s.cells from to n) 0 (length s.cells)) h))
 

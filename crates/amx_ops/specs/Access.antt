@@ -102,14 +102,14 @@ cell_moved cells from to n i =
     else slice_index_or cells i (pos 0)
 
 -- the cells then
-abbrev pub moved : List ℤ → (from to n : ℕ) → List ℤ
-moved cells from to n = map (cell_moved cells from to n) (range_with_len 0 (length cells))
+abbrev pub cells_moved : List ℤ → (from to n : ℕ) → List ℤ
+cells_moved cells from to n = map (cell_moved cells from to n) (range_with_len 0 (length cells))
 
 -- n bytes from an address to another, as if all were read first
 abbrev pub copy : State → (from to n : ℕ) → (State → Turned) → Turned
 copy s from to n go =
-    if are_live s from n && are_live s to n then go (record s { cells = moved s.cells from to n })
-    else Errs (pos 5)
+    if are_live s from n && are_live s to n
+    then go (record s { cells = cells_moved s.cells from to n }) else Errs (pos 5)
 
 -- 0 for equal bytes; at the first that differ -1 where that of the first list is less, else 1
 abbrev pub order_of : List ℕ → List ℕ → ℤ

@@ -95,9 +95,9 @@ returned amx frm cip count s =
 -- ---- the host
 
 -- a sleep sweeps what is dead
-abbrev pub halted : Bool → State → State
-halted true s = swept s
-halted false s = s
+abbrev pub swept_if : Bool → State → State
+swept_if true s = swept s
+swept_if false s = s
 
 -- error 19 for a number that no native has
 abbrev pub ask : Amx → ℕ → State → Turned

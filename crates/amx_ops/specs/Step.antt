@@ -17,7 +17,7 @@ use Rattle.amx_ops.specs.State.{State, Turned, Errs, Halts, Asks, push, pop, wit
 use Rattle.amx_ops.specs.Access.{load, store, raise, in_frame, load_part, store_part, copy, compare}
 use Rattle.amx_ops.specs.Access.{fill}
 use Rattle.amx_ops.specs.Effects.{at_next, jump, jump_if, case_of, register, divide, stack_to}
-use Rattle.amx_ops.specs.Effects.{heap_to, set_register, returned, halted, ask}
+use Rattle.amx_ops.specs.Effects.{heap_to, set_register, returned, swept_if, ask}
 
 -- an operation of a file with its operand v, and the address q of the next instruction
 abbrev pub act : Amx → Op → ℤ → ℕ → State → Turned
@@ -158,7 +158,7 @@ act amx op.Cmps v q s =
     compare s (bits_of s.alt) (bits_of s.pri) (bits_of v) (λ x. at_next q (record s { pri = x }))
 act amx op.Fill v q s = fill s (bits_of s.alt) (bits_of v) s.pri (at_next q)
 -- ---- the host, case tables and others
-act amx op.Halt v q s = Halts v (record (halted (is_number 12 v) s) { cip = q })
+act amx op.Halt v q s = Halts v (record (swept_if (is_number 12 v) s) { cip = q })
 act amx op.Bounds v q s = if nat_lt (bits_of v) (bits_of s.pri) then Errs (pos 4) else at_next q s
 act amx op.SysreqPri v q s = ask amx (bits_of s.pri) (record s { cip = q })
 act amx op.SysreqC v q s = Asks (bits_of v) (record s { cip = q })

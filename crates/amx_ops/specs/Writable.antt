@@ -33,8 +33,8 @@ abbrev pub code_place : Amx → ℕ
 code_place amx = (names_end amx + 3) / 4 * 4
 
 -- the cells of code and data
-abbrev pub cells_of : Amx → ℕ
-cells_of amx = length amx.code + length amx.store
+abbrev pub stored_cells : Amx → ℕ
+stored_cells amx = length amx.code + length amx.store
 
 -- code, data, heap and stack in cells
 abbrev pub cells_limit : ℕ
@@ -60,6 +60,6 @@ pub record IsWritable (amx : Amx) : Type 0 where
   -- neither of the bits 0x02 and 0x04
   pub flags : amx.flags / 2 % 4 ≡ 0
   -- each cell takes at most five bytes
-  pub size : code_place amx + 5 * cells_of amx < 2 ^ 31
-  pub top : code_place amx + 4 * (cells_of amx + amx.room) < 2 ^ 31
-  pub memory : 4 * (cells_of amx + amx.room) ≤ memory_limit
+  pub size : code_place amx + 5 * stored_cells amx < 2 ^ 31
+  pub top : code_place amx + 4 * (stored_cells amx + amx.room) < 2 ^ 31
+  pub memory : 4 * (stored_cells amx + amx.room) ≤ memory_limit

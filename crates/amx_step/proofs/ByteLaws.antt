@@ -11,7 +11,7 @@ use Rattle.std.proofs.lemmas.List.FromFn.{length-map-range_with_len, get_or-map-
 use Rattle.pawn_cells.specs.Cells.{bits_of, cell_of, char_at}
 use Rattle.amx_block.specs.Contents.{Contents}
 use Rattle.amx_block.specs.Copied.{IsCopied}
-use Rattle.amx_ops.specs.Access.{byte_at, bytes_at, is_among, byte_moved, cell_moved, moved}
+use Rattle.amx_ops.specs.Access.{byte_at, bytes_at, is_among, byte_moved, cell_moved, cells_moved}
 use Rattle.amx_ops.specs.Access.{order_of}
 use Rattle.amx_ops.proofs.ByteLaws.{same_cells, byte_is}
 use Rattle.amx_step.specs.Machine.{Machine}
@@ -140,9 +140,9 @@ module _ (from to n : ℕ) (old new : Contents) (c : IsCopied from to 0 n old ne
   cell_by i false e = c.others i (λ k low high. untouched to n i e k (omega (arith, low)) high)
 
   -- what was copied byte by byte is what the definition of a move makes
-  pub moved_is : new.memory ≡ moved old.memory from to n
+  pub moved_is : new.memory ≡ cells_moved old.memory from to n
   moved_is =
-      same_cells new.memory (moved old.memory from to n)
+      same_cells new.memory (cells_moved old.memory from to n)
       (c.count ∙ sym (length-map-range_with_len (cell_moved old.memory from to n) 0
       (length old.memory)))
       (λ i h. cell_by i (touches to n i) refl
@@ -155,9 +155,9 @@ none_among a k =
     [ inr e ↦ e | inl e ↦ let r = among a 0 k e in absurd (omega (arith, r.0, r.1)) ]
 
 -- no bytes change nothing
-pub moved_none : (cells : List ℤ) (from to : ℕ) → moved cells from to 0 ≡ cells
+pub moved_none : (cells : List ℤ) (from to : ℕ) → cells_moved cells from to 0 ≡ cells
 moved_none cells from to =
-    same_cells (moved cells from to 0) cells
+    same_cells (cells_moved cells from to 0) cells
     (length-map-range_with_len (cell_moved cells from to 0) 0 (length cells))
     (λ i h. get_or-map-range_with_len (cell_moved cells from to 0) 0 (length cells) i i (pos 0)
     (omega (arith, h, length-map-range_with_len (cell_moved cells from to 0) 0 (length cells)))

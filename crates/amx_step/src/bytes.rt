@@ -42,7 +42,7 @@ impl<'v> Core<'v> {
         requires to { (count ≡ 0) ⊎ (to + count ≤ 4 * length self.old.state.cells) }
         ensures { self.new ≡ record self.old {
           state = record self.old.state {
-            cells = access.moved self.old.state.cells from to count;
+            cells = access.cells_moved self.old.state.cells from to count;
           };
         } }
     {
@@ -56,7 +56,7 @@ impl<'v> Core<'v> {
         requires to { to + count ≤ 4 * length self.old.state.cells }
         ensures { self.new ≡ record self.old {
           state = record self.old.state {
-            cells = access.moved self.old.state.cells from to count;
+            cells = access.cells_moved self.old.state.cells from to count;
           };
         } }
     {

@@ -147,7 +147,7 @@ fn host_group(machine: &mut Core<'_>, number: i32) -> Option<Turn>
             let v = machine.operand();
             Some(machine.switch(v.cast_unsigned()))
         }
-        // CASETBL: a case table: count, default address, and pairs of value and address. Executed, error 6
+        // CASETBL: count, default address, pairs of value and address. Executed, error 6
         130 => Some(machine.refuse()),
         // SWAP.pri: exchanges [STK] and PRI
         131 => {

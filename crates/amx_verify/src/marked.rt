@@ -43,7 +43,8 @@ impl Marked {
 
     pub fn amx(&self) -> &Amx
         ensures value { result.now ≡ self.now }
-        ensures memory { length self.now.code + length self.now.store + self.now.room ≤ cells_limit }
+        ensures memory { length self.now.code + length self.now.store + self.now.room
+            ≤ cells_limit }
     {
         &self.amx
     }

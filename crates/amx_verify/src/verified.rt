@@ -53,7 +53,8 @@ impl Verified {
         ensures value { result.now ≡ self.now }
         ensures valid { valid.IsValid self.now.code (length self.now.natives) self.now.entry
             (map (λ it. it.address) self.now.publics) }
-        ensures memory { length self.now.code + length self.now.store + self.now.room ≤ cells_limit }
+        ensures memory { length self.now.code + length self.now.store + self.now.room
+            ≤ cells_limit }
     {
         self.marked.amx()
     }

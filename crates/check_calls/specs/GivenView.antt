@@ -28,5 +28,5 @@ given_view it = record {
 }
 
 -- an array that is passed, with its size
-abbrev pub passed_view : Passed → plain.Passed
+abbrev pub passed_view : Passed → plain.PassedArray
 passed_view it = record { array = array_view it.array; size = it.size }

@@ -246,7 +246,7 @@ fn kept(at: At, constant: bool, keeps: bool, array: Array, size: u32) -> Result<
 #[tactic(auto, using(pawn_verdict::proofs::VerdictLaws::verdicts))]
 fn array(at: At, keeps: bool, wanted: Extent, form: Form) -> Result<Passed, CheckFault>
     ensures { Answers passed_view
-        (spec.array_in at keeps (extent_view wanted) (form_view form)) result }
+        (spec.array_argument at keeps (extent_view wanted) (form_view form)) result }
 {
     match form {
         Form::Value(_) => Err(broken(ARGUMENT_KIND, at.place)),

@@ -49,7 +49,7 @@ fn part_extent(size: u32, third: Option<u32>) -> Extent
 /// An element, or a part with its own elements.
 fn part(alloc: Global, held: Held, code: Box<Expr>) -> Result<Form, Memory>
     ensures { IfOk result (λ form. form_view form
-        ≡ spec.part (held_view held) (code_view code) (extent_view held.extent).inner) }
+        ≡ spec.indexed_part (held_view held) (code_view code) (extent_view held.extent).inner) }
 {
     let array = Box::new(alloc, held.array)?;
     Ok(match held.extent.second {

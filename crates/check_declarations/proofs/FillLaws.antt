@@ -16,7 +16,7 @@ use Rattle.types_rules.specs.Groups.{Group}
 use Rattle.types_rules.specs.Declarations.{Bodied}
 use Rattle.types_rules.specs.Functions.{clauses}
 use Rattle.types_rules.specs.Sources.{Source, Stated, group_tag}
-use Rattle.types_rules.specs.Programs.{bodies_of, dispatch_by, function_of, functions_from}
+use Rattle.types_rules.specs.Programs.{bodies_of, dispatch_by, function_of, program_functions}
 use Rattle.check_source.specs.Update.{updated}
 use Rattle.check_declarations.specs.Filled.{params_by, with_params, with_body, filled}
 
@@ -68,9 +68,9 @@ module _ (source : Source) (all : List Stated) where
   -- functions behind that of a body
   untouched : (number : ℕ) (groups : List Group) (bodies : List Bodied) (it : Bodied)
       → it.number < number
-      → functions_from source all number groups (bodies ++ it ∷ [])
-      ≡ functions_from source all number groups bodies
-  unfolding functions_from
+      → program_functions source all number groups (bodies ++ it ∷ [])
+      ≡ program_functions source all number groups bodies
+  unfolding program_functions
   untouched number [] bodies it lt = refl
   untouched number (group ∷ more) bodies it lt =
       let less : it.number < number + 1 = omega (arith, lt) in
@@ -81,9 +81,9 @@ module _ (source : Source) (all : List Stated) where
 
   body_push : (number : ℕ) (groups : List Group) (bodies : List Bodied) (it : Bodied) (i : ℕ)
       → it.number ≡ number + i
-      → functions_from source all number groups (bodies ++ it ∷ [])
-      ≡ updated (functions_from source all number groups bodies) i (with_body it.params it.body)
-  unfolding functions_from
+      → program_functions source all number groups (bodies ++ it ∷ [])
+      ≡ updated (program_functions source all number groups bodies) i (with_body it.params it.body)
+  unfolding program_functions
   body_push number [] bodies it i e = refl
   body_push number (group ∷ more) bodies it zero e =
       let less : it.number < number + 1 = omega (arith, e) in
@@ -101,20 +101,20 @@ module _ (source : Source) (all : List Stated) where
       (body_push (number + 1) more bodies it i next)
 
   filled_all : (groups : List Group) (bodies more : List Bodied)
-      → filled (functions_from source all 0 groups bodies) more
-      ≡ functions_from source all 0 groups (bodies ++ more)
-  filled_all groups bodies [] = ap (functions_from source all 0 groups) (sym (append-nil bodies))
+      → filled (program_functions source all 0 groups bodies) more
+      ≡ program_functions source all 0 groups (bodies ++ more)
+  filled_all groups bodies [] = ap (program_functions source all 0 groups) (sym (append-nil bodies))
   filled_all groups bodies (it ∷ more) =
       let number : it.number ≡ 0 + it.number = omega arith in
       ap (λ (fs : List Function). filled fs more)
       (sym (body_push 0 groups bodies it it.number number))
       ∙ filled_all groups (bodies ++ it ∷ []) more
-      ∙ ap (functions_from source all 0 groups) (append_assoc bodies (it ∷ []) more)
+      ∙ ap (program_functions source all 0 groups) (append_assoc bodies (it ∷ []) more)
 
   -- functions with all bodies
   pub all_filled : (groups : List Group) (old new : List Function) (bodies : List Bodied)
-      → old ≡ functions_from source all 0 groups [] → new ≡ filled old bodies
-      → new ≡ functions_from source all 0 groups bodies
+      → old ≡ program_functions source all 0 groups [] → new ≡ filled old bodies
+      → new ≡ program_functions source all 0 groups bodies
   all_filled groups old new bodies h e =
       e ∙ ap (λ (fs : List Function). filled fs bodies) h ∙ filled_all groups [] bodies
 
@@ -122,15 +122,15 @@ module _ (source : Source) (all : List Stated) where
 
   pub bare_more : (groups : List Group) (i : ℕ) (group : Group) (list pushed : List held.Function)
       (it : held.Function) (whole : List Function)
-      → map function_view list ++ functions_from source all i (drop i groups) [] ≡ whole
+      → map function_view list ++ program_functions source all i (drop i groups) [] ≡ whole
       → slice_get groups i ≡ Some group → pushed ≡ list ++ it ∷ []
       → function_view it ≡ function_of source.automata (group_tag source all group) group []
-      → map function_view pushed ++ functions_from source all (i + 1)
+      → map function_view pushed ++ program_functions source all (i + 1)
       (drop (i + 1) groups) [] ≡ whole
-  unfolding functions_from
+  unfolding program_functions
   bare_more groups i group list pushed it whole h here p e =
       let made : Function = function_of source.automata (group_tag source all group) group [] in
-      let rest : List Function = functions_from source all (i + 1) (drop (i + 1) groups) [] in
+      let rest : List Function = program_functions source all (i + 1) (drop (i + 1) groups) [] in
       let cut : drop i groups ≡ group ∷ drop (i + 1) groups =
       drop_more groups i group (slice_get_within groups i group here)
       ∙ ap (λ (g : Group). g ∷ drop (i + 1) groups)
@@ -139,14 +139,14 @@ module _ (source : Source) (all : List Stated) where
       (ap (map function_view) p ∙ map-append function_view list (it ∷ [])
       ∙ ap (λ (f : Function). map function_view list ++ f ∷ []) e)
       ∙ append_assoc (map function_view list) (made ∷ []) rest
-      ∙ ap (λ (gs : List Group). map function_view list ++ functions_from source all i gs [])
+      ∙ ap (λ (gs : List Group). map function_view list ++ program_functions source all i gs [])
       (sym cut) ∙ h
 
   pub bare_all : (groups : List Group) (i : ℕ) (done whole : List Function) → length groups ≤ i
-      → done ++ functions_from source all i (drop i groups) [] ≡ whole → done ≡ whole
-  unfolding functions_from
+      → done ++ program_functions source all i (drop i groups) [] ≡ whole → done ≡ whole
+  unfolding program_functions
   bare_all groups i done whole le h =
-      sym (append-nil done) ∙ ap (λ (gs : List Group). done ++ functions_from source all i gs [])
+      sym (append-nil done) ∙ ap (λ (gs : List Group). done ++ program_functions source all i gs [])
       (sym (drop_all i groups le)) ∙ h
 
 -- ---- a function changed where it stands

@@ -17,7 +17,7 @@ use Rattle.check_functions.specs.Finds.{Finds}
 use Rattle.pawn_verdict.proofs.VerdictLaws.{fails_left, fails_right}
 use Rattle.check_functions.proofs.FindsLaws.{map_at}
 use Rattle.check_declarations.specs.Marks.{Seen, seen_in, seen_behind, seen_by, both_seen, mark_of}
-use Rattle.check_declarations.specs.Marks.{mixed_at, Agrees, AreMarked}
+use Rattle.check_declarations.specs.Marks.{mixed_at, Agrees, ReturnsAreMarked}
 use Rattle.check_declarations.proofs.AgreeLaws.{moved, both_stay}
 
 -- ---- the returns of one function
@@ -113,7 +113,7 @@ pushed (m ∷ more) zero = refl
 pushed (m ∷ more) (suc number) = pushed more number
 
 pub marked_begins : (all : List Bodied) (marks : List (Option Bool))
-    → ((number : ℕ) → mark_of marks number ≡ None) → AreMarked all all marks
+    → ((number : ℕ) → mark_of marks number ≡ None) → ReturnsAreMarked all all marks
 marked_begins all marks h = record {
   same =
       λ number. ap (λ (m : Option Bool). seen_behind (seen_by m) (returns_of all number))
@@ -121,8 +121,8 @@ marked_begins all marks h = record {
 }
 
 pub marked_room : (all rest : List Bodied) (marks more : List (Option Bool))
-    → AreMarked all rest marks → ((number : ℕ) → mark_of more number ≡ mark_of marks number)
-    → AreMarked all rest more
+    → ReturnsAreMarked all rest marks → ((number : ℕ) → mark_of more number ≡ mark_of marks number)
+    → ReturnsAreMarked all rest more
 marked_room all rest marks more h same = record {
   same =
       λ number. ap (λ (m : Option Bool). seen_behind (seen_by m) (returns_of rest number))
@@ -131,9 +131,9 @@ marked_room all rest marks more h same = record {
 
 -- with the mark of a function behind a body of it
 pub marked_one : (all rest : List Bodied) (it : Bodied) (marks : List (Option Bool))
-    (next : Option Bool) → AreMarked all (it ∷ rest) marks → it.number < length marks
+    (next : Option Bool) → ReturnsAreMarked all (it ∷ rest) marks → it.number < length marks
     → Agrees (mark_of marks it.number) it.returns (Ok next)
-    → AreMarked all rest (set marks it.number next)
+    → ReturnsAreMarked all rest (set marks it.number next)
 marked_one all rest it marks next h lt ok =
     record { same = λ number. by number (nat_eq it.number number) refl }
   where
@@ -171,7 +171,7 @@ marked_one all rest it marks next h lt ok =
 
 -- a fault of a body
 pub marked_fails : (all rest : List Bodied) (i : ℕ) (it : Bodied) (marks : List (Option Bool))
-    (fault : CheckFault) → AreMarked all (it ∷ rest) marks
+    (fault : CheckFault) → ReturnsAreMarked all (it ∷ rest) marks
     → i < length all → it ≡ get_or all i it
     → Agrees (mark_of marks it.number) it.returns (Err fault)
     → Finds (return_faults all) (Err fault)
@@ -191,7 +191,7 @@ marked_fails all rest i it marks fault h lt is e = record {
 
 -- all are marked
 pub marked_all : (all : List Bodied) (marks : List (Option Bool)) (x : Unit {0})
-    → AreMarked all [] marks → Finds (return_faults all) (Ok x)
+    → ReturnsAreMarked all [] marks → Finds (return_faults all) (Ok x)
 marked_all all marks x h = record {
   told =
       none_of all all (λ number. mixed_none (returns_of all number) (mark_of marks number)
@@ -219,20 +219,22 @@ module _ {A : Type 0} (view : A → Bodied) (items : List A) where
 
   pub walk_more : (i : ℕ) (it : A) (marks : List (Option Bool)) (mark next : Option Bool)
       (given : List Returned)
-      → AreMarked (map view items) (map view (drop i items)) marks
+      → ReturnsAreMarked (map view items) (map view (drop i items)) marks
       → i < length items → it ≡ get_or items i it → (view it).number < length marks
       → mark ≡ get_or marks (view it).number mark
       → given ≡ (view it).returns → Agrees mark given (Ok next)
-      → AreMarked (map view items) (map view (drop (i + 1) items)) (set marks (view it).number next)
+      → ReturnsAreMarked (map view items) (map view (drop (i + 1) items))
+      (set marks (view it).number next)
   walk_more i it marks mark next given h lt is room at same ok =
       marked_one (map view items) (map view (drop (i + 1) items)) (view it) marks next
-      (subst (λ (rest : List Bodied). AreMarked (map view items) rest marks) (ahead i it lt is) h)
+      (subst (λ (rest : List Bodied). ReturnsAreMarked (map view items) rest marks)
+      (ahead i it lt is) h)
       room
       (read marks (view it).number mark given (view it).returns (Ok next) room at same ok)
 
   pub walk_fails : (i : ℕ) (it : A) (marks : List (Option Bool)) (mark : Option Bool)
       (given : List Returned) (fault : CheckFault)
-      → AreMarked (map view items) (map view (drop i items)) marks
+      → ReturnsAreMarked (map view items) (map view (drop i items)) marks
       → i < length items → it ≡ get_or items i it → (view it).number < length marks
       → mark ≡ get_or marks (view it).number mark
       → given ≡ (view it).returns → Agrees mark given (Err fault)
@@ -240,14 +242,15 @@ module _ {A : Type 0} (view : A → Bodied) (items : List A) where
   walk_fails i it marks mark given fault h lt is room found same e =
       let at = map_at view items i it lt is in
       marked_fails (map view items) (map view (drop (i + 1) items)) i (view it) marks fault
-      (subst (λ (rest : List Bodied). AreMarked (map view items) rest marks) (ahead i it lt is) h)
+      (subst (λ (rest : List Bodied). ReturnsAreMarked (map view items) rest marks)
+      (ahead i it lt is) h)
       at.0 at.1
       (read marks (view it).number mark given (view it).returns (Err fault) room found same e)
 
   pub walk_all : (i : ℕ) (marks : List (Option Bool)) (x : Unit {0})
-      → AreMarked (map view items) (map view (drop i items)) marks → length items ≤ i
+      → ReturnsAreMarked (map view items) (map view (drop i items)) marks → length items ≤ i
       → Finds (return_faults (map view items)) (Ok x)
   walk_all i marks x h past =
       marked_all (map view items) marks x
-      (subst (λ (rest : List A). AreMarked (map view items) (map view rest) marks)
+      (subst (λ (rest : List A). ReturnsAreMarked (map view items) (map view rest) marks)
       (drop_all i items past) h)

@@ -11,8 +11,8 @@ use Rattle.types_rules.specs.Declarations.{Bodied, Done}
 use Rattle.types_rules.specs.Functions.{clauses, main_name}
 use Rattle.types_rules.specs.Publics.{publics}
 use Rattle.types_rules.specs.Sources.{Source, stated, group_tag}
-use Rattle.types_rules.specs.Programs.{bodies_of, dispatch_by, function_of, functions_from, natives}
-use Rattle.types_rules.specs.Programs.{tags_from, program_of}
+use Rattle.types_rules.specs.Programs.{bodies_of, dispatch_by, function_of, program_functions}
+use Rattle.types_rules.specs.Programs.{natives, tags_from, program_of}
 use Rattle.check_functions.specs.Stated.{heading_at, heading_tag}
 use Rattle.check_functions.proofs.StatedLaws.{group_tag_is}
 use Rattle.check_declarations.proofs.NativeLaws.{natives_same}
@@ -41,9 +41,9 @@ module _ (source : Source) where
 
   functions_same : (headings : List Heading) (heads : List (Option Head)) (number : ℕ)
       (groups : List Group) (bodies : List Bodied)
-      → functions_from source (stated source headings []) number groups bodies
-      ≡ functions_from source (stated source headings heads) number groups bodies
-  unfolding functions_from
+      → program_functions source (stated source headings []) number groups bodies
+      ≡ program_functions source (stated source headings heads) number groups bodies
+  unfolding program_functions
   functions_same headings heads number [] bodies = refl
   functions_same headings heads number (group ∷ more) bodies =
       ap₂ (λ (f : Function) (fs : List Function). f ∷ fs)
@@ -54,7 +54,7 @@ module _ (source : Source) where
   pub program_is : (heads : List (Option Head)) (marks : List Mark) (dynamic given : ℤ)
       (done : Done) (functions : List Function) (names : List (List ℕ)) (automata : List Automaton)
       (tags : List Tag) (public : List Public) (entry : Option ℕ)
-      → functions ≡ functions_from source (stated source source.headings []) 0 source.groups
+      → functions ≡ program_functions source (stated source source.headings []) 0 source.groups
       done.bodies
       → names ≡ natives source (stated source source.headings []) → automata ≡ source.automata
       → tags ≡ tags_from marks 0 source.tags → public ≡ publics source

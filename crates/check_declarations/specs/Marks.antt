@@ -57,6 +57,6 @@ pub record Agrees (mark : Option Bool) (returns : List Returned)
   pub told : Told mark returns result
 
 -- what is marked and what is left are the returns of each function
-pub record AreMarked (all rest : List Bodied) (marks : List (Option Bool)) : Type 0 where
+pub record ReturnsAreMarked (all rest : List Bodied) (marks : List (Option Bool)) : Type 0 where
   pub same : (number : ℕ) → seen_behind (seen_by (mark_of marks number)) (returns_of rest number)
       ≡ seen_in (returns_of all number)

@@ -63,7 +63,7 @@ pub fn constant_rule<'a>(
     at: At,
     it: &'a Constant,
 ) -> Result<Option<Done>, CheckFault>
-    ensures tells { Tells done_view (spec.constant_rule (source_view known.now)
+    ensures tells { Tells done_view (spec.global_constant (source_view known.now)
         (around_view known.now.cx.now) (point_view point.old) at (constant_view it.now)) result }
     ensures behind { IfOk result (λ done. point_view point.new ≡ points.behind_constant
         (around_view known.now.cx.now) (point_view point.old) at (constant_view it.now)) }

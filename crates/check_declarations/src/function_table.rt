@@ -67,7 +67,7 @@ fn bare_functions(alloc: Global, source: &Source, firsts: &Firsts) -> Result<Vec
         (groups_view source.now.groups) (map heading_view source.now.headings)
         firsts.now.own.items firsts.now.entry }
     ensures { IfOk result (λ functions. map function_view functions.items ≡
-        spec.functions_from (source_view source.now) (stated (source_view source.now)
+        spec.program_functions (source_view source.now) (stated (source_view source.now)
         (map heading_view source.now.headings) []) 0 (groups_view source.now.groups) []) }
 {
     let mut functions = Vec::new(alloc);
@@ -159,7 +159,7 @@ pub fn functions_of(
         (groups_view source.now.groups) (map heading_view source.now.headings)
         firsts.now.own.items firsts.now.entry }
     ensures { IfOk result (λ list. map function_view list ≡
-        spec.functions_from (source_view source.now) (stated (source_view source.now)
+        spec.program_functions (source_view source.now) (stated (source_view source.now)
         (map heading_view source.now.headings) []) 0 (groups_view source.now.groups)
         (map bodied_view bodies.items)) }
 {

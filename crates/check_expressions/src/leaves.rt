@@ -174,7 +174,7 @@ pub fn sizeof_rule(
 /// What is told of the tag of a name.
 #[tactic(auto, using(check_nodes::proofs::PartLaws::parts))]
 fn tag_in_sight(alloc: Global, at: At, sight: Option<Sight>) -> Result<Typed, PartFault>
-    ensures { PartAnswers typed_view (after (names.tag_of at (option_map sight_view sight))
+    ensures { PartAnswers typed_view (after (names.tag_of_meaning at (option_map sight_view sight))
         (λ tag. Stands (names.constant_value at (cell_of tag) untagged))) result }
 {
     match sight {
@@ -186,7 +186,7 @@ fn tag_in_sight(alloc: Global, at: At, sight: Option<Sight>) -> Result<Typed, Pa
 
 fn tag_of_name(alloc: Global, scopes: &Scopes, at: At, it: &Bytes) -> Result<Typed, PartFault>
     ensures { PartAnswers typed_view (after
-        (names.tag_of at (found (scope_view scopes.now) it.now))
+        (names.tag_of_meaning at (found (scope_view scopes.now) it.now))
         (λ tag. Stands (names.constant_value at (cell_of tag) untagged))) result }
 {
     let sight = sight_of(scopes, it);

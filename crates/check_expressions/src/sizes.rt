@@ -52,7 +52,7 @@ pub struct Dimensions {
 /// A size is 1 or more.
 #[tactic(auto, using(crate::proofs::SizeLaws::size_given))]
 fn positive_size(at: At, size: u32, warned: List<At>) -> Result<Dimension, CheckFault>
-    ensures { Answers dimension_view (spec.size_in at (pos size) warned) result }
+    ensures { Answers dimension_view (spec.positive_size at (pos size) warned) result }
 {
     if size == 0 {
         Err(broken(LIMIT_ARRAY, at.place))
@@ -66,7 +66,7 @@ fn positive_size(at: At, size: u32, warned: List<At>) -> Result<Dimension, Check
 
 /// A size in cells.
 fn cells_size(at: At, size: i32, warned: List<At>) -> Result<Dimension, CheckFault>
-    ensures { Answers dimension_view (spec.size_in at size warned) result }
+    ensures { Answers dimension_view (spec.positive_size at size warned) result }
 {
     match u32::try_from(size) {
         Err(_) => Err(broken(LIMIT_ARRAY, at.place)),
@@ -76,7 +76,8 @@ fn cells_size(at: At, size: i32, warned: List<At>) -> Result<Dimension, CheckFau
 
 /// A size in packed characters.
 fn characters_size(at: At, characters: i32, warned: List<At>) -> Result<Dimension, CheckFault>
-    ensures { Answers dimension_view (spec.size_in at (spec.cells_for characters) warned) result }
+    ensures { Answers dimension_view
+        (spec.positive_size at (spec.cells_for characters) warned) result }
 {
     match u32::try_from(characters) {
         Err(_) => Err(broken(LIMIT_ARRAY, at.place)),

@@ -11,13 +11,8 @@ use Rattle.types_rules.specs.Headings.{Heading, belongs}
 use Rattle.types_rules.specs.Sources.{Source, Stated, stated, first_head, stated_tag, group_tag}
 use Rattle.types_rules.specs.Sources.{group_head}
 use Rattle.check_source.proofs.PlaceLaws.{place, place_is}
+use Rattle.check_functions.specs.Differ.{stated_at}
 use Rattle.check_functions.specs.Stated.{head_at, heading_at, heading_tag, stated_head}
-
--- what stands at a place
-abbrev pub stated_at : List Heading → List (Option Head) → ℕ → Option Stated
-stated_at headings heads i =
-    option_map (λ (it : Heading). record { heading = it; head = head_at heads i })
-    (slice_get headings i)
 
 pub stated_get : (source : Source) (headings : List Heading) (heads : List (Option Head)) (i : ℕ)
     → slice_get (stated source headings heads) i ≡ stated_at headings heads i

@@ -32,10 +32,10 @@ abbrev pub warned_behind : List At → List At → List At
 warned_behind xs ys = xs ++ ys
 
 -- what constants warn of so far
-abbrev pub progress_view : Progress → Verdict (List At)
-progress_view it = so_far it.fell it.warned
+abbrev pub warnings_view : Progress → Verdict (List At)
+warnings_view it = so_far it.fell it.warned
 
 -- what is known behind all constants, or why it isn't
 abbrev pub Told : Verdict (List At) → Result Counting PartFault → Type 0
-Told verdict (Ok it) = verdict ≡ progress_view it.done
+Told verdict (Ok it) = verdict ≡ warnings_view it.done
 Told verdict (Err fault) = IsBroken verdict fault

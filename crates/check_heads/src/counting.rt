@@ -3,7 +3,7 @@ ghost use Rattle.names_rules.specs.Verdict.{Stands, Verdict};
 ghost use Rattle.pawn_tree.specs.declared.name.At.{At as Spot};
 ghost use Rattle.check_nodes.specs.PartAnswers.{PartAnswers};
 ghost use Rattle.check_heads.specs.SoFar.{GoesOn};
-ghost use Rattle.check_heads.specs.Counting.{progress_view, warned_behind};
+ghost use Rattle.check_heads.specs.Counting.{warnings_view, warned_behind};
 
 use check_nodes::PartFault;
 use pawn_base::List;
@@ -27,7 +27,7 @@ pub struct Counting {
 impl Progress {
     /// No constant.
     pub fn nothing(alloc: Global) -> Progress
-        ensures { progress_view result ≡ Stands [] }
+        ensures { warnings_view result ≡ Stands [] }
     {
         Progress {
             fell: false,
@@ -42,7 +42,7 @@ impl Progress {
     /// The fault of the constant, and `Memory` for want of memory.
     pub fn then(self, more: Result<List<At>, PartFault>) -> Result<Progress, PartFault>
         ensures { (v : Verdict (Plain Spot)) → PartAnswers (λ warned. warned) v more →
-            GoesOn warned_behind progress_view (progress_view self) v result }
+            GoesOn warned_behind warnings_view (warnings_view self) v result }
     {
         let Progress { fell, mut warned } = self;
         match more {
@@ -62,7 +62,7 @@ impl Progress {
     ///
     /// `Fallen` where one fell.
     pub fn all(self) -> Result<List<At>, PartFault>
-        ensures { PartAnswers (λ warned. warned) (progress_view self) result }
+        ensures { PartAnswers (λ warned. warned) (warnings_view self) result }
     {
         if self.fell {
             Err(PartFault::Fallen)

@@ -61,7 +61,8 @@ fn items_in<'a>(
     them: Items<'a>,
 ) -> Result<Counting, PartFault>
     ensures verdict { Told (spec.items_rule (around_view cx.now) them.entry.at them.entry.tag
-        (spec.nothing_counted (scope_view scopes.old)) (map item_view them.entry.items.now)) result }
+        (spec.nothing_counted (scope_view scopes.old))
+        (map item_view them.entry.items.now)) result }
     ensures scope { IfOk result (λ it. counted (scope_view scopes.new) it.next ≡ spec.behind_items
         (around_view cx.now) them.entry.at them.entry.tag (spec.nothing_counted
         (scope_view scopes.old)) (map item_view them.entry.items.now)) }
@@ -86,7 +87,7 @@ fn declare_name<'a>(
     next: Option<i32>,
 ) -> Result<(), Memory>
     ensures { OnOk result (scope_view scopes.new
-        ≡ spec.named name.now tag (counted (scope_view scopes.old) next)) }
+        ≡ spec.with_enum_name name.now tag (counted (scope_view scopes.old) next)) }
 {
     match name {
         None => Ok(()),

@@ -4,7 +4,8 @@ use Rattle.std.proofs.Common.{Bool, true, false, ◌&&◌, List, [], ◌∷◌, 
 use Rattle.std.proofs.Common.{refl, sym, ap, subst, ◌∙◌, append_assoc, append-nil}
 use Rattle.std.specs.Prelude.{flat_map}
 use Rattle.std.proofs.lemmas.List.{drop_all, length_push}
-use Rattle.pawn_cells.specs.Operators.{compare, chain_holds, truth}
+use Rattle.pawn_cells.specs.Cells.{truth}
+use Rattle.pawn_cells.specs.Operators.{compare, chain_holds}
 use Rattle.pawn_cells.specs.declared.operator.Comparison.{Comparison}
 use Rattle.pawn_tree.specs.declared.name.At.{At}
 use Rattle.pawn_tags.specs.declared.operators.Choice.{Choice}

@@ -2,7 +2,8 @@
 -- made.
 use Rattle.std.specs.Prelude.{ℕ, ℤ, List, [], ◌++◌, Bool, true, ◌&&◌, Option, None, Some, map}
 use Rattle.std.specs.Prelude.{option_map}
-use Rattle.pawn_cells.specs.Operators.{compare, truth}
+use Rattle.pawn_cells.specs.Cells.{truth}
+use Rattle.pawn_cells.specs.Operators.{compare}
 use Rattle.pawn_cells.specs.declared.operator.Comparison.{Comparison}
 use Rattle.pawn_tree.specs.declared.name.At.{At}
 use Rattle.pawn_tags.specs.declared.operators.Choice.{Choice}

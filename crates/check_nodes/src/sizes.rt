@@ -111,7 +111,7 @@ pub fn sizeof_text(
 
 /// The tag of what a name means, of a function the tag of what it gives.
 fn tag_of(at: At, means: Option<Meaning>) -> Result<u32, CheckFault>
-    ensures { Answers (λ tag. tag) (spec.tag_of at (option_map meaning_view means)) result }
+    ensures { Answers (λ tag. tag) (spec.tag_of_meaning at (option_map meaning_view means)) result }
 {
     match means {
         Some(Meaning::Constant(_, tag) | Meaning::Variable(_, tag, _)) => Ok(tag),
@@ -128,7 +128,7 @@ fn tag_of(at: At, means: Option<Meaning>) -> Result<u32, CheckFault>
 /// 50 for a name that means nothing.
 #[tactic(auto, using(pawn_verdict::proofs::VerdictLaws::verdicts))]
 pub fn tagof_name(alloc: Global, at: At, means: Option<Meaning>) -> Result<Typed, CheckFault>
-    ensures { Answers typed_view (after (spec.tag_of at (option_map meaning_view means))
+    ensures { Answers typed_view (after (spec.tag_of_meaning at (option_map meaning_view means))
         (λ tag. Stands (spec.constant_value at (cell_of tag) untagged))) result }
 {
     let tag = tag_of(at, means)?;

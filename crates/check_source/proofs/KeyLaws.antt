@@ -11,14 +11,14 @@ use Rattle.pawn_tags.specs.declared.op.Op.{Op}
 use Rattle.pawn_tags.specs.declared.op.Op.TheVariants as op
 use Rattle.pawn_tags.specs.declared.op.Signature.{Signature}
 use Rattle.types_rules.specs.Clauses.{named_or}
-use Rattle.types_rules.specs.Keys.{entered, signature_of}
+use Rattle.types_rules.specs.Keys.{entered_automaton, signature_of}
 use Rattle.names_sight.specs.Operators.{right_of}
 use Rattle.check_source.specs.Signatures.{signature_by}
 
 -- the automaton of a classifier is that of its first state
 pub entered_first : (fallback : List ℕ) (states : List StateName) (first : StateName)
     → 1 ≤ length states → first ≡ get_or states 0 first
-    → entered fallback (Some states) ≡ named_or [] first.automaton
+    → entered_automaton fallback (Some states) ≡ named_or [] first.automaton
 entered_first fallback [] first h is = absurd (omega (arith, h))
 entered_first fallback (x ∷ more) first h is =
     ap (λ (s : StateName). named_or [] s.automaton) (sym is)

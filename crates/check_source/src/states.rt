@@ -34,7 +34,7 @@ fn anonymous<'a>() -> &'a [u8]
 
 /// The automaton of the entry function with a classifier; a fallback is of the one that is given.
 pub fn entered<'a>(fallback: &'a [u8], states: Option<&'a [StateName]>) -> &'a [u8]
-    ensures { result.now ≡ spec.entered fallback.now (states_view states.entry) }
+    ensures { result.now ≡ spec.entered_automaton fallback.now (states_view states.entry) }
 {
     match states {
         None => anonymous(),
@@ -45,7 +45,7 @@ pub fn entered<'a>(fallback: &'a [u8], states: Option<&'a [StateName]>) -> &'a [
 /// The automaton of the entry function with these states.
 #[tactic(auto, using(crate::proofs::KeyLaws::entered_first))]
 fn entered_by<'a>(fallback: &'a [u8], states: &'a [StateName]) -> &'a [u8]
-    ensures { result.now ≡ spec.entered fallback.now (Some states.now) }
+    ensures { result.now ≡ spec.entered_automaton fallback.now (Some states.now) }
 {
     match states {
         [] => fallback,

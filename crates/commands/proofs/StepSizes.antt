@@ -19,10 +19,10 @@ use Rattle.amx_ops.specs.State.{State, Turned, Goes, Errs, Halts, Asks, stp, fir
 use Rattle.amx_ops.specs.State.{push, pop, with_margin}
 use Rattle.amx_ops.specs.States.{IsState}
 use Rattle.amx_ops.specs.Access.{is_live, is_live_part, are_live, load, store, raise, in_frame}
-use Rattle.amx_ops.specs.Access.{load_part, store_part, part, with_part, bytes_at, moved}
+use Rattle.amx_ops.specs.Access.{load_part, store_part, part, with_part, bytes_at, cells_moved}
 use Rattle.amx_ops.specs.Access.{cell_moved, copy, compare, order_of, fill}
 use Rattle.amx_ops.specs.Effects.{at_next, jump, jump_if, stack_to, heap_to, when_multiple}
-use Rattle.amx_ops.specs.Effects.{set_register, returned, halted}
+use Rattle.amx_ops.specs.Effects.{set_register, returned, swept_if}
 use Rattle.amx_ops.specs.Step.{act, act_by, act_on, step}
 use Rattle.amx_ops.proofs.StateLaws.{length-put}
 
@@ -87,8 +87,8 @@ module _ (size : ℕ) where
       → ((t : State) → length t.cells ≡ size → Sized size (go t)) → Sized size (copy s from to n go)
   copy_sized s from to n go h f =
       guard (are_live s from n && are_live s to n)
-      (go (record s { cells = moved s.cells from to n })) (pos 5)
-      (λ e. f (record s { cells = moved s.cells from to n })
+      (go (record s { cells = cells_moved s.cells from to n })) (pos 5)
+      (λ e. f (record s { cells = cells_moved s.cells from to n })
       (length-map-range_with_len (cell_moved s.cells from to n) 0 (length s.cells) ∙ h))
 
   compare_sized : (s : State) (at to n : ℕ) (go : ℤ → Turned) → ((x : ℤ) → Sized size (go x))
@@ -177,7 +177,7 @@ module _ (size : ℕ) where
       (fill_live amx s a n is e) refl ∙ h))
 
 halted_sized : (amx : Amx) (b : Bool) (s : State) → IsState amx s
-    → length (halted b s).cells ≡ length s.cells
+    → length (swept_if b s).cells ≡ length s.cells
 halted_sized amx true s h =
     let a = h.whole in
     let b = h.order in

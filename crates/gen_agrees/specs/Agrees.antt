@@ -8,7 +8,7 @@ use Rattle.host_script.specs.Ranges.{IsScript}
 use Rattle.pawn_meaning.specs.Program.{Program, Public}
 use Rattle.pawn_meaning.specs.Told.{meaning}
 use Rattle.amx_ops.specs.declared.amx.Amx.{Amx}
-use Rattle.amx_ops.specs.Writable.{cells_of, memory_limit}
+use Rattle.amx_ops.specs.Writable.{stored_cells, memory_limit}
 use Rattle.amx_ops.specs.Trace.{Entry, Main, address_of, trace_from}
 use Rattle.amx_ops.specs.Trace as trace
 use Rattle.gen_agrees.specs.Shape.{HasShape}
@@ -28,7 +28,7 @@ Serves script natives =
 
 -- a room that a machine may have
 abbrev pub IsRoom : Amx → ℕ → Type 0
-IsRoom amx room = 4 * (cells_of amx + room) ≤ memory_limit
+IsRoom amx room = 4 * (stored_cells amx + room) ≤ memory_limit
 
 -- the file is of the program's form, and each of its runs is as the program means
 pub record Agrees (program : Program) (amx : Amx) : Type 0 where

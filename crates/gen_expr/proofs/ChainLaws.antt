@@ -8,7 +8,8 @@ use Rattle.pawn_meaning.specs.declared.node.Link.{Link}
 use Rattle.pawn_meaning.specs.Program.{Expr, Links, no_links, then_link}
 use Rattle.pawn_meaning.specs.Scope.{Scope}
 use Rattle.pawn_cells.specs.declared.operator.Comparison.{Comparison}
-use Rattle.std.specs.Prelude.{Option, Bool}
+use Rattle.std.specs.Prelude.{Option, Bool, false, ◌==◌}
+use Rattle.std.proofs.lemmas.Bool.{false≢true}
 use Rattle.amx_ops.specs.declared.op.Op.TheVariants as op
 use Rattle.gen_sim.specs.Items.{Item, item_cells, past}
 use Rattle.gen_sim.proofs.ItemLaws.{past-append}
@@ -23,6 +24,12 @@ use Rattle.gen_expr.proofs.GrowLaws.{both_grow, next_at, none_grow}
 use Rattle.gen_expr.proofs.JumpLaws.{jzer_filled}
 use Rattle.gen_expr.specs.ChainItems.{chain_items}
 use Rattle.gen_expr.specs.Holes.{holes_of, all_filled, AreIn, ended_by}
+
+-- links that aren't none
+pub some_left : (items : List Link) (none : Bool) → none ≡ (length items == 0) → none ≡ false
+    → 0 < length items
+some_left [] none e f = absurd (false≢true (sym f ∙ e))
+some_left (link ∷ items) none e f = omega arith
 
 -- ---- one link with others behind it
 

@@ -17,7 +17,7 @@ use Rattle.pawn_meaning.specs.Weight.{counted}
 use Rattle.pawn_meaning.specs.World.{first_memory}
 use Rattle.amx_ops.specs.declared.amx.Amx.{Amx}
 use Rattle.amx_ops.specs.declared.amx.Record.{Record}
-use Rattle.amx_ops.specs.Writable.{table_size, names_size, over_tables, code_place, cells_of}
+use Rattle.amx_ops.specs.Writable.{table_size, names_size, over_tables, code_place, stored_cells}
 use Rattle.amx_ops.specs.Writable.{memory_limit, IsWritableName, IsWritable}
 use Rattle.gen_agrees.specs.Shape.{native_record}
 use Rattle.gen_sim.specs.Pieces.{data_pieces}
@@ -97,9 +97,9 @@ map_same (x ∷ xs) = ap (λ l. x ∷ l) (map_same xs)
 
 -- files with so many cells, and tables of so many bytes
 pub record Fits (amx : Amx) : Type 0 where
-  pub size : code_place amx + 5 * cells_of amx < 2 ^ 31
-  pub top : code_place amx + 4 * (cells_of amx + amx.room) < 2 ^ 31
-  pub memory : 4 * (cells_of amx + amx.room) ≤ memory_limit
+  pub size : code_place amx + 5 * stored_cells amx < 2 ^ 31
+  pub top : code_place amx + 4 * (stored_cells amx + amx.room) < 2 ^ 31
+  pub memory : 4 * (stored_cells amx + amx.room) ≤ memory_limit
 
 all_fit : (amx : Amx) → length amx.code ≤ 4194306 → length amx.store ≤ 4194304 → amx.room ≤ 16777216
     → over_tables table_size amx + over_tables names_size amx ≤ 10485760 → Fits amx

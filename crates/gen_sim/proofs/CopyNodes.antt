@@ -39,7 +39,7 @@ use Rattle.gen_sim.specs.SimpleCode.{alone, taking}
 use Rattle.gen_sim.proofs.ItemSteps.{next_lies, one_item, item_sets}
 use Rattle.gen_sim.proofs.NodesPartLaws.{nodes_of, both_does}
 use Rattle.gen_sim.specs.IndexCode.{copy_code}
-use Rattle.gen_sim.proofs.IndexNodes.{AddressOf, array_leaves}
+use Rattle.gen_sim.proofs.IndexNodes.{ReferenceAddress, array_leaves}
 
 module _ (x : Site) {v : View} {pending : List ℤ} {p : ℕ} {w : World} {c : Config}
     (a : Stands x.program x.room v pending p w c)
@@ -144,9 +144,9 @@ module _ (scope : Scope) (begin : ℕ) where
         (array (scene_at x) fewer from)
         (λ r q. change (copied r q n) >>= (λ _. give (pos 0)))
         (λ r u t. ArrayAt x.program x.room v (reach lt.size) pending (past begin first) r u t)
-        (AddressOf x v (reach lt.size))
+        (ReferenceAddress x v (reach lt.size))
         (λ y r u t. ArrayAt x.program x.room v (reach lf.size) (y ∷ pending)
-        (past (past begin first + 4) second) r u t) (AddressOf x v (reach lf.size))
+        (past (past begin first + 4) second) r u t) (ReferenceAddress x v (reach lf.size))
         (λ q. With x.program x.room v pending q) w (record { lie = lie; starts = starts })
         (array (scene_at x) fewer to w) (omega (arith, deep))
         ((nodes_of x turns).arrays from)

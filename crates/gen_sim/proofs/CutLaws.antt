@@ -8,7 +8,7 @@ use Rattle.gen_sim.specs.Pieces.{Piece, Fixed, Thing, Automaton, Each, IsThere, 
 use Rattle.gen_sim.specs.Pieces.{object_cells, image, total, temporaries}
 use Rattle.gen_sim.specs.View.{IsAlive, IsOf}
 use Rattle.gen_sim.specs.Mem.{Mem}
-use Rattle.gen_sim.proofs.PieceLaws.{Leaves, each_first, each_rest, image_left, there_left}
+use Rattle.gen_sim.proofs.PieceLaws.{LeavesPieces, each_first, each_rest, image_left, there_left}
 use Rattle.gen_sim.proofs.PieceLaws.{image-append, length_image, total-append}
 use Rattle.gen_sim.proofs.ChangeLaws.{there_low, there_high, there_row, image_row}
 
@@ -52,7 +52,7 @@ cut_object m n calls (Local k s) h = refl
 cut_object m n calls (Temporary i) h = get_take n i m.heap h
 
 -- all that was there before them stays
-pub cut_leaves : (m : Memory) (n calls : ℕ) → Leaves m (cut_heap n m) (IsOf calls n)
+pub cut_leaves : (m : Memory) (n calls : ℕ) → LeavesPieces m (cut_heap n m) (IsOf calls n)
 cut_leaves m n calls = record { cells = cells; there = there }
   where
     cells : (q : Piece) → IsOf calls n q → cells_in (cut_heap n m) q ≡ cells_in m q

@@ -34,7 +34,8 @@ use Rattle.gen_sim.proofs.IndexLaws.{Knows, IsSize, sized, bounds_do}
 use Rattle.gen_sim.proofs.AddressLaws.{refers_inside}
 
 -- what is known of an array that was evaluated
-pub record AddressOf (x : Site) (v : View) (whole : Extent) (r : Reference) (y : ℤ) : Type 0 where
+pub record ReferenceAddress (x : Site) (v : View) (whole : Extent) (r : Reference) (y : ℤ)
+    : Type 0 where
   pub cell : ℕ
   pub refers : RefersTo x.program x.room v r cell
   pub address : y ≡ pos (4 * cell)
@@ -43,7 +44,7 @@ pub record AddressOf (x : Site) (v : View) (whole : Extent) (r : Reference) (y :
 pub array_leaves : (x : Site) {v : View} {whole : Extent} {pending : List ℤ} {p : ℕ} {r : Reference}
     {w : World} {c : Config}
     → ArrayAt x.program x.room v whole pending p r w c
-    → Leaves x v pending p (AddressOf x v whole r) w c
+    → Leaves x v pending p (ReferenceAddress x v whole r) w c
 array_leaves x {v} {whole} {pending} {p} {r} {w} {c} a =
     let top = refers_inside x v a.stands r a.cell a.refers in
     record {
@@ -94,7 +95,7 @@ module _ (scope : Scope) (x : Site) (site : IsSite x) (same : x.program ≡ scop
       (value (scene_at x) fewer e)
       (λ r z. index (is_known a) (count (first_size r.sizes)) z >>= (λ i. give (make r i)))
       (λ r u t. ArrayAt x.program x.room v whole pending (past begin first_items) r u t)
-      (AddressOf x v whole)
+      (ReferenceAddress x v whole)
       (λ y z u t. With x.program x.room v (y ∷ pending)
       (past (past begin first_items + 4) index_items) z u t) (λ z q. q ≡ z) Q w l
       (array (scene_at x) fewer a w) (omega (arith, deep)) ((nodes_of x turns).values e)

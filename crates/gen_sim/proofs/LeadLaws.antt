@@ -6,10 +6,10 @@ use Rattle.std.proofs.Common.{length-append}
 use Rattle.pawn_arrays.specs.Sizes.{elements_in}
 use Rattle.pawn_meaning.specs.References.{other_sizes}
 use Rattle.gen_sim.specs.Pieces.{offsets, vectors_of}
-use Rattle.gen_sim.specs.Leads.{span, Here, LeadsFrom}
+use Rattle.gen_sim.specs.Leads.{span, LeadsHere, LeadsFrom}
 use Rattle.gen_sim.proofs.Lists.{got_in_first, got_in_rest}
 
-here : (ks : List ℕ) (first n : ℕ) (sizes : List ℕ) (at a : ℕ) → Here first n ks sizes at a
+here : (ks : List ℕ) (first n : ℕ) (sizes : List ℕ) (at a : ℕ) → LeadsHere first n ks sizes at a
     → LeadsFrom ks first n sizes at a
 here [] first n sizes at a h = h
 here (e ∷ ks) first n sizes at a h = inl h
@@ -49,8 +49,9 @@ pub record RowOf (ks : List ℕ) (first n : ℕ) (sizes : List ℕ) (at a i : �
   pub leads : LeadsFrom ks first n (other_sizes sizes) (at + i * elements_in (other_sizes sizes))
       (a + i + offset)
 
-row_here : (e : ℕ) (ks : List ℕ) (first n k at a i : ℕ) → Here first n (e ∷ ks) (k ∷ e ∷ ks) at a
-    → i < k → RowOf (e ∷ ks) first n (k ∷ e ∷ ks) at a i
+row_here : (e : ℕ) (ks : List ℕ) (first n k at a i : ℕ)
+    → LeadsHere first n (e ∷ ks) (k ∷ e ∷ ks) at a → i < k
+    → RowOf (e ∷ ks) first n (k ∷ e ∷ ks) at a i
 row_here e ks first n k at a i h l =
     let j : ℕ = h.steps + i in
     let below : j < n = omega (arith, h.inside, l) in
@@ -96,13 +97,14 @@ row_of [] first n k e es at a i h l = absurd (let c : ⊥ = clash h.behind_is in
 row_of (f ∷ ks) first n k e es at a i (inl h) l =
     let same : e ∷ es ≡ f ∷ ks = h.behind_is in
     subst (λ r. RowOf (f ∷ ks) first n (k ∷ r) at a i) (sym same)
-    (row_here f ks first n k at a i (subst (λ r. Here first n (f ∷ ks) (k ∷ r) at a) same h) l)
+    (row_here f ks first n k at a i (subst (λ r. LeadsHere first n (f ∷ ks) (k ∷ r) at a) same h) l)
 row_of (f ∷ ks) first n k e es at a i (inr d) l =
     row_deeper f ks first n (k ∷ e ∷ es) at a i (row_of ks (first + n) (n * f) k e es at a i d l)
 
 -- a part of a row, from one of its cells on
 in_row : (first n k at a i : ℕ) (sizes : List ℕ) → other_sizes sizes ≡ []
-    → Here first n [] (k ∷ []) at a → i + span sizes ≤ k → Here first n [] sizes (at + i) (a + i)
+    → LeadsHere first n [] (k ∷ []) at a → i + span sizes ≤ k
+    → LeadsHere first n [] sizes (at + i) (a + i)
 in_row first n k at a i sizes behind h l = record {
   steps = h.steps + i;
   at_is = omega (arith, h.at_is);

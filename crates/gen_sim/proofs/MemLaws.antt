@@ -15,8 +15,9 @@ use Rattle.gen_sim.specs.Pieces.{extent, total}
 use Rattle.gen_sim.specs.Places.{Apart, StandsIn, InLow, InHigh, Placed}
 use Rattle.gen_sim.specs.Mem.{row, Mem}
 use Rattle.gen_sim.proofs.Lists.{put_fits}
-use Rattle.gen_sim.proofs.PieceLaws.{Leaves, each_both, length_cells, length_image, total-append}
-use Rattle.gen_sim.proofs.PieceLaws.{piece_there, row_has, row_holds, row_put, row_there}
+use Rattle.gen_sim.proofs.PieceLaws.{LeavesPieces, each_both, length_cells, length_image}
+use Rattle.gen_sim.proofs.PieceLaws.{total-append, piece_there, row_has, row_holds, row_put}
+use Rattle.gen_sim.proofs.PieceLaws.{row_there}
 
 -- ---- where pieces stand
 
@@ -237,7 +238,7 @@ module _ {N : ℕ} {low : List Piece} {pending : List ℤ} {high : List Piece} {
         (placed_at p (mem.free ++ pending) mem.size) mem.there)
 
     -- where some of its cells are written, all else stays
-    pub mem_write : (n : Memory) → Leaves m n (Apart piece) → IsThere n piece
+    pub mem_write : (n : Memory) → LeavesPieces m n (Apart piece) → IsThere n piece
         → (i : ℕ) (vs : List ℤ) → i + length vs ≤ length (cells_in m piece)
         → cells_in n piece ≡ put vs i (cells_in m piece) → (t : State)
         → t.cells ≡ put vs (first + i) s.cells → t.hea ≡ s.hea → t.stk ≡ s.stk

@@ -13,7 +13,7 @@ use Rattle.std.specs.Prelude.{All}
 use Rattle.pawn_cells.specs.Cells.{IsCell, bits_of, cell_of, char_at}
 use Rattle.pawn_meaning.specs.Memory.{put}
 use Rattle.amx_ops.specs.Access.{is_among, is_touched, byte_moved, four_bytes, cell_moved}
-use Rattle.amx_ops.specs.Access.{moved}
+use Rattle.amx_ops.specs.Access.{cells_moved}
 use Rattle.amx_ops.proofs.ByteLaws.{same_cells, byte_is}
 use Rattle.pawn_cells.proofs.CellLaws.{bits_fit}
 use Rattle.gen_sim.proofs.Lists.{put_length}
@@ -188,16 +188,16 @@ module _ (cells : List ℤ) (fit : All IsCell cells) (from to n : ℕ)
       further j b (inr a) = inr (omega (arith, a))
 
   -- so many cells from one place to another
-  pub moved_cells : moved cells (4 * from) (4 * to) (4 * n)
+  pub moved_cells : cells_moved cells (4 * from) (4 * to) (4 * n)
       ≡ put (take n (drop from cells)) to cells
   moved_cells =
       let vs : List ℤ = take n (drop from cells) in
       let count : length vs ≡ n =
       length-take-le n (drop from cells) (omega (arith, length-drop from cells, from_in)) in
-      let all : length (moved cells (4 * from) (4 * to) (4 * n)) ≡ length cells =
+      let all : length (cells_moved cells (4 * from) (4 * to) (4 * n)) ≡ length cells =
       length-map-range_with_len (cell_moved cells (4 * from) (4 * to) (4 * n)) 0
       (length cells) in
-      same_cells (moved cells (4 * from) (4 * to) (4 * n)) (put vs to cells)
+      same_cells (cells_moved cells (4 * from) (4 * to) (4 * n)) (put vs to cells)
       (all ∙ sym (put_length cells vs to (omega (arith, count, to_in))))
       (λ i h. get_or-map-range_with_len (cell_moved cells (4 * from) (4 * to) (4 * n)) 0
       (length cells) i i (pos 0) (omega (arith, h, all)) (omega arith)

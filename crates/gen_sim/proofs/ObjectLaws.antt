@@ -13,7 +13,7 @@ use Rattle.gen_sim.specs.Stands.{refers_at}
 use Rattle.gen_sim.proofs.Lists.{get_other, get_same, got_before, got_last}
 use Rattle.gen_sim.proofs.FrameLaws.{slot_owned, slot_other, pointed_same, needs_same, lower_frame}
 use Rattle.gen_sim.proofs.FrameLaws.{put_slot}
-use Rattle.gen_sim.proofs.PieceLaws.{Leaves}
+use Rattle.gen_sim.proofs.PieceLaws.{LeavesPieces}
 
 -- ---- one object
 
@@ -60,7 +60,7 @@ states_same m (Temporary n) x = refl
 
 -- all pieces but its own
 pub object_leaves : (m : Memory) (name : Name) (sizes : List ℕ) (x : Object)
-    → Leaves m (with_object name x m) (Apart (Thing name sizes))
+    → LeavesPieces m (with_object name x m) (Apart (Thing name sizes))
 object_leaves m name sizes x = record { cells = cells; there = there }
   where
     cells : (q : Piece) → Apart (Thing name sizes) q
@@ -109,7 +109,7 @@ abbrev pub with_state : ℕ → ℕ → Memory → Memory
 with_state a state m = record m { states = slice_set m.states a (Some state) }
 
 pub state_leaves : (m : Memory) (a state : ℕ)
-    → Leaves m (with_state a state m) (Apart (Automaton a))
+    → LeavesPieces m (with_state a state m) (Apart (Automaton a))
 state_leaves m a state = record { cells = cells; there = there }
   where
     cells : (q : Piece) → Apart (Automaton a) q → cells_in (with_state a state m) q ≡ cells_in m q
@@ -135,7 +135,7 @@ more_other m v (Local k s) d = refl
 more_other m v (Temporary i) d = got_before m.heap (one_cell v) i d
 
 pub temporary_leaves : (m : Memory) (v : ℤ)
-    → Leaves m (with_temporary v m) (Apart (next_temporary m))
+    → LeavesPieces m (with_temporary v m) (Apart (next_temporary m))
 temporary_leaves m v = record { cells = cells; there = there }
   where
     cells : (q : Piece) → Apart (next_temporary m) q
@@ -166,7 +166,7 @@ frame_object m f temps (Temporary n) h = refl
 
 -- the objects below it
 pub frame_leaves : (m : Memory) (f : Frame) (temps : ℕ)
-    → Leaves m (with_frame f m) (IsOf (length m.frames) temps)
+    → LeavesPieces m (with_frame f m) (IsOf (length m.frames) temps)
 frame_leaves m f temps = record { cells = cells; there = there }
   where
     cells : (q : Piece) → IsOf (length m.frames) temps q
@@ -181,7 +181,7 @@ frame_leaves m f temps = record { cells = cells; there = there }
     there (Automaton a) h t = t
 
 pub unframe_leaves : (m : Memory) (f : Frame) (temps : ℕ)
-    → Leaves (with_frame f m) m (IsOf (length m.frames) temps)
+    → LeavesPieces (with_frame f m) m (IsOf (length m.frames) temps)
 unframe_leaves m f temps = record { cells = cells; there = there }
   where
     cells : (q : Piece) → IsOf (length m.frames) temps q

@@ -69,17 +69,17 @@ total-append (p ∷ ps) qs = omega (arith, total-append ps qs)
 -- ---- what a change leaves
 
 -- from one memory to the next the pieces of a kind keep their cells
-pub record Leaves (m n : Memory) (P : Piece → Type 0) : Type 0 where
+pub record LeavesPieces (m n : Memory) (P : Piece → Type 0) : Type 0 where
   pub cells : (q : Piece) → P q → cells_in n q ≡ cells_in m q
   pub there : (q : Piece) → P q → IsThere m q → IsThere n q
 
-pub image_left : (m n : Memory) (P : Piece → Type 0) → Leaves m n P → (ps : List Piece) → Each P ps
-    → image n ps ≡ image m ps
+pub image_left : (m n : Memory) (P : Piece → Type 0) → LeavesPieces m n P → (ps : List Piece)
+    → Each P ps → image n ps ≡ image m ps
 image_left m n P l [] h = refl
 image_left m n P l (p ∷ ps) h = rw (l.cells p h.0, image_left m n P l ps h.1) refl
 
-pub there_left : (m n : Memory) (P : Piece → Type 0) → Leaves m n P → (ps : List Piece) → Each P ps
-    → AreThere m ps → AreThere n ps
+pub there_left : (m n : Memory) (P : Piece → Type 0) → LeavesPieces m n P → (ps : List Piece)
+    → Each P ps → AreThere m ps → AreThere n ps
 there_left m n P l [] h t = tt
 there_left m n P l (p ∷ ps) h t = (l.there p h.0 t.0, there_left m n P l ps h.1 t.1)
 
@@ -125,7 +125,7 @@ module _ (m : Memory) (p : Piece) (ps : List Piece) (first : ℕ) (at : StandsIn
       )
       (take-append_seam (cells_in m p) (image m at.after))
 
-  module _ (n : Memory) (l : Leaves m n (Apart p)) where
+  module _ (n : Memory) (l : LeavesPieces m n (Apart p)) where
     -- cells put into the piece are put into the row
     pub row_put : (i : ℕ) (vs : List ℤ) → i + length vs ≤ length (cells_in m p)
         → cells_in n p ≡ put vs i (cells_in m p)

@@ -12,7 +12,7 @@ span (size ∷ inner) = size
 -- in a level of n cells that begins at one: a part with these sizes, `at` elements behind the
 -- object's beginning, has its first cell there. Each cell of the level leads to a part with the
 -- sizes behind it
-pub record Here (first n : ℕ) (behind sizes : List ℕ) (at cell : ℕ) : Type 0 where
+pub record LeadsHere (first n : ℕ) (behind sizes : List ℕ) (at cell : ℕ) : Type 0 where
   pub steps : ℕ
   pub at_is : at ≡ steps * elements_in behind
   pub cell_is : cell ≡ first + steps
@@ -21,9 +21,10 @@ pub record Here (first n : ℕ) (behind sizes : List ℕ) (at cell : ℕ) : Type
 
 -- in this level of an object, or in one behind it
 abbrev pub LeadsFrom : List ℕ → (first n : ℕ) → List ℕ → (at cell : ℕ) → Type 0
-LeadsFrom [] first n sizes at cell = Here first n [] sizes at cell
+LeadsFrom [] first n sizes at cell = LeadsHere first n [] sizes at cell
 LeadsFrom (size ∷ inner) first n sizes at cell =
-    Here first n (size ∷ inner) sizes at cell ⊎ LeadsFrom inner (first + n) (n * size) sizes at cell
+    LeadsHere first n (size ∷ inner) sizes at cell
+    ⊎ LeadsFrom inner (first + n) (n * size) sizes at cell
 
 -- of an object with the sizes `all` that begins at a cell: a part with sizes of its own, so many
 -- elements behind the beginning, is the one with its first cell there

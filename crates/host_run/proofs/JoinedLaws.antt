@@ -43,7 +43,7 @@ module _ {C E : Type 0} (go : C → Moved C E) (bound : ℕ) (c : C) where
 -- ---- what was shown before
 
 -- it changes nothing of why a trace stopped, and stands in front of what the trace shows
-pub record IsBehind (es : List Event) (a b : Traced Config End) : Type 0 where
+pub record IsShownBehind (es : List Event) (a b : Traced Config End) : Type 0 where
   pub stop : b.stop ≡ a.stop
   pub config : b.config ≡ showing es a.config
 
@@ -53,7 +53,7 @@ module _ (amx : Amx) (script : Script) (es : List Event) where
 
   abbrev Resumes : ℕ → List ℕ → Config → Type 0
   Resumes bound bounds c =
-      IsBehind es (joined go bound bounds c) (joined go bound bounds (showing es c))
+      IsShownBehind es (joined go bound bounds c) (joined go bound bounds (showing es c))
 
   abbrev shown_after : Segmented Config End → Segmented Config End
   shown_after s = record { stop = s.stop; config = showing es s.config; steps = s.steps }

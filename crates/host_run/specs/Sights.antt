@@ -40,11 +40,12 @@ sought s form index [] = []
 sought s form index (value ∷ values) =
     sought_in (look s value (form index)) ∷ sought s form (suc index) values
 
--- as a host sees the arguments of a native, and whether it sees them all
+-- as a host sees the arguments of a native
 abbrev pub seen_by : State → Guest → List Seen
 seen_by s guest =
     map (λ it. it.seen) (sought s (form_at guest.forms.now guest.rest) 0 (arguments_of s))
 
+-- whether it sees them all
 abbrev pub sees_all : State → Guest → Bool
 sees_all s guest = all_seen s (form_at guest.forms.now guest.rest) 0 (arguments_of s)
 

@@ -9,7 +9,8 @@ use Rattle.pawn_cells.specs.declared.place.Place.{Place}
 use Rattle.pawn_cells.specs.declared.operator.Prefix.{Prefix}
 use Rattle.pawn_cells.specs.declared.operator.Prefix.TheVariants as before
 use Rattle.pawn_cells.specs.declared.operator.Operator.{Operator}
-use Rattle.pawn_cells.specs.Operators.{prefix, binary, compare, logical, truth, is_true}
+use Rattle.pawn_cells.specs.Cells.{truth}
+use Rattle.pawn_cells.specs.Operators.{prefix, binary, compare, logical, is_true}
 use Rattle.pawn_tags.specs.Tags.{number_of, untagged}
 use Rattle.pawn_tags.specs.Overloads.{choice}
 use Rattle.pawn_tags.specs.declared.op.Op.{Op}

@@ -9,7 +9,8 @@ use Rattle.pawn_cells.specs.declared.place.Place.{Place}
 use Rattle.pawn_cells.specs.declared.operator.Prefix.{Prefix}
 use Rattle.pawn_cells.specs.declared.operator.Operator.{Operator}
 use Rattle.pawn_cells.specs.declared.operator.Comparison.{Comparison}
-use Rattle.pawn_cells.specs.Operators.{prefix, binary, compare, truth}
+use Rattle.pawn_cells.specs.Cells.{truth}
+use Rattle.pawn_cells.specs.Operators.{prefix, binary, compare}
 use Rattle.pawn_tags.specs.Tags.{untagged}
 use Rattle.pawn_tags.specs.declared.op.Op.{Op}
 use Rattle.pawn_tree.specs.declared.name.At.{At}

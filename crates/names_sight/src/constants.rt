@@ -4,6 +4,7 @@ ghost use Rattle.names_rules.specs.Verdict.{Stands};
 ghost use Rattle.names_rules.specs.Around.{Around as PlainAround, truth_tag};
 ghost use Rattle.names_rules.specs.Signs as signs;
 ghost use Rattle.names_rules.specs.Worth as spec;
+ghost use Rattle.pawn_cells.specs.Cells.{truth};
 ghost use Rattle.pawn_cells.specs.Operators as cells;
 ghost use Rattle.pawn_cells.specs.declared.place.Place.{Place as PlainPlace};
 ghost use Rattle.pawn_verdict.specs.Answers.{Answers};
@@ -312,7 +313,7 @@ pub fn tagged_worth(cx: &Context, tag: &[u8], x: Valued) -> Valued
 
 /// Whether a chain holds, as a value.
 pub fn truth_worth(holds: bool) -> Valued
-    ensures { Stands (valued_view result) ≡ spec.valued (cells.truth holds) truth_tag }
+    ensures { Stands (valued_view result) ≡ spec.valued (truth holds) truth_tag }
 {
     make_valued(if holds { 1 } else { 0 }, TRUTH_TAG)
 }

@@ -5,7 +5,7 @@ use Rattle.pawn_lex.specs.declared.token.Token.{Token}
 use Rattle.tree_rules.specs.Tokens.{word}
 use Rattle.tree_rules.specs.Levels.{binds}
 use Rattle.tree_rules.specs.Readers.{◌>>=◌}
-use Rattle.tree_rules.specs.ReadExpressions.{Sub, Part, expr, whole, climb, grow}
+use Rattle.tree_rules.specs.ReadExpressions.{Sub, Parsed, expr, whole, climb, grow}
 use Rattle.parse_statements.proofs.Turns.{deeper, one_more, no_more}
 
 pub expr_of_none : (ts : List Token) (d : ℕ) (tags : Bool) (level i : ℕ) → d ≡ 0
@@ -19,7 +19,7 @@ unfolding expr
 expr_of_more ts d tags level i some = deeper (λ n. expr ts n tags level i) d some
 
 -- a turn is left: the token behind makes more of it, where it binds tightly enough
-pub climbs_on : (ts : List Token) (sub : Sub) (d : ℕ) (tags : Bool) (level i n at : ℕ) (t : Part)
+pub climbs_on : (ts : List Token) (sub : Sub) (d : ℕ) (tags : Bool) (level i n at : ℕ) (t : Parsed)
     → at < n
     → climb ts sub d tags level i (n - at) t
     ≡ (if nat_lt level (binds ts tags t.stop) then Some t else
@@ -30,7 +30,7 @@ climbs_on ts sub d tags level i n at t below =
 
 -- no turn is left
 pub climbs_no_more : (ts : List Token) (sub : Sub) (d : ℕ) (tags : Bool) (level i n at : ℕ)
-    (t : Part) → n ≤ at → climb ts sub d tags level i (n - at) t ≡ None
+    (t : Parsed) → n ≤ at → climb ts sub d tags level i (n - at) t ≡ None
 unfolding climb
 climbs_no_more ts sub d tags level i n at t none =
     no_more (λ k. climb ts sub d tags level i k t) n at none

@@ -13,7 +13,7 @@ use Rattle.tree_rules.specs.declared.word.Word.{Word}
 use Rattle.tree_rules.specs.declared.word.Word.TheVariants as w
 use Rattle.tree_rules.specs.Tokens.{sees}
 use Rattle.tree_rules.specs.Readers as plain
-use Rattle.tree_rules.specs.ReadExpressions.{Part}
+use Rattle.tree_rules.specs.ReadExpressions.{Parsed}
 use Rattle.parse_statements.specs.declared.part.Part as held_part
 use Rattle.parse_statements.specs.declared.part.Got as held
 use Rattle.parse_statements.specs.declared.read_fault.ReadFault.{ReadFault}
@@ -27,7 +27,7 @@ Answers ts view outcome (Err (Syntax at)) = (outcome ≡ None) × (at ≤ length
 Answers ts view outcome (Err Memory) = Unit
 
 -- an expression without its box
-abbrev pub part_view : held_part.Part → Part
+abbrev pub part_view : held_part.Part → Parsed
 part_view x =
     record { tree = expr_view x.tree.value; level = x.level; height = x.height; stop = x.stop }
 

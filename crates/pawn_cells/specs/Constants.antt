@@ -10,14 +10,14 @@ abbrev pub number : ℤ → Option Constant
 number value = Some (record { value = value; is_bool = false })
 
 -- a constant with the tag `bool`
-abbrev pub truth : Bool → Option Constant
-truth holds = Some (record { value = cells.truth holds; is_bool = true })
+abbrev pub boolean : Bool → Option Constant
+boolean holds = Some (record { value = cells.truth holds; is_bool = true })
 
 -- the one with a name
 abbrev pub predefined : List ℕ → Option Constant
 predefined name =
-    if bytes_eq name (codes "true") then truth true
-    else if bytes_eq name (codes "false") then truth false
+    if bytes_eq name (codes "true") then boolean true
+    else if bytes_eq name (codes "false") then boolean false
     else if bytes_eq name (codes "EOS") then number (pos 0)
     else if bytes_eq name (codes "cellbits") then number (pos 32)
     else if bytes_eq name (codes "cellmax") then number cells.greatest_cell

@@ -14,10 +14,6 @@ use Rattle.pawn_cells.specs.declared.operator.Logical.{Logical}
 use Rattle.pawn_cells.specs.declared.operator.Logical.TheVariants as logic
 use Rattle.pawn_cells.specs.Cells as cells
 
--- 1 for true, 0 for false
-abbrev pub truth : Bool → ℤ
-truth holds = cells.truth holds
-
 -- the cell isn't 0
 abbrev pub is_true : ℤ → Bool
 is_true a = not (cells.is_zero a)
@@ -66,8 +62,8 @@ binary between.ShiftUnsigned a b = Some (cells.ushr a b)
 binary between.And a b = Some (cells.and a b)
 binary between.Xor a b = Some (cells.xor a b)
 binary between.Or a b = Some (cells.or a b)
-binary between.Equal a b = Some (truth (cells.equal a b))
-binary between.NotEqual a b = Some (truth (not (cells.equal a b)))
+binary between.Equal a b = Some (cells.truth (cells.equal a b))
+binary between.NotEqual a b = Some (cells.truth (not (cells.equal a b)))
 
 -- whether a comparison holds
 abbrev pub compare : Comparison → ℤ → ℤ → Bool
@@ -84,7 +80,7 @@ chain_holds first (link ∷ links) = compare link.0 first link.1 && chain_holds 
 
 -- its value
 abbrev pub chain : ℤ → List (Comparison × ℤ) → ℤ
-chain first links = truth (chain_holds first links)
+chain first links = cells.truth (chain_holds first links)
 
 -- how tightly a logical operator binds
 abbrev pub logical_level : Logical → ℕ
@@ -93,5 +89,5 @@ logical_level logic.Or = 12
 
 -- what it gives for the values of both operands
 abbrev pub logical : Logical → ℤ → ℤ → ℤ
-logical logic.And a b = truth (is_true a && is_true b)
-logical logic.Or a b = truth (is_true a || is_true b)
+logical logic.And a b = cells.truth (is_true a && is_true b)
+logical logic.Or a b = cells.truth (is_true a || is_true b)

@@ -20,7 +20,7 @@ impl Constant {
     }
 
     fn truth(holds: bool) -> Option<Constant>
-        ensures { result ≡ spec.truth holds }
+        ensures { result ≡ spec.boolean holds }
     {
         Some(Constant {
             value: i32::from(holds),

@@ -1,10 +1,11 @@
 ghost use Rattle.std.specs.Prelude.{◌≡◌, ◌↔◌, IsNone, IfSome, Some, None, pos};
+ghost use Rattle.pawn_cells.specs.Cells as cells;
 ghost use Rattle.pawn_cells.specs.Operators as spec;
 
 use super::cell::Cell;
 
-/// The level of comparisons, of which a row is one chain. A level says how tightly an operator binds:
-/// the lower, the tighter (Language Guide, "Operator precedence").
+/// The level of comparisons, of which a row is one chain. A level says how tightly an operator
+/// binds: the lower, the tighter (Language Guide, "Operator precedence").
 pub const COMPARISON_LEVEL: u32 = 9;
 
 /// The level of `? :`.
@@ -166,7 +167,7 @@ impl Logical {
 
 /// 1 for true, 0 for false.
 fn truth(holds: bool) -> Cell
-    ensures { result.0 ≡ spec.truth holds }
+    ensures { result.0 ≡ cells.truth holds }
 {
     Cell(i32::from(holds))
 }

@@ -15,7 +15,7 @@ use Rattle.types_rules.specs.Sources.{Source, Stated, source_of, all_stated}
 use Rattle.types_rules.specs.Declarations.{Bodied, Done}
 use Rattle.types_rules.specs.Publics.{not_above, inserted, sorted, group_name, is_public}
 use Rattle.types_rules.specs.Publics.{publics_from, publics}
-use Rattle.types_rules.specs.Programs.{functions_from, program_of}
+use Rattle.types_rules.specs.Programs.{program_functions, program_of}
 use Rattle.types_rules.specs.TypedTrees.{Checked, unless, whole_faults, source_faults, sum_faults}
 use Rattle.types_rules.specs.TypedTrees.{within_sums, done, checked_of, typed}
 use Rattle.check_declarations.specs.NumberedNames as names
@@ -25,8 +25,8 @@ use Rattle.pawn_check.specs.FunctionNames.{function_names, AreNames}
 
 module _ (source : Source) (all : List Stated) where
   functions_long : (number : ℕ) (groups : List Group) (bodies : List Bodied)
-      → length (functions_from source all number groups bodies) ≡ length groups
-  unfolding functions_from
+      → length (program_functions source all number groups bodies) ≡ length groups
+  unfolding program_functions
   functions_long number [] bodies = refl
   functions_long number (group ∷ more) bodies = ap suc (functions_long (number + 1) more bodies)
 

@@ -9,7 +9,7 @@ use Rattle.pawn_meaning.specs.Program.{Program, Public, Tag}
 use Rattle.amx_ops.specs.declared.amx.Amx.{Amx}
 use Rattle.amx_ops.specs.declared.amx.Record.{Record}
 use Rattle.amx_ops.specs.Writable.{table_size, names_size, over_tables, name_place, names_end}
-use Rattle.amx_ops.specs.Writable.{code_place, cells_of}
+use Rattle.amx_ops.specs.Writable.{code_place, stored_cells}
 use Rattle.amx_format.specs.declared.encoding.Encoding.{Encoding}
 use Rattle.amx_format.specs.declared.header.TheConstants.{FILE_LIMIT}
 use Rattle.amx_format.specs.Layout as layout
@@ -125,7 +125,7 @@ module _ (program : Program) (amx : Amx) (good : IsGoodProgram program)
         none amx.variables agrees.shape.no_variables,
       )
 
-  cells : cells_of amx ≤ 8388610
+  cells : stored_cells amx ≤ 8388610
   cells = omega (arith, agrees.shape.code, good.limits.weight, agrees.shape.store)
 
 -- ---- bytes

@@ -8,7 +8,8 @@ use Rattle.std.proofs.lemmas.List.{drop_all}
 use Rattle.std.proofs.lemmas.List.Sums.{sum_by-cons}
 use Rattle.pawn_cells.specs.declared.cell.Cell.{Cell}
 use Rattle.pawn_cells.specs.declared.operator.Comparison.{Comparison}
-use Rattle.pawn_cells.specs.Operators.{cell_in, truth}
+use Rattle.pawn_cells.specs.Cells.{truth}
+use Rattle.pawn_cells.specs.Operators.{cell_in}
 use Rattle.pawn_meaning.specs.declared.node.Link.{Link}
 use Rattle.pawn_meaning.specs.Program.{Expr, Links, no_links, then_link}
 use Rattle.pawn_meaning.specs.View.{expr_view, links_view}

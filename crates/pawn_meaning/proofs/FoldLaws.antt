@@ -9,8 +9,8 @@ use Rattle.pawn_cells.specs.declared.operator.Prefix.{Prefix}
 use Rattle.pawn_cells.specs.declared.operator.Operator.{Operator}
 use Rattle.pawn_cells.specs.declared.operator.Comparison.{Comparison}
 use Rattle.pawn_cells.specs.declared.operator.Logical.TheVariants as logic
-use Rattle.pawn_cells.specs.Cells.{is_zero}
-use Rattle.pawn_cells.specs.Operators.{truth, is_true, prefix, binary, compare, logical}
+use Rattle.pawn_cells.specs.Cells.{is_zero, truth}
+use Rattle.pawn_cells.specs.Operators.{is_true, prefix, binary, compare, logical}
 use Rattle.pawn_meaning.specs.Program.{Expr, Const, Read, Unary, Binary, Chain, And, Or, Cond}
 use Rattle.pawn_meaning.specs.Program.{Assign, Update, UpdateBy, Step, StepBy, Copy, Operate}
 use Rattle.pawn_meaning.specs.Program.{OperateOne, Call, Native, Seq, Links, no_links, then_link}

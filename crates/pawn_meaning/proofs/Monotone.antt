@@ -11,8 +11,8 @@ use Rattle.host_script.specs.declared.event.Event.TheVariants as event
 use Rattle.host_script.specs.NativeCall.{Called, Ends_there, Answers, native_call}
 use Rattle.pawn_cells.specs.declared.operator.Comparison.{Comparison}
 use Rattle.pawn_cells.specs.declared.operator.Logical.TheVariants as logic
-use Rattle.pawn_cells.specs.Cells.{cell_of, is_zero, add}
-use Rattle.pawn_cells.specs.Operators.{truth, prefix, binary, compare, logical}
+use Rattle.pawn_cells.specs.Cells.{cell_of, is_zero, add, truth}
+use Rattle.pawn_cells.specs.Operators.{prefix, binary, compare, logical}
 use Rattle.pawn_meaning.specs.Program.{Scalar, Global, Own, Element, Char, Array, Object, SlotArray}
 use Rattle.pawn_meaning.specs.Program.{ParamArray, Row, From, Expr, Const, Read, Unary, Binary}
 use Rattle.pawn_meaning.specs.Program.{Chain, And, Or, Cond, Assign, Update, UpdateBy, Step, StepBy}

@@ -5,7 +5,8 @@ use Rattle.std.specs.Prelude.{option_map, IsTrue, ◌↔◌}
 use Rattle.std.specs.List.{sum_by}
 use Rattle.std.proofs.lemmas.List.Sums.{sum_by-cons}
 use Rattle.pawn_cells.specs.declared.cell.Cell.{Cell}
-use Rattle.pawn_cells.specs.Operators.{cell_in, truth}
+use Rattle.pawn_cells.specs.Cells.{truth}
+use Rattle.pawn_cells.specs.Operators.{cell_in}
 use Rattle.pawn_meaning.specs.Program.{Expr}
 use Rattle.pawn_meaning.specs.declared.node.Arg.{Arg}
 use Rattle.pawn_meaning.specs.declared.node.Link.{Link}

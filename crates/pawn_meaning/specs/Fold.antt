@@ -5,7 +5,8 @@ use Rattle.std.specs.Prelude.{option_and_then, if◌then◌else◌}
 use Rattle.pawn_cells.specs.declared.operator.Operator.{Operator}
 use Rattle.pawn_cells.specs.declared.operator.Comparison.{Comparison}
 use Rattle.pawn_cells.specs.declared.operator.Logical.TheVariants as logic
-use Rattle.pawn_cells.specs.Operators.{truth, is_true, prefix, binary, compare, logical}
+use Rattle.pawn_cells.specs.Cells.{truth}
+use Rattle.pawn_cells.specs.Operators.{is_true, prefix, binary, compare, logical}
 use Rattle.pawn_meaning.specs.Program.{Expr, Const, Read, Unary, Binary, Chain, And, Or, Cond}
 use Rattle.pawn_meaning.specs.Program.{Assign, Update, UpdateBy, Step, StepBy, Copy, Operate}
 use Rattle.pawn_meaning.specs.Program.{OperateOne, Call, Native, Seq, Links, no_links, then_link}

@@ -6,8 +6,8 @@ use Rattle.std.specs.Prelude.{ℕ, ◌*◌, ℤ, pos, List, [], ◌∷◌, Bool,
 use Rattle.std.specs.Prelude.{None, Some, slice_get, length, unwrap_or, if◌then◌else◌}
 use Rattle.pawn_cells.specs.declared.operator.Comparison.{Comparison}
 use Rattle.pawn_cells.specs.declared.operator.Logical.TheVariants as logic
-use Rattle.pawn_cells.specs.Cells.{cell_of, add, less_eq}
-use Rattle.pawn_cells.specs.Operators.{truth, is_true, prefix, binary, compare, logical}
+use Rattle.pawn_cells.specs.Cells.{cell_of, add, less_eq, truth}
+use Rattle.pawn_cells.specs.Operators.{is_true, prefix, binary, compare, logical}
 use Rattle.host_script.specs.declared.script.Script.{Script}
 use Rattle.host_script.specs.declared.event.End.TheVariants as end
 use Rattle.host_script.specs.declared.event.Event.TheVariants as event

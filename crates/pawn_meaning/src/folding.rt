@@ -1,6 +1,7 @@
 ghost use Rattle.std.specs.Prelude.{◌≡◌, ◌+◌, ◌&&◌, None, false, if◌then◌else◌};
 ghost use Rattle.std.specs.Prelude.{option_map, option_and_then, is_some};
-ghost use Rattle.pawn_cells.specs.Operators.{cell_in, truth, prefix};
+ghost use Rattle.pawn_cells.specs.Cells.{truth};
+ghost use Rattle.pawn_cells.specs.Operators.{cell_in, prefix};
 ghost use Rattle.pawn_meaning.specs.Capped.{capped};
 ghost use Rattle.pawn_meaning.specs.Fold as spec;
 ghost use Rattle.pawn_meaning.specs.declared.program_limits.TheConstants.{NODE_WEIGHT};

@@ -25,12 +25,13 @@ use Rattle.pawn_pre.specs.Define.{definition, undefined}
 use Rattle.pawn_pre.specs.Evaluation.{Value, proceed, or_fault}
 use Rattle.pawn_pre.specs.Level.{Level}
 use Rattle.pawn_pre.specs.Lists.{first_of}
-use Rattle.pawn_pre.specs.Work.{act, keep, with_line, line_of, is_in_chosen, begin_if, turn_elseif}
-use Rattle.pawn_pre.specs.Work.{elseif_by, elseif_part, turn_else, else_by, end_if, end_by}
-use Rattle.pawn_pre.specs.Work.{assert_true, define, undefine, without, set_pragma, pragma_by}
-use Rattle.pawn_pre.specs.Work.{in_chosen, if_chosen, push, replaced, condition_of, number_of}
-use Rattle.pawn_pre.specs.Work.{with_settings, is_set, with_definition, conditional, part_of}
-use Rattle.pawn_pre.specs.Walk.{Stack, lines_of, entered, first_stack}
+use Rattle.pawn_pre.specs.Work.{act, keep_line, with_kept_line, line_of, is_in_chosen, begin_if}
+use Rattle.pawn_pre.specs.Work.{turn_elseif, elseif_by, elseif_part, turn_else, else_by, end_if}
+use Rattle.pawn_pre.specs.Work.{end_by, assert_true, define, remove_definition, without}
+use Rattle.pawn_pre.specs.Work.{set_pragma, pragma_by, in_chosen, if_chosen, push, with_innermost}
+use Rattle.pawn_pre.specs.Work.{condition_of, number_of, with_settings, is_set, with_definition}
+use Rattle.pawn_pre.specs.Work.{conditional, part_of_value}
+use Rattle.pawn_pre.specs.Walk.{Stack, stack_lines, entered, first_stack}
 use Rattle.std.specs.Prelude.{IfOk}
 use Rattle.pawn_cells.specs.declared.place.Place.{Place}
 use Rattle.pawn_pre.specs.declared.refusal.Refusal.{Refusal}
@@ -76,7 +77,7 @@ stays_elseif value w rest (Some c) = stays_if w c.past _ _ tt (by_part c.part)
     by_part Chosen = record { lines = refl; size = refl; file = refl; rows = omega arith }
     by_part Waiting =
         stays_then w (condition_of value w rest)
-        (λ v. Ok (replaced w (conditional (part_of v) false)))
+        (λ v. Ok (with_innermost w (conditional (part_of_value v) false)))
         (λ v. record { lines = refl; size = refl; file = refl; rows = omega arith })
     by_part Done = record { lines = refl; size = refl; file = refl; rows = omega arith }
 
@@ -118,7 +119,7 @@ stays_pragma value w rest setting.Other = same w
 
 stays_chosen : (value : Value) (w : Work) (d : Word) (rest : List ℕ)
     → Stays w (in_chosen value w d rest)
-unfolding Stays define undefine assert_true set_pragma
+unfolding Stays define remove_definition assert_true set_pragma
 stays_chosen value w word.Define rest =
     stays_then w (or_fault 6 (definition w.settings.control rest)) (λ d. Ok (with_definition w d))
     (λ d. record { lines = refl; size = refl; file = refl; rows = omega arith })
@@ -148,8 +149,10 @@ stays_if_chosen value w d rest =
 stays : (value : Value) (w : Work) (d : Word) (rest : List ℕ) → Stays w (act value w d rest)
 unfolding act begin_if turn_elseif turn_else end_if Stays
 stays value w word.If rest =
-    stays_if w (is_in_chosen w) (proceed (condition_of value w rest) (λ v. Ok (push w (part_of v))))
-    (Ok (push w Done)) (stays_then w (condition_of value w rest) (λ v. Ok (push w (part_of v)))
+    stays_if w (is_in_chosen w)
+    (proceed (condition_of value w rest) (λ v. Ok (push w (part_of_value v))))
+    (Ok (push w Done))
+    (stays_then w (condition_of value w rest) (λ v. Ok (push w (part_of_value v)))
     (λ v. record { lines = refl; size = refl; file = refl; rows = omega arith }))
     (record { lines = refl; size = refl; file = refl; rows = omega arith })
 stays value w word.ElseIf rest = stays_elseif value w rest (first_of w.top.conditionals)
@@ -236,7 +239,7 @@ line_sound files w number bytes h false e = record {
 }
 
 kept_by : (files : ℕ) (w : Work) (number : ℕ) (r : Result (List ℕ) ℕ) → IsSound files w
-    → IfSound files (proceed r (λ line. with_line w number line))
+    → IfSound files (proceed r (λ line. with_kept_line w number line))
 unfolding IfSound
 kept_by files w number (Ok line) h = line_sound files w number line h _ refl
 kept_by files w number (Err kind) h = tt
@@ -247,8 +250,8 @@ kept_if files true a b h k = h
 kept_if files false a b h k = k
 
 pub kept_sound : (files : ℕ) (w new : Work) (number : ℕ) (bytes : List ℕ)
-    → keep w number bytes ≡ Ok new → IsSound files w → IsSound files new
-unfolding keep IfSound
+    → keep_line w number bytes ≡ Ok new → IsSound files w → IsSound files new
+unfolding keep_line IfSound
 kept_sound files w new number bytes e h =
     subst (λ r. IfSound files r) e
     (kept_if files (is_in_chosen w) _ _
@@ -260,7 +263,7 @@ pub top_sound : (files : ℕ) (w : Work) (top : Level) → IsSound files w → t
 top_sound files w top h k =
     record { counted = h.counted; small = h.small; placed = h.placed; named = k }
 
-pub bounded : (p : Stack) → IsSoundStack p → IsBounded (lines_of p)
+pub bounded : (p : Stack) → IsSoundStack p → IsBounded (stack_lines p)
 bounded p h =
     record { small = let e = h.work.counted in omega (arith, h.work.small); placed = h.work.placed }
 
@@ -333,7 +336,7 @@ row_sound p top e h =
 
 pub kept_page : (p : Stack) (new : Work) (number : ℕ) (bytes : List ℕ)
     (done : Result (Unit {0}) Refusal) → IsSoundStack p →
-    Acted (keep p.work number bytes) done new
+    Acted (keep_line p.work number bytes) done new
     → IfOk done (λ d. IsSoundStack (record p { work = new }))
 kept_page p new number bytes (Ok d) h e =
     work_sound p new h (kept_sound (length p.names) p.work new number bytes e h.work)

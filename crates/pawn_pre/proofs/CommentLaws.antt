@@ -6,7 +6,7 @@ use Rattle.std.proofs.lemmas.Bool.{eqb-true}
 use Rattle.pawn_pre.specs.Comments.{Text, Remark, clean, with_byte}
 use Rattle.pawn_pre.specs.File.{part_at}
 use Rattle.pawn_pre.specs.Quote.{is_outside, quote_after}
-use Rattle.pawn_pre.specs.Scan.{scan, one, closed, before, mode_at}
+use Rattle.pawn_pre.specs.Scan.{scan, one, scan_end, before, mode_at}
 use Rattle.pawn_pre.specs.declared.clean.Mode.{Mode}
 use Rattle.pawn_pre.specs.declared.clean.Mode.TheVariants.{Reads, Slash, Over, Inside, Star}
 use Rattle.pawn_pre.specs.declared.quote.Quote.{Quote}
@@ -75,7 +75,7 @@ behind_star b bs ih true h rest = rw h (ih.text Outside)
 behind_star b bs ih false h rest = rw h (rest)
 
 agrees : (bs : List ℕ) → Agrees bs
-unfolding scan clean one closed before
+unfolding scan clean one scan_end before
 agrees [] = record {
   text = λ quote. refl;
   slash = refl;
@@ -102,7 +102,7 @@ scan_is_clean false bs = (agrees bs).text Outside
 -- at a line's end
 pub closed_is_clean : (out line rest : List ℕ) (mode : Mode) (unclosed : Bool) → rest ≡ [] →
     before out (scan mode rest) ≡ scan (mode_at unclosed) line →
-    before out (closed mode) ≡ clean (part_at unclosed) line
+    before out (scan_end mode) ≡ clean (part_at unclosed) line
 unfolding scan
 closed_is_clean out line rest mode unclosed e h =
     let P : List ℕ → Type 0 = λ r. before out (scan mode r) ≡ scan (mode_at unclosed) line in

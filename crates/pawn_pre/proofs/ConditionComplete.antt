@@ -21,7 +21,7 @@ use Rattle.pawn_pre.specs.declared.evaluate.Wait.TheVariants.{Second}
 use Rattle.pawn_pre.specs.Nested.{Nested, Number, Group, Before, Two, Choice, level, parts}
 use Rattle.pawn_pre.specs.Nested.{Nests, reading, prefix_part, plain, grouped}
 use Rattle.pawn_pre.specs.ConditionMachine.{Held, held, settle, operand, operator, whole_by}
-use Rattle.pawn_pre.specs.ConditionMachine.{closed_by, chosen_by}
+use Rattle.pawn_pre.specs.ConditionMachine.{bracket_closed_by, chosen_by}
 
 -- nothing that waits takes an operand that binds so tightly, or more
 pub Rests : ℕ → List Wait → Type 0
@@ -129,7 +129,8 @@ came (Group e) k ws rest low fits rests =
       got = grouped (reading e);
       runs = ap (λ ts. operand ts (Mark ∷ ws)) (append_assoc (parts e) (part.Close ∷ []) rest)
           ∙ inner.runs
-          ∙ ap (λ (h : Held). closed_by h.waits (λ below. operator rest below (grouped h.operand)))
+          ∙ ap (λ (h : Held).
+          bracket_closed_by h.waits (λ below. operator rest below (grouped h.operand)))
           settled;
       comes = λ j h. refl;
     }

@@ -17,7 +17,7 @@ use Rattle.pawn_pre.specs.declared.evaluate.Wait.TheVariants.{Second}
 use Rattle.pawn_pre.specs.Nested.{Nested, Number, Group, Before, Two, Choice, level, parts}
 use Rattle.pawn_pre.specs.Nested.{Nests, reading, prefix_part, grouped}
 use Rattle.pawn_pre.specs.ConditionMachine.{Held, held, settle, operand, operator, whole_by}
-use Rattle.pawn_pre.specs.ConditionMachine.{closed_by, chosen_by}
+use Rattle.pawn_pre.specs.ConditionMachine.{bracket_closed_by, chosen_by}
 use Rattle.pawn_pre.proofs.ConditionComplete.{levels}
 
 -- what waits, with the trees that were read
@@ -230,7 +230,8 @@ close_case : (ts : List Part) (halves : List Half) (tree : Nested) (r : Reading)
     → Nests 13 tree →
     ((hs : List Half) → Good hs → operator ts (waits_of hs) (reading (Group tree)) ≡ Some r
     → Whole ((read hs ++ parts (Group tree)) ++ ts) r) →
-    closed_by (waits_of halves) (λ below. operator ts below (grouped (reading tree))) ≡ Some r
+    bracket_closed_by (waits_of halves) (λ below. operator ts below (grouped (reading tree)))
+    ≡ Some r
     → Whole ((read halves ++ parts tree) ++ (part.Close ∷ ts)) r
 unfolding parts reading
 close_case ts [] tree r good fits rest got = nothing r got
@@ -326,7 +327,8 @@ mutual
       moved _ _ r (ap (λ us. us ++ (part.Close ∷ ts)) s.same)
       (close_case ts s.halves s.tree r s.good s.fits_level
       (λ below g o. operator_sound ts below (Group s.tree) r g (λ k h. s.fits_level) o)
-      (sym (ap (λ (h : Held). closed_by h.waits (λ below. operator ts below (grouped h.operand)))
+      (sym (ap (λ (h : Held).
+      bracket_closed_by h.waits (λ below. operator ts below (grouped h.operand)))
       s.is) ∙ got))
 
 -- all that is read spells a tree

@@ -28,9 +28,9 @@ pub data Mode : Type 0 where
   Reads : Mode
   Drops : Way → List Bool → Mode
 
-unfoldable pub chosen : List Bool → List Conditional
-chosen [] = []
-chosen (past ∷ rest) = conditional Chosen past ∷ chosen rest
+unfoldable pub all_chosen : List Bool → List Conditional
+all_chosen [] = []
+all_chosen (past ∷ rest) = conditional Chosen past ∷ all_chosen rest
 
 unfoldable pub passed : List Bool → List Conditional → List Conditional
 passed [] outer = outer
@@ -42,8 +42,8 @@ part_by (Passes past) = conditional Done past
 
 -- the conditionals of the innermost file, on the stack and on the page
 abbrev pub stacked : Mode → List Bool → List Conditional
-stacked Reads outer = chosen outer
-stacked (Drops way inner) outer = passed inner (part_by way ∷ chosen outer)
+stacked Reads outer = all_chosen outer
+stacked (Drops way inner) outer = passed inner (part_by way ∷ all_chosen outer)
 
 abbrev pub marked_by : Way → List Bool → List Bool
 marked_by Waits outer = outer
@@ -81,7 +81,7 @@ lines_open top below = lines_in top (lines_below below)
 -- the files below are in chosen parts
 unfoldable pub Covers : List (List Bool) → List Level → Type 0
 Covers [] [] = Unit {0}
-Covers (outer ∷ lower) (file ∷ below) = (file.conditionals ≡ chosen outer) × Covers lower below
+Covers (outer ∷ lower) (file ∷ below) = (file.conditionals ≡ all_chosen outer) × Covers lower below
 Covers [] (file ∷ below) = ⊥
 Covers (outer ∷ lower) [] = ⊥
 

@@ -7,8 +7,9 @@ use Rattle.pawn_cells.specs.declared.place.Place.{Place}
 use Rattle.pawn_pre.specs.declared.directive.Word.{Word}
 use Rattle.pawn_pre.specs.declared.directive.Word.TheVariants as word
 use Rattle.pawn_pre.specs.declared.work.Work.{Work}
-use Rattle.pawn_pre.specs.Work.{act, keep, begin_if, turn_elseif, turn_else, end_if, elseif_by}
-use Rattle.pawn_pre.specs.Work.{else_by, end_by, is_in_chosen, replaced, conditional, part_of}
+use Rattle.pawn_pre.specs.Work.{act, keep_line, begin_if, turn_elseif, turn_else, end_if}
+use Rattle.pawn_pre.specs.Work.{elseif_by, else_by, end_by, is_in_chosen, with_innermost}
+use Rattle.pawn_pre.specs.Work.{conditional, part_of_value}
 use Rattle.pawn_pre.specs.Conditionals.{if_by}
 use Rattle.pawn_pre.specs.Lists.{first_of}
 use Rattle.pawn_pre.specs.Marks.{Mark, Opens, Closes, begun, kept, rules, settings, conditionals}
@@ -20,14 +21,14 @@ use Rattle.pawn_pre.specs.Turn.{Turn, Goes, fault}
 use Rattle.pawn_pre.specs.Evaluation.{Value}
 use Rattle.pawn_pre.specs.Walk as walks
 use Rattle.pawn_pre.specs.Walk.{Turned, On, Stopped, worked}
-use Rattle.pawn_pre.proofs.Mirror.{Way, Waits, Passes, Drops, Covers, Follows, Mirrors, chosen}
+use Rattle.pawn_pre.proofs.Mirror.{Way, Waits, Passes, Drops, Covers, Follows, Mirrors, all_chosen}
 use Rattle.pawn_pre.proofs.Mirror.{passed, part_by, marked_by, shown, shown_stays, dropped_by, lines_open}
 use Rattle.pawn_pre.proofs.MirrorKept.{fails, by_result, reads_on}
 use Rattle.pawn_pre.proofs.MirrorParts.{opened_by}
 use Rattle.pawn_pre.proofs.PageLaws.{started}
 
 not_chosen : (way : Way) (inner outer : List Bool)
-    → is_chosen (first_of (passed inner (part_by way ∷ chosen outer))) ≡ false
+    → is_chosen (first_of (passed inner (part_by way ∷ all_chosen outer))) ≡ false
 unfolding passed
 not_chosen Waits [] outer = refl
 not_chosen (Passes past) [] outer = refl
@@ -82,17 +83,18 @@ module _ (value : Value) (map : Held) (marks : List Mark) (lower : List (List Bo
 
     pub drops_plain : (bytes : List ℕ) →
         Mirrors value map (worked (shown marks (Drops way inner) outer top below) number
-        (keep (shown marks (Drops way inner) outer top below).work number bytes))
+        (keep_line (shown marks (Drops way inner) outer top below).work number bytes))
         (dropped_by way marks (partner inner
         (Line (place top.file number) (Plain bytes) ∷ lines_open top below)))
-    unfolding keep partner
+    unfolding keep_line partner
     drops_plain bytes = passed_over _
 
     include_passed : (optional : Bool) (bytes : List ℕ) →
-        Mirrors value map (walks.include map (shown marks (Drops way inner) outer top below) number
+        Mirrors value map
+        (walks.walk_include map (shown marks (Drops way inner) outer top below) number
         optional bytes)
         (dropped_by way marks (partner inner (lines_open top below)))
-    unfolding walks.include
+    unfolding walks.walk_include
     include_passed optional bytes =
         fails (λ t. Mirrors value map t
         (dropped_by way marks (partner inner (lines_open top below))))
@@ -118,9 +120,9 @@ module _ (value : Value) (map : Held) (marks : List Mark) (lower : List (List Bo
       (opens : conditionals marks ≡ marked_by way outer ∷ lower) (bytes : List ℕ) →
       Mirrors value map (worked (shown marks (Drops way inner) outer top below) number
       (elseif_by value (shown marks (Drops way inner) outer top below).work bytes
-      (first_of (passed inner (part_by way ∷ chosen outer)))))
+      (first_of (passed inner (part_by way ∷ all_chosen outer)))))
       (dropped way inner word.ElseIf bytes)
-  unfolding dropped partner passed chosen turn
+  unfolding dropped partner passed all_chosen turn
   drops_elseif way (true ∷ inner) opens bytes = rw (lacks way marks 2 (place top.file number)) refl
   drops_elseif way (false ∷ inner) opens bytes = stays way (false ∷ inner) opens
   drops_elseif Waits [] opens bytes =
@@ -128,8 +130,8 @@ module _ (value : Value) (map : Held) (marks : List Mark) (lower : List (List Bo
       ∷ lines_open top below)
       (by_result value map marks lower top below covers number (Drops Waits []) outer
       (condition_at value marks bytes)
-      (λ v. Ok (replaced (shown marks (Drops Waits []) outer top below).work
-      (conditional (part_of v) false)))
+      (λ v. Ok (with_innermost (shown marks (Drops Waits []) outer top below).work
+      (conditional (part_of_value v) false)))
       (λ v. if_by (not (is_zero v)) marks (lines_open top below))
       (λ v. opened_by value map marks lower top below covers number outer opens (is_zero v)))
   drops_elseif (Passes true) [] opens bytes = refl
@@ -142,9 +144,9 @@ module _ (value : Value) (map : Held) (marks : List Mark) (lower : List (List Bo
       (opens : conditionals marks ≡ marked_by way outer ∷ lower) (bytes : List ℕ) →
       Mirrors value map (worked (shown marks (Drops way inner) outer top below) number
       (else_by (shown marks (Drops way inner) outer top below).work
-      (first_of (passed inner (part_by way ∷ chosen outer)))))
+      (first_of (passed inner (part_by way ∷ all_chosen outer)))))
       (dropped way inner word.Else bytes)
-  unfolding dropped partner passed chosen turn begun kept rules settings conditionals
+  unfolding dropped partner passed all_chosen turn begun kept rules settings conditionals
   drops_else way (true ∷ inner) opens bytes = rw (lacks way marks 2 (place top.file number)) refl
   drops_else way (false ∷ inner) opens bytes = stays way (true ∷ inner) opens
   drops_else Waits [] opens bytes =
@@ -160,9 +162,9 @@ module _ (value : Value) (map : Held) (marks : List Mark) (lower : List (List Bo
       (opens : conditionals marks ≡ marked_by way outer ∷ lower) (bytes : List ℕ) →
       Mirrors value map (worked (shown marks (Drops way inner) outer top below) number
       (end_by (shown marks (Drops way inner) outer top below).work
-      (first_of (passed inner (part_by way ∷ chosen outer)))))
+      (first_of (passed inner (part_by way ∷ all_chosen outer)))))
       (dropped way inner word.Endif bytes)
-  unfolding dropped partner passed chosen begun kept rules settings conditionals
+  unfolding dropped partner passed all_chosen begun kept rules settings conditionals
   drops_endif way (past ∷ inner) opens bytes = stays way inner opens
   drops_endif Waits [] opens bytes =
       reads_on value map marks lower top below covers number marks outer opens
@@ -173,7 +175,7 @@ module _ (value : Value) (map : Held) (marks : List Mark) (lower : List (List Bo
 
   pub drops : (way : Way) (inner : List Bool)
       (opens : conditionals marks ≡ marked_by way outer ∷ lower) (w : Word) (bytes : List ℕ) →
-      Mirrors value map (walks.direct value map
+      Mirrors value map (walks.walk_directive value map
       (shown marks (Drops way inner) outer top below) number w bytes) (dropped_by way marks
       (partner inner (Line (place top.file number) (Directs w bytes) ∷ lines_open top below)))
   unfolding dropped act turn_elseif turn_else end_if partner

@@ -28,10 +28,11 @@ use Rattle.pawn_pre.specs.Partner.{partner}
 use Rattle.pawn_pre.specs.Turn.{Turn, Goes}
 use Rattle.pawn_pre.specs.Evaluation.{Value}
 use Rattle.pawn_pre.specs.Walk as walks
-use Rattle.pawn_pre.specs.Walk.{Stack, Turned, On, Stopped, step, run, run_by, Ends, first_stack}
-use Rattle.pawn_pre.specs.Walk.{at_end, line_by}
+use Rattle.pawn_pre.specs.Walk.{Stack, Turned, On, Stopped, step, run_walk, run_walk_by, WalkEnds}
+use Rattle.pawn_pre.specs.Walk.{first_stack, at_end, line_by}
 use Rattle.pawn_pre.proofs.Mirror.{Waits, Passes, Mode, Reads, Drops, Covers, Follows, Mirrors}
-use Rattle.pawn_pre.proofs.Mirror.{chosen, passed, marked, shown, pending, lines_open, lines_below}
+use Rattle.pawn_pre.proofs.Mirror.{all_chosen, passed, marked, shown, pending, lines_open}
+use Rattle.pawn_pre.proofs.Mirror.{lines_below}
 use Rattle.pawn_pre.proofs.MirrorDropped.{drops, drops_plain}
 use Rattle.pawn_pre.proofs.MirrorInclude.{includes}
 use Rattle.pawn_pre.proofs.MirrorKept.{keeps, defines, undefines, errs, asserts, stops, sets}
@@ -45,7 +46,8 @@ module _ (value : Value) (map : Held) (marks : List Mark) (lower : List (List Bo
     (below : List Level) (covers : Covers lower below) (number : ℕ)
     (outer : List Bool) where
   directs : (opens : conditionals marks ≡ outer ∷ lower) (w : Word) (bytes : List ℕ) →
-      Mirrors value map (walks.direct value map (shown marks Reads outer top below) number w bytes)
+      Mirrors value map
+      (walks.walk_directive value map (shown marks Reads outer top below) number w bytes)
       (page.direct value map marks (place top.file number) w bytes (lines_open top below))
   directs opens word.Define bytes =
       defines value map marks lower top below covers number outer opens bytes
@@ -95,7 +97,7 @@ module _ (value : Value) (map : Held) (marks : List Mark) (lower : List (List Bo
 module _ (value : Value) (map : Held) (marks : List Mark) (file last : ℕ) where
   closes_by : (lower : List (List Bool)) (below : List Level) → Covers lower below
       → conditionals marks ≡ [] ∷ lower → (rows : List Row) (unclosed : Bool) →
-      Mirrors value map (walks.closed_by
+      Mirrors value map (walks.next_file
       (shown marks Reads [] (record {
         file = file;
         last = last;
@@ -132,7 +134,7 @@ module _ (value : Value) (map : Held) (marks : List Mark) (file last : ℕ) wher
       (record { file = file; last = last; unclosed = unclosed; rows = rows; conditionals = [] })
       below))
       (pending value map mode marks (End (place file last) unclosed ∷ lines_below below))
-  unfolding at_end turn partner chosen passed
+  unfolding at_end turn partner all_chosen passed
   ended Reads outer lower below covers opens true rows = refl
   ended Reads [] lower below covers opens false rows =
       rw opens (closes_by lower below covers opens rows false)
@@ -166,23 +168,24 @@ module _ (value : Value) (map : Held) where
 
   by_step : (o : Outcome) (go_on : Stack → Option Outcome) →
       ((s : Stack) (t : Turn) → Follows value map s t → go_on s ≡ Some o → EndsBy value map t o) →
-      (turned : Turned) (t : Turn) → Mirrors value map turned t → run_by turned go_on ≡ Some o
+      (turned : Turned) (t : Turn) → Mirrors value map turned t → run_walk_by turned go_on ≡ Some o
       → EndsBy value map t o
   by_step o go_on next (On s) t m e = next s t m e
   by_step o go_on next (Stopped outcome) t m e = subst (λ p. EndsBy value map t p) (cc) m
 
   ends : (n : ℕ) (o : Outcome) (s : Stack) (t : Turn) → Follows value map s t
-      → run value map n s ≡ Some o → EndsBy value map t o
-  unfolding run
+      → run_walk value map n s ≡ Some o → EndsBy value map t o
+  unfolding run_walk
   ends zero o s t f e = absurd (cc)
   ends (suc n) o s t f e = f.leads o
-      (by_step o (λ q. run value map n q) (λ q u k. ends n o q u k) _ _
+      (by_step o (λ q. run_walk value map n q) (λ q u k. ends n o q u k) _ _
       (stepped f.marks f.mode f.outer f.lower f.top f.below f.covers f.opens f.top.rows)
-      (subst (λ q. run_by (step value map q) (λ r. run value map n r) ≡ Some o) f.shows e))
+      (subst (λ q. run_walk_by (step value map q) (λ r. run_walk value map n r) ≡ Some o)
+      f.shows e))
 
   first : (name bytes : List ℕ) → Follows value map (first_stack name bytes)
       (Goes (Began name ∷ []) (lines_of_file 0 (file_of bytes) []))
-  unfolding begun kept rules settings conditionals chosen lines_below Covers
+  unfolding begun kept rules settings conditionals all_chosen lines_below Covers
   first name bytes = record {
     marks = Began name ∷ [];
     mode = Reads;
@@ -196,14 +199,14 @@ module _ (value : Value) (map : Held) where
     leads = λ o ends. started value map _ _ o ends;
   }
 
-  first_ends : (name bytes : List ℕ) (o : Outcome) → Ends value map (first_stack name bytes) o →
+  first_ends : (name bytes : List ℕ) (o : Outcome) → WalkEnds value map (first_stack name bytes) o →
       page.Ends value map (Began name ∷ []) (lines_of_file 0 (file_of bytes) []) o
   first_ends name bytes o e = ends e.steps o _ _ (first name bytes) e.ends
 
   module _ (is : IsValue value) where
     comes : (name bytes : List ℕ) → get map name ≡ Some bytes → is_long_file bytes ≡ false
         → (o : Outcome) →
-        Ends value map (first_stack name bytes) o → Comes map name o
+        WalkEnds value map (first_stack name bytes) o → Comes map name o
     comes name bytes held short o e = record {
       value = value;
       is_value = is;

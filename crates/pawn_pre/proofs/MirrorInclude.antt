@@ -16,7 +16,8 @@ use Rattle.pawn_pre.specs.Turn.{Turn}
 use Rattle.pawn_pre.specs.Evaluation.{Value}
 use Rattle.pawn_pre.specs.Walk as walks
 use Rattle.pawn_pre.specs.Walk.{Turned}
-use Rattle.pawn_pre.proofs.Mirror.{Reads, Covers, Mirrors, chosen, shown, lines_open, lines_below}
+use Rattle.pawn_pre.proofs.Mirror.{Reads, Covers, Mirrors, all_chosen, shown, lines_open}
+use Rattle.pawn_pre.proofs.Mirror.{lines_below}
 use Rattle.pawn_pre.proofs.MirrorKept.{holds, in_chosen_part, reads_on}
 use Rattle.pawn_pre.proofs.PageLaws.{started}
 
@@ -48,15 +49,16 @@ module _ (value : Value) (map : Held) (marks : List Mark) (lower : List (List Bo
     (below : List Level) (covers : Covers lower below) (number : ℕ)
     (outer : List Bool) (opens : conditionals marks ≡ outer ∷ lower) where
   misses : (optional : Bool) →
-      Mirrors value map (walks.missing (shown marks Reads outer top below) number optional)
+      Mirrors value map (walks.walk_missing (shown marks Reads outer top below) number optional)
       (page.missing marks (place top.file number) optional (lines_open top below))
   misses true = reads_on value map marks lower top below covers number marks outer opens
   misses false = refl
 
   finds : (optional : Bool) (name : List ℕ) (held : Option (List ℕ)) →
-      Mirrors value map (walks.found (shown marks Reads outer top below) number optional name held)
+      Mirrors value map
+      (walks.walk_found (shown marks Reads outer top below) number optional name held)
       (page.found marks (place top.file number) optional name held (lines_open top below))
-  unfolding begun kept rules settings conditionals chosen lines_below Covers
+  unfolding begun kept rules settings conditionals all_chosen lines_below Covers
   finds optional name None = misses optional
   finds optional name (Some bytes) = both value map (is_long_file bytes) _ _ _ _ refl (record {
     marks = Began name ∷ marks;
@@ -72,8 +74,9 @@ module _ (value : Value) (map : Held) (marks : List Mark) (lower : List (List Bo
   })
 
   asks : (optional : Bool) (n : Named) →
-      Mirrors value map (walks.asked map (shown marks Reads outer top below) number optional n)
-      (page.asked map marks (place top.file number) optional n (lines_open top below))
+      Mirrors value map
+      (walks.walk_include_asked map (shown marks Reads outer top below) number optional n)
+      (page.include_asked map marks (place top.file number) optional n (lines_open top below))
   asks optional n =
       both value map n.valid _ _ _ _ (finds optional n.name (get map n.name)) (misses optional)
 
@@ -83,7 +86,7 @@ module _ (value : Value) (map : Held) (marks : List Mark) (lower : List (List Bo
       (ap length opens ∙ (let e = covers_length lower below covers in omega (arith, e)))
 
   includes_named : (optional : Bool) (n : Named) →
-      Mirrors value map (walks.include_named map
+      Mirrors value map (walks.walk_include_named map
       (shown marks Reads outer top below) number optional n)
       (page.include_named map marks (place top.file number) optional n (lines_open top below))
   includes_named optional n = both value map (page.is_begun marks n.name) _ _ _ _
@@ -91,10 +94,10 @@ module _ (value : Value) (map : Held) (marks : List Mark) (lower : List (List Bo
       (rw deep (both value map (nat_lt 15 (length below)) _ _ _ _ refl (asks optional n)))
 
   pub includes : (optional : Bool) (bytes : List ℕ) →
-      Mirrors value map (walks.include map
+      Mirrors value map (walks.walk_include map
       (shown marks Reads outer top below) number optional bytes)
       (page.include map marks (place top.file number) optional bytes (lines_open top below))
-  unfolding walks.include
+  unfolding walks.walk_include
   includes optional bytes =
       holds (λ t. Mirrors value map t
       (page.include map marks (place top.file number) optional bytes (lines_open top below))) _

@@ -9,9 +9,9 @@ use Rattle.pawn_pre.specs.declared.directive.Setting.TheVariants as setting
 use Rattle.pawn_pre.specs.declared.directive.Word.TheVariants as word
 use Rattle.pawn_pre.specs.declared.line.TheConstants.{MOST_BYTES}
 use Rattle.pawn_pre.specs.declared.work.Work.{Work}
-use Rattle.pawn_pre.specs.Work.{act, keep, with_line, is_in_chosen, define, undefine, without}
-use Rattle.pawn_pre.specs.Work.{assert_true, set_pragma, pragma_by, with_definition, with_settings}
-use Rattle.pawn_pre.specs.Work.{is_set}
+use Rattle.pawn_pre.specs.Work.{act, keep_line, with_kept_line, is_in_chosen, define}
+use Rattle.pawn_pre.specs.Work.{remove_definition, without, assert_true, set_pragma, pragma_by}
+use Rattle.pawn_pre.specs.Work.{with_definition, with_settings, is_set}
 use Rattle.pawn_pre.specs.Blanks.{past_blanks}
 use Rattle.pawn_pre.specs.Define.{definition, undefined}
 use Rattle.pawn_pre.specs.Directive.{pragma, quoted_byte}
@@ -27,8 +27,8 @@ use Rattle.pawn_pre.specs.Substitution.{expanded}
 use Rattle.pawn_pre.specs.Evaluation.{Value, proceed, or_fault}
 use Rattle.pawn_pre.specs.Walk.{worked}
 use Rattle.pawn_pre.proofs.BoundLaws.{bytes_of-push}
-use Rattle.pawn_pre.proofs.Mirror.{Mode, Reads, Covers, Follows, Mirrors, chosen, shown, lines_open}
-use Rattle.pawn_pre.proofs.Mirror.{lines_below}
+use Rattle.pawn_pre.proofs.Mirror.{Mode, Reads, Covers, Follows, Mirrors, all_chosen, shown}
+use Rattle.pawn_pre.proofs.Mirror.{lines_open, lines_below}
 use Rattle.pawn_pre.proofs.PageLaws.{started}
 
 -- a test that holds, and one that doesn't
@@ -40,8 +40,8 @@ pub fails : {A : Type 0} (P : A → Type 0) (t : Bool) (a b : A) → t ≡ false
 fails P true a b e p = absurd (cc)
 fails P false a b e p = p
 
-pub in_chosen_part : (outer : List Bool) → is_chosen (first_of (chosen outer)) ≡ true
-unfolding chosen
+pub in_chosen_part : (outer : List Bool) → is_chosen (first_of (all_chosen outer)) ≡ true
+unfolding all_chosen
 in_chosen_part [] = refl
 in_chosen_part (past ∷ outer) = refl
 
@@ -107,13 +107,13 @@ module _ (value : Value) (map : Held) (marks : List Mark) (lower : List (List Bo
 
     pub keeps : (bytes : List ℕ) →
         Mirrors value map (worked (shown marks Reads outer top below) number
-        (keep (shown marks Reads outer top below).work number bytes))
+        (keep_line (shown marks Reads outer top below).work number bytes))
         (kept_lines.keep marks (place top.file number) bytes (lines_open top below))
-    unfolding keep
+    unfolding keep_line
     keeps bytes =
         chosen_then _ _ _ (by_result Reads outer
         (expanded (rules marks) (settings marks).control bytes)
-        (λ line. with_line (shown marks Reads outer top below).work number line)
+        (λ line. with_kept_line (shown marks Reads outer top below).work number line)
         (λ line. kept_lines.with_line marks (place top.file number) line (lines_open top below))
         (λ line. line_kept line (nat_lt MOST_BYTES (kept_lines.size marks + length line))))
 
@@ -143,7 +143,7 @@ module _ (value : Value) (map : Held) (marks : List Mark) (lower : List (List Bo
         (act value (shown marks Reads outer top below).work word.Undef bytes))
         (page.direct value map marks (place top.file number) word.Undef bytes
         (lines_open top below))
-    unfolding act undefine
+    unfolding act remove_definition
     undefines bytes = chosen_then _ _ _ (undefines_by (undefined bytes))
 
     pub errs : (bytes : List ℕ) →
@@ -178,7 +178,7 @@ module _ (value : Value) (map : Held) (marks : List Mark) (lower : List (List Bo
         (act value (shown marks Reads outer top below).work word.Endinput bytes))
         (page.direct value map marks (place top.file number) word.Endinput bytes
         (lines_open top below))
-    unfolding act begun kept rules settings conditionals chosen lines_of_rows
+    unfolding act begun kept rules settings conditionals all_chosen lines_of_rows
     stops bytes = chosen_then _ _ _ (record {
       marks = Stops ∷ marks;
       mode = Reads;

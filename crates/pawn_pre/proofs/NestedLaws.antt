@@ -10,7 +10,8 @@ use Rattle.pawn_cells.specs.declared.operator.Operator.TheVariants as between
 use Rattle.pawn_cells.specs.declared.operator.Prefix.{Prefix}
 use Rattle.pawn_cells.specs.declared.operator.Prefix.TheVariants as prefix
 use Rattle.pawn_cells.specs.Operators as operators
-use Rattle.pawn_cells.specs.Operators.{chain, chain_holds, compare, truth}
+use Rattle.pawn_cells.specs.Cells.{truth}
+use Rattle.pawn_cells.specs.Operators.{chain, chain_holds, compare}
 use Rattle.pawn_token.specs.declared.kind.TokenKind.{TokenKind}
 use Rattle.pawn_token.specs.declared.kind.TokenKind.TheVariants as kind
 use Rattle.pawn_token.specs.declared.sign.Sign.TheVariants as sign

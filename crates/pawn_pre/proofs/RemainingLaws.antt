@@ -12,7 +12,7 @@ use Rattle.pawn_pre.specs.declared.line.TheConstants.{MOST_BYTES}
 use Rattle.pawn_pre.specs.declared.directive.Word.{Word}
 use Rattle.pawn_pre.specs.declared.work.Work.{Work}
 use Rattle.pawn_pre.specs.Acted.{Acted}
-use Rattle.pawn_pre.specs.Work.{act, keep, with_line, is_in_chosen}
+use Rattle.pawn_pre.specs.Work.{act, keep_line, with_kept_line, is_in_chosen}
 use Rattle.pawn_pre.specs.WalkAnswers.{IsTold}
 use Rattle.pawn_pre.specs.File.{file_of}
 use Rattle.pawn_pre.specs.Lists.{first_of, rest_of}
@@ -78,22 +78,22 @@ rows_if w true a b h k = h
 rows_if w false a b h k = k
 
 rows_by : (w : Work) (number : ℕ) (r : Result (List ℕ) ℕ)
-    → IfRows w (proceed r (λ line. with_line w number line))
+    → IfRows w (proceed r (λ line. with_kept_line w number line))
 unfolding IfRows
 rows_by w number (Ok line) =
     rows_if w (nat_lt MOST_BYTES (w.size + length line)) _ _ tt (omega arith)
 rows_by w number (Err kind) = tt
 
-kept_rows : (w new : Work) (number : ℕ) (bytes : List ℕ) → keep w number bytes ≡ Ok new
+kept_rows : (w new : Work) (number : ℕ) (bytes : List ℕ) → keep_line w number bytes ≡ Ok new
     → length new.top.rows ≤ length w.top.rows
-unfolding keep IfRows
+unfolding keep_line IfRows
 kept_rows w new number bytes e =
     subst (λ r. IfRows w r) e (rows_if w (is_in_chosen w) _ _
     (rows_by w number (expanded w.rules w.settings.control bytes)) (omega arith))
 
 pub kept_falls : (p : Stack) (new : Work) (number : ℕ) (bytes : List ℕ)
     (done : Result (Unit {0}) Refusal) →
-    Acted (keep p.work number bytes) done new
+    Acted (keep_line p.work number bytes) done new
     → IfOk done (λ d. remaining (record p { work = new }) < remaining p + 1)
 kept_falls p new number bytes (Ok d) e = work_falls p new (kept_rows p.work new number bytes e)
 kept_falls p new number bytes (Err r) e = tt
@@ -129,7 +129,7 @@ module _ (s : Stack) (top : Level) (row : Row) (first : Some row ≡ first_of s.
 
   pub kept_line : (new : Work) (number : ℕ) (bytes : List ℕ) (done : Result (Unit {0}) Refusal)
       (names : List (List ℕ)) (place : Place) (result : Result Bool PreFault) →
-      Acted (keep (record s.work { top = top }) number bytes) done new
+      Acted (keep_line (record s.work { top = top }) number bytes) done new
       → IsTold (record s { names = names }) place done result
       → FallsBelow (remaining s) result (record s { work = new })
   kept_line new number bytes done names place result e t =

@@ -49,13 +49,13 @@ whole_by [] r = Some r
 whole_by (w ∷ ws) r = None
 
 -- a closing bracket needs one that is open
-abbrev pub closed_by : List Wait → (List Wait → Option Reading) → Option Reading
-closed_by [] go_on = None
-closed_by (Mark ∷ ws) go_on = go_on ws
-closed_by (Pre sign ∷ ws) go_on = None
-closed_by (Left sign a ∷ ws) go_on = None
-closed_by (Chooses c ∷ ws) go_on = None
-closed_by (Second c a ∷ ws) go_on = None
+abbrev pub bracket_closed_by : List Wait → (List Wait → Option Reading) → Option Reading
+bracket_closed_by [] go_on = None
+bracket_closed_by (Mark ∷ ws) go_on = go_on ws
+bracket_closed_by (Pre sign ∷ ws) go_on = None
+bracket_closed_by (Left sign a ∷ ws) go_on = None
+bracket_closed_by (Chooses c ∷ ws) go_on = None
+bracket_closed_by (Second c a ∷ ws) go_on = None
 
 -- a `:` needs its `?`
 abbrev pub chosen_by : List Wait → (Reading → List Wait → Option Reading) → Option Reading
@@ -107,7 +107,7 @@ unfoldable mutual
       (λ c below. operand ts (Second c (settle 13 ws r).operand ∷ below))
   operator (part.Open ∷ ts) ws r = None
   operator (part.Close ∷ ts) ws r =
-      closed_by (settle 13 ws r).waits
+      bracket_closed_by (settle 13 ws r).waits
       (λ below. operator ts below (grouped (settle 13 ws r).operand))
 
 -- what comes next, by whether an operand stands there

@@ -31,15 +31,15 @@ closed_at bytes None = named false bytes
 closed_at bytes (Some len) = named true (take len bytes)
 
 -- up to the closing sign
-abbrev pub closed_by : ℕ → List ℕ → Named
-closed_by sign bytes = closed_at bytes (position (λ b. b == sign) bytes)
+abbrev pub name_up_to : ℕ → List ℕ → Named
+name_up_to sign bytes = closed_at bytes (position (λ b. b == sign) bytes)
 
 -- between `"` and `"`, between `<` and `>`, or bare to the line's end
 abbrev pub include_by : List ℕ → Named
 include_by [] = named true (without_end [])
 include_by (b ∷ rest) =
-    if b == 34 then closed_by 34 rest
-    else (if b == 60 then closed_by 62 rest else named true (without_end (b ∷ rest)))
+    if b == 34 then name_up_to 34 rest
+    else (if b == 60 then name_up_to 62 rest else named true (without_end (b ∷ rest)))
 
 -- what stands behind the word, behind blanks
 abbrev pub include_name : List ℕ → Named

@@ -34,8 +34,8 @@ found marks at optional name (Some bytes) rest =
     else Goes (Began name ∷ marks) (lines_of_file (length (begun marks)) (file_of bytes) rest)
 
 -- a name that can't be asked for is missing
-abbrev pub asked : Held → List Mark → Place → Bool → Named → List Open → Turn
-asked map marks at optional n rest =
+abbrev pub include_asked : Held → List Mark → Place → Bool → Named → List Open → Turn
+include_asked map marks at optional n rest =
     if n.valid then found marks at optional n.name (get map n.name) rest
     else missing marks at optional rest
 
@@ -44,7 +44,7 @@ abbrev pub include_named : Held → List Mark → Place → Bool → Named → L
 include_named map marks at optional n rest =
     if is_begun marks n.name then Goes marks rest
     else (if nat_lt 16 (depth marks) then fault marks at 8
-    else asked map marks at optional n rest)
+    else include_asked map marks at optional n rest)
 
 -- an include by the bytes behind its word
 abbrev pub include : Held → List Mark → Place → Bool → List ℕ → List Open → Turn

@@ -6,7 +6,8 @@ use Rattle.pawn_cells.specs.declared.operator.Comparison.{Comparison}
 use Rattle.pawn_cells.specs.declared.operator.Operator.TheVariants as between
 use Rattle.pawn_cells.specs.declared.operator.Prefix.{Prefix}
 use Rattle.pawn_cells.specs.declared.operator.Prefix.TheVariants as before
-use Rattle.pawn_cells.specs.Operators.{compare, prefix, binary, logical, logical_level, truth}
+use Rattle.pawn_cells.specs.Cells.{truth}
+use Rattle.pawn_cells.specs.Operators.{compare, prefix, binary, logical, logical_level}
 use Rattle.pawn_cells.specs.Operators as operators
 use Rattle.pawn_pre.specs.declared.part.Infix.{Infix}
 use Rattle.pawn_pre.specs.declared.part.Infix.TheVariants.{Cells, Compare, Logic}

@@ -33,12 +33,12 @@ one Star b =
     else (if b == 42 then took [] Star else took [] Inside)
 
 -- what stands behind the last byte
-unfoldable pub closed : Mode → Cleaned
-closed (Reads quote) = record { bytes = []; unclosed = false }
-closed Slash = record { bytes = 47 ∷ []; unclosed = false }
-closed Over = record { bytes = []; unclosed = false }
-closed Inside = record { bytes = []; unclosed = true }
-closed Star = record { bytes = []; unclosed = true }
+unfoldable pub scan_end : Mode → Cleaned
+scan_end (Reads quote) = record { bytes = []; unclosed = false }
+scan_end Slash = record { bytes = 47 ∷ []; unclosed = false }
+scan_end Over = record { bytes = []; unclosed = false }
+scan_end Inside = record { bytes = []; unclosed = true }
+scan_end Star = record { bytes = []; unclosed = true }
 
 -- bytes written before a line
 unfoldable pub before : List ℕ → Cleaned → Cleaned
@@ -46,7 +46,7 @@ before front cleaned = record { bytes = front ++ cleaned.bytes; unclosed = clean
 
 -- what the bytes of a line write, from a mode on
 unfoldable pub scan : Mode → List ℕ → Cleaned
-scan mode [] = closed mode
+scan mode [] = scan_end mode
 scan mode (b ∷ rest) = before (one mode b).out (scan (one mode b).next rest)
 
 -- the mode in which a line begins

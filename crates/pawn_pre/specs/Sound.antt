@@ -5,7 +5,7 @@ use Rattle.pawn_pre.specs.declared.line.TheConstants.{MOST_BYTES}
 use Rattle.pawn_pre.specs.declared.work.Work.{Work}
 use Rattle.pawn_pre.specs.Bounds.{bytes_of, ArePlaced, IsBounded}
 use Rattle.pawn_pre.specs.Level.{Level}
-use Rattle.pawn_pre.specs.Walk.{Stack, lines_of}
+use Rattle.pawn_pre.specs.Walk.{Stack, stack_lines}
 
 -- what holds of lines, of what is settled with so many files begun
 pub record IsSound (files : ℕ) (w : Work) : Type 0 where
@@ -22,5 +22,5 @@ pub record IsSoundStack (p : Stack) : Type 0 where
 -- what a step leaves
 abbrev pub Leaves : Result Bool PreFault → Stack → Type 0
 Leaves (Ok true) new = IsSoundStack new
-Leaves (Ok false) new = IsBounded (lines_of new)
+Leaves (Ok false) new = IsBounded (stack_lines new)
 Leaves (Err refused) new = Unit {0}

@@ -20,7 +20,7 @@ use Rattle.pawn_pre.specs.Include.{include_name}
 use Rattle.pawn_pre.specs.Evaluation.{Value}
 use Rattle.pawn_pre.specs.Level.{Level, opened}
 use Rattle.pawn_pre.specs.Lists.{first_of, rest_of}
-use Rattle.pawn_pre.specs.Work.{act, keep, is_in_chosen, nothing_in}
+use Rattle.pawn_pre.specs.Work.{act, keep_line, is_in_chosen, nothing_in}
 
 -- the names of the files that were begun, in order; the files that wait for the innermost; and
 -- what is settled, with the innermost
@@ -35,13 +35,13 @@ pub data Turned : Type 0 where
   Stopped : Outcome → Turned
 
 -- a fault at a line of the innermost file
-abbrev pub fault : Stack → ℕ → ℕ → Outcome
-fault p kind line =
+abbrev pub stack_fault : Stack → ℕ → ℕ → Outcome
+stack_fault p kind line =
     Fault kind (record { file = p.work.top.file; line = line }) (name_of p.names p.work.top.file)
 
 -- what the stack comes to where no file is open
-abbrev pub lines_of : Stack → Lines
-lines_of p = record {
+abbrev pub stack_lines : Stack → Lines
+stack_lines p = record {
   lines = p.work.lines;
   files = p.names;
   dynamic = p.work.settings.dynamic;
@@ -54,17 +54,17 @@ with_work p w = record p { work = w }
 -- ---- a file's end
 
 -- the next file goes on, if there is one
-abbrev pub closed_by : Stack → List Level → Turned
-closed_by p [] = Stopped (Whole (lines_of p))
-closed_by p (file ∷ below) =
+abbrev pub next_file : Stack → List Level → Turned
+next_file p [] = Stopped (Whole (stack_lines p))
+next_file p (file ∷ below) =
     On (record { names = p.names; below = below; work = record p.work { top = file } })
 
 -- an open comment goes before an open conditional
 unfoldable pub at_end : Stack → Turned
 at_end p =
-    if p.work.top.unclosed then Stopped (fault p 12 p.work.top.last)
-    else (if is_some (first_of p.work.top.conditionals) then Stopped (fault p 2 p.work.top.last)
-    else closed_by p p.below)
+    if p.work.top.unclosed then Stopped (stack_fault p 12 p.work.top.last)
+    else (if is_some (first_of p.work.top.conditionals)
+    then Stopped (stack_fault p 2 p.work.top.last) else next_file p p.below)
 
 -- ---- includes
 
@@ -77,66 +77,70 @@ entered p name bytes = record {
 }
 
 -- nothing, or fault 3
-abbrev pub missing : Stack → ℕ → Bool → Turned
-missing p line optional = if optional then On p else Stopped (fault p 3 line)
+abbrev pub walk_missing : Stack → ℕ → Bool → Turned
+walk_missing p line optional = if optional then On p else Stopped (stack_fault p 3 line)
 
 -- what the files hold at the name
-abbrev pub found : Stack → ℕ → Bool → List ℕ → Option (List ℕ) → Turned
-found p line optional name None = missing p line optional
-found p line optional name (Some bytes) =
+abbrev pub walk_found : Stack → ℕ → Bool → List ℕ → Option (List ℕ) → Turned
+walk_found p line optional name None = walk_missing p line optional
+walk_found p line optional name (Some bytes) =
     if is_long_file bytes then Stopped (Long name) else On (entered p name bytes)
 
 -- a name that can't be asked for is missing
-abbrev pub asked : Held → Stack → ℕ → Bool → Named → Turned
-asked map p line optional n =
-    if n.valid then found p line optional n.name (get map n.name) else missing p line optional
+abbrev pub walk_include_asked : Held → Stack → ℕ → Bool → Named → Turned
+walk_include_asked map p line optional n =
+    if n.valid then walk_found p line optional n.name (get map n.name)
+    else walk_missing p line optional
 
 -- a file of that name was begun
-abbrev pub is_begun : Stack → List ℕ → Bool
-is_begun p name = list_any (λ known. bytes_eq name known) p.names
+abbrev pub has_begun : Stack → List ℕ → Bool
+has_begun p name = list_any (λ known. bytes_eq name known) p.names
 
 -- an include at depth 17
 abbrev pub is_deep : Stack → Bool
 is_deep p = nat_lt 15 (length p.below)
 
 -- passed over, then its depth, then missing
-abbrev pub include_named : Held → Stack → ℕ → Bool → Named → Turned
-include_named map p line optional n =
-    if is_begun p n.name then On p
-    else (if is_deep p then Stopped (fault p 8 line) else asked map p line optional n)
+abbrev pub walk_include_named : Held → Stack → ℕ → Bool → Named → Turned
+walk_include_named map p line optional n =
+    if has_begun p n.name then On p
+    else (if is_deep p then Stopped (stack_fault p 8 line)
+    else walk_include_asked map p line optional n)
 
 -- an include by the bytes behind its word
-unfoldable pub include : Held → Stack → ℕ → Bool → List ℕ → Turned
-include map p line optional rest =
-    if is_in_chosen p.work then include_named map p line optional (include_name rest) else On p
+unfoldable pub walk_include : Held → Stack → ℕ → Bool → List ℕ → Turned
+walk_include map p line optional rest =
+    if is_in_chosen p.work then walk_include_named map p line optional (include_name rest) else On p
 
 -- ---- lines
 
 -- what a line does
 abbrev pub worked : Stack → ℕ → Result Work ℕ → Turned
 worked p line (Ok w) = On (with_work p w)
-worked p line (Err kind) = Stopped (fault p kind line)
+worked p line (Err kind) = Stopped (stack_fault p kind line)
 
 -- what a directive does
-abbrev pub direct : Value → Held → Stack → ℕ → Word → List ℕ → Turned
-direct value map p line word.Define rest = worked p line (act value p.work word.Define rest)
-direct value map p line word.Undef rest = worked p line (act value p.work word.Undef rest)
-direct value map p line word.If rest = worked p line (act value p.work word.If rest)
-direct value map p line word.ElseIf rest = worked p line (act value p.work word.ElseIf rest)
-direct value map p line word.Else rest = worked p line (act value p.work word.Else rest)
-direct value map p line word.Endif rest = worked p line (act value p.work word.Endif rest)
-direct value map p line word.Include rest = include map p line false rest
-direct value map p line word.TryInclude rest = include map p line true rest
-direct value map p line word.Error rest = worked p line (act value p.work word.Error rest)
-direct value map p line word.Assert rest = worked p line (act value p.work word.Assert rest)
-direct value map p line word.Endinput rest = worked p line (act value p.work word.Endinput rest)
-direct value map p line word.Pragma rest = worked p line (act value p.work word.Pragma rest)
-direct value map p line word.Unknown rest = worked p line (act value p.work word.Unknown rest)
+abbrev pub walk_directive : Value → Held → Stack → ℕ → Word → List ℕ → Turned
+walk_directive value map p line word.Define rest = worked p line (act value p.work word.Define rest)
+walk_directive value map p line word.Undef rest = worked p line (act value p.work word.Undef rest)
+walk_directive value map p line word.If rest = worked p line (act value p.work word.If rest)
+walk_directive value map p line word.ElseIf rest = worked p line (act value p.work word.ElseIf rest)
+walk_directive value map p line word.Else rest = worked p line (act value p.work word.Else rest)
+walk_directive value map p line word.Endif rest = worked p line (act value p.work word.Endif rest)
+walk_directive value map p line word.Include rest = walk_include map p line false rest
+walk_directive value map p line word.TryInclude rest = walk_include map p line true rest
+walk_directive value map p line word.Error rest = worked p line (act value p.work word.Error rest)
+walk_directive value map p line word.Assert rest = worked p line (act value p.work word.Assert rest)
+walk_directive value map p line word.Endinput rest =
+    worked p line (act value p.work word.Endinput rest)
+walk_directive value map p line word.Pragma rest = worked p line (act value p.work word.Pragma rest)
+walk_directive value map p line word.Unknown rest =
+    worked p line (act value p.work word.Unknown rest)
 
 -- a plain line, or a directive
 abbrev pub line_by : Value → Held → Stack → Row → Option Directive → Turned
-line_by value map p row None = worked p row.number (keep p.work row.number row.bytes)
-line_by value map p row (Some d) = direct value map p row.number d.word d.rest
+line_by value map p row None = worked p row.number (keep_line p.work row.number row.bytes)
+line_by value map p row (Some d) = walk_directive value map p row.number d.word d.rest
 
 -- a line less
 abbrev pub without_row : Stack → Stack
@@ -155,19 +159,19 @@ step value map p = row_by value map p (first_of p.work.top.rows)
 -- ---- all steps
 
 -- what follows a step, if anything does
-abbrev pub run_by : Turned → (Stack → Option Outcome) → Option Outcome
-run_by (On p) go_on = go_on p
-run_by (Stopped o) go_on = Some o
+abbrev pub run_walk_by : Turned → (Stack → Option Outcome) → Option Outcome
+run_walk_by (On p) go_on = go_on p
+run_walk_by (Stopped o) go_on = Some o
 
 -- what so many steps come to, if they are enough
-unfoldable pub run : Value → Held → ℕ → Stack → Option Outcome
-run value map zero p = None
-run value map (suc n) p = run_by (step value map p) (λ q. run value map n q)
+unfoldable pub run_walk : Value → Held → ℕ → Stack → Option Outcome
+run_walk value map zero p = None
+run_walk value map (suc n) p = run_walk_by (step value map p) (λ q. run_walk value map n q)
 
 -- some number of steps comes to an outcome
-pub record Ends (value : Value) (map : Held) (p : Stack) (o : Outcome) : Type 0 where
+pub record WalkEnds (value : Value) (map : Held) (p : Stack) (o : Outcome) : Type 0 where
   pub steps : ℕ
-  pub ends : run value map steps p ≡ Some o
+  pub ends : run_walk value map steps p ≡ Some o
 
 -- the source, before its first line
 abbrev pub first_stack : List ℕ → List ℕ → Stack

@@ -9,12 +9,12 @@ use Rattle.pawn_pre.specs.declared.refusal.Refusal.{Refusal}
 use Rattle.pawn_pre.specs.declared.refusal.Refusal.TheVariants as refusal
 use Rattle.pawn_pre.specs.Outcome.{Outcome, Whole, Fault, Long, name_of}
 use Rattle.pawn_pre.specs.Evaluation.{Value}
-use Rattle.pawn_pre.specs.Walk.{Stack, Turned, On, Stopped, lines_of, Ends}
+use Rattle.pawn_pre.specs.Walk.{Stack, Turned, On, Stopped, stack_lines, WalkEnds}
 
 -- of one step: whether it goes on, or the fault
 abbrev pub Says : Turned → Result Bool PreFault → Stack → Type 0
 Says turned (Ok true) new = turned ≡ On new
-Says turned (Ok false) new = turned ≡ Stopped (Whole (lines_of new))
+Says turned (Ok false) new = turned ≡ Stopped (Whole (stack_lines new))
 Says turned (Err (fault.Source kind place file)) new = turned ≡ Stopped (Fault kind place file)
 Says turned (Err fault.NoSource) new = ⊥
 Says turned (Err (fault.TooLarge file)) new = turned ≡ Stopped (Long file)
@@ -49,9 +49,10 @@ IsTold p place (Err refusal.Memory) result = result ≡ Err fault.Memory
 
 -- what the steps from a page come to
 abbrev pub EndsIn : Value → Held → Stack → Result Lines PreFault → Type 0
-EndsIn value map p (Ok lines) = Ends value map p (Whole lines)
-EndsIn value map p (Err (fault.Source kind place file)) = Ends value map p (Fault kind place file)
+EndsIn value map p (Ok lines) = WalkEnds value map p (Whole lines)
+EndsIn value map p (Err (fault.Source kind place file)) =
+    WalkEnds value map p (Fault kind place file)
 EndsIn value map p (Err fault.NoSource) = ⊥
-EndsIn value map p (Err (fault.TooLarge file)) = Ends value map p (Long file)
+EndsIn value map p (Err (fault.TooLarge file)) = WalkEnds value map p (Long file)
 EndsIn value map p (Err fault.Files) = Unit {0}
 EndsIn value map p (Err fault.Memory) = Unit {0}

@@ -46,8 +46,8 @@ abbrev pub with_conditionals : Work → List Conditional → Work
 with_conditionals w conditionals = record w { top = record w.top { conditionals = conditionals } }
 
 -- another innermost conditional
-abbrev pub replaced : Work → Conditional → Work
-replaced w c = with_conditionals w (c ∷ rest_of w.top.conditionals)
+abbrev pub with_innermost : Work → Conditional → Work
+with_innermost w c = with_conditionals w (c ∷ rest_of w.top.conditionals)
 
 -- ---- lines that are kept
 
@@ -62,8 +62,8 @@ line_of w number bytes = record {
 }
 
 -- fault 10 where all lines together have too many bytes
-abbrev pub with_line : Work → ℕ → List ℕ → Result Work ℕ
-with_line w number bytes =
+abbrev pub with_kept_line : Work → ℕ → List ℕ → Result Work ℕ
+with_kept_line w number bytes =
     if nat_lt MOST_BYTES (w.size + length bytes) then Err 10
     else Ok (record w {
       lines = w.lines ++ line_of w number bytes ∷ [];
@@ -71,17 +71,17 @@ with_line w number bytes =
     })
 
 -- a line that is no directive
-unfoldable pub keep : Work → ℕ → List ℕ → Result Work ℕ
-keep w number bytes =
+unfoldable pub keep_line : Work → ℕ → List ℕ → Result Work ℕ
+keep_line w number bytes =
     if is_in_chosen w
-    then proceed (expanded w.rules w.settings.control bytes) (λ line. with_line w number line)
+    then proceed (expanded w.rules w.settings.control bytes) (λ line. with_kept_line w number line)
     else Ok w
 
 -- ---- conditionals
 
 -- a part whose condition has this value
-abbrev pub part_of : ℤ → Part
-part_of v = if is_zero v then Waiting else Chosen
+abbrev pub part_of_value : ℤ → Part
+part_of_value v = if is_zero v then Waiting else Chosen
 
 -- a condition under what is in force
 abbrev pub condition_of : Value → Work → List ℕ → Result ℤ ℕ
@@ -94,15 +94,16 @@ push w part = with_conditionals w (conditional part false ∷ w.top.conditionals
 -- an `#if`
 unfoldable pub begin_if : Value → Work → List ℕ → Result Work ℕ
 begin_if value w rest =
-    if is_in_chosen w then proceed (condition_of value w rest) (λ v. Ok (push w (part_of v)))
+    if is_in_chosen w then proceed (condition_of value w rest) (λ v. Ok (push w (part_of_value v)))
     else Ok (push w Done)
 
 -- an `#elseif` by what became of the part before
 abbrev pub elseif_part : Value → Work → List ℕ → Part → Result Work ℕ
-elseif_part value w rest Chosen = Ok (replaced w (conditional Done false))
+elseif_part value w rest Chosen = Ok (with_innermost w (conditional Done false))
 elseif_part value w rest Waiting =
-    proceed (condition_of value w rest) (λ v. Ok (replaced w (conditional (part_of v) false)))
-elseif_part value w rest Done = Ok (replaced w (conditional Done false))
+    proceed (condition_of value w rest)
+    (λ v. Ok (with_innermost w (conditional (part_of_value v) false)))
+elseif_part value w rest Done = Ok (with_innermost w (conditional Done false))
 
 -- an `#elseif` by the innermost conditional
 abbrev pub elseif_by : Value → Work → List ℕ → Option Conditional → Result Work ℕ
@@ -123,7 +124,7 @@ else_part Done = Done
 abbrev pub else_by : Work → Option Conditional → Result Work ℕ
 else_by w None = Err 2
 else_by w (Some c) =
-    if c.past then Err 2 else Ok (replaced w (conditional (else_part c.part) true))
+    if c.past then Err 2 else Ok (with_innermost w (conditional (else_part c.part) true))
 
 -- an `#else`
 unfoldable pub turn_else : Work → Result Work ℕ
@@ -160,8 +161,8 @@ without w None = w
 without w (Some key) = record w { rules = remove w.rules key }
 
 -- an `#undef`
-unfoldable pub undefine : Work → List ℕ → Result Work ℕ
-undefine w rest = Ok (without w (undefined rest))
+unfoldable pub remove_definition : Work → List ℕ → Result Work ℕ
+remove_definition w rest = Ok (without w (undefined rest))
 
 -- other settings
 abbrev pub with_settings : Work → Settings → Work
@@ -198,7 +199,7 @@ end_input w = record w { top = record w.top { rows = []; conditionals = [] } }
 -- includes are told apart before
 abbrev pub in_chosen : Value → Work → Word → List ℕ → Result Work ℕ
 in_chosen value w word.Define rest = define w rest
-in_chosen value w word.Undef rest = undefine w rest
+in_chosen value w word.Undef rest = remove_definition w rest
 in_chosen value w word.If rest = Ok w
 in_chosen value w word.ElseIf rest = Ok w
 in_chosen value w word.Else rest = Ok w

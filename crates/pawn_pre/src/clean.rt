@@ -25,7 +25,7 @@ pub enum Mode {
 
 /// A line with its comments blanked, and whether one goes on over its end. One may be open where
 /// it begins.
-#[tactic(auto, unfolding(crate::specs::Scan::before, crate::specs::Scan::scan, crate::specs::Scan::closed), using(crate::proofs::CommentLaws::scan_is_clean))]
+#[tactic(auto, unfolding(crate::specs::Scan::before, crate::specs::Scan::scan, crate::specs::Scan::scan_end), using(crate::proofs::CommentLaws::scan_is_clean))]
 pub fn clean_line(alloc: Global, was_open: bool, line: &[u8]) -> Result<(Bytes, bool), Memory>
     ensures bytes { IfOk result (λ cleaned.
         cleaned.0 ≡ (clean (part_at was_open) line.now).bytes) }
@@ -83,10 +83,10 @@ impl Mode {
 
     /// Puts what is still pending at the line's end behind what was written, and says whether a
     /// comment goes on over it.
-    #[tactic(auto, unfolding(crate::specs::Scan::closed))]
+    #[tactic(auto, unfolding(crate::specs::Scan::scan_end))]
     fn close(self, out: &mut Bytes) -> Result<bool, Memory>
-        ensures bytes { OnOk result (out.new ≡ out.old ++ (spec.closed self).bytes) }
-        ensures unclosed { IfOk result (λ goes_on. goes_on ≡ (spec.closed self).unclosed) }
+        ensures bytes { OnOk result (out.new ≡ out.old ++ (spec.scan_end self).bytes) }
+        ensures unclosed { IfOk result (λ goes_on. goes_on ≡ (spec.scan_end self).unclosed) }
     {
         match self {
             Mode::Inside | Mode::Star => Ok(true),

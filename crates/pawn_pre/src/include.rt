@@ -62,7 +62,7 @@ fn sign_at(sign: u8, bytes: &[u8]) -> Option<usize>
 
 /// The bytes up to the closing sign.
 fn closed_by(alloc: Global, sign: u8, bytes: &[u8]) -> Result<Named, Memory>
-    ensures named { IfOk result (λ found. found ≡ spec.closed_by sign bytes.now) }
+    ensures named { IfOk result (λ found. found ≡ spec.name_up_to sign bytes.now) }
     ensures ascii { IfOk result (λ found. IsTrue found.valid → IsAscii found.name) }
 {
     match sign_at(sign, bytes) {

@@ -72,7 +72,7 @@ impl Walk {
 
     /// What is kept.
     pub fn finish(self, alloc: Global) -> Result<Lines, Memory>
-        ensures { IfOk result (λ lines. lines ≡ walks.lines_of self) }
+        ensures { IfOk result (λ lines. lines ≡ walks.stack_lines self) }
     {
         let Walk {
             names,
@@ -175,7 +175,7 @@ impl Walk {
     }
 
     fn is_begun(&self, name: &[u8]) -> bool
-        ensures { result ≡ walks.is_begun self.now name.now }
+        ensures { result ≡ walks.has_begun self.now name.now }
     {
         self.names.contains(name)
     }
@@ -183,7 +183,7 @@ impl Walk {
     /// Opens a file that wasn't begun.
     fn enter(&mut self, alloc: Global, name: &[u8], bytes: &[u8]) -> Result<(), Memory>
         requires short { length bytes.now ≤ FILE_LIMIT }
-        requires new { walks.is_begun self.old name.now ≡ false }
+        requires new { walks.has_begun self.old name.now ≡ false }
         ensures entered { OnOk result (self.new ≡ walks.entered self.old name.now bytes.now) }
         ensures falls { OnOk result (remaining self.new < remaining self.old + 1) }
     {
@@ -217,9 +217,9 @@ impl Walk {
         named: Named,
     ) -> Result<bool, PreFault>
         requires ascii { IsTrue named.valid → IsAscii named.name }
-        requires new { walks.is_begun self.old named.name ≡ false }
+        requires new { walks.has_begun self.old named.name ≡ false }
         ensures says { (map : Held) → F.held files.old ≡ Some map →
-            Says (walks.asked map self.old line optional named) result self.new }
+            Says (walks.walk_include_asked map self.old line optional named) result self.new }
         ensures falls { FallsBelow (remaining self.old + 1) result self.new }
         ensures bounds { IsSoundStack self.old → Leaves result self.new }
         ensures files { OnlyRead F.held F.faults F.never_fails files.old files.new
@@ -245,7 +245,7 @@ impl Walk {
     }
 
     /// Includes a file.
-    #[tactic(auto, unfolding(crate::specs::Walk::include))]
+    #[tactic(auto, unfolding(crate::specs::Walk::walk_include))]
     fn include<F: Files>(
         &mut self,
         alloc: Global,
@@ -255,7 +255,7 @@ impl Walk {
         rest: &[u8],
     ) -> Result<bool, PreFault>
         ensures says { (map : Held) → F.held files.old ≡ Some map →
-            Says (walks.include map self.old line optional rest.now) result self.new }
+            Says (walks.walk_include map self.old line optional rest.now) result self.new }
         ensures falls { FallsBelow (remaining self.old + 1) result self.new }
         ensures bounds { IsSoundStack self.old → Leaves result self.new }
         ensures files { OnlyRead F.held F.faults F.never_fails files.old files.new

@@ -56,9 +56,9 @@ impl Work {
     }
 
     /// Keeps a line that is no directive.
-    #[tactic(auto, unfolding(crate::specs::Work::keep))]
+    #[tactic(auto, unfolding(crate::specs::Work::keep_line))]
     pub fn keep(&mut self, alloc: Global, number: u32, bytes: &[u8]) -> Result<(), Refusal>
-        ensures { Acted (acts.keep self.old number bytes.now) result self.new }
+        ensures { Acted (acts.keep_line self.old number bytes.now) result self.new }
     {
         if !self.is_in_chosen() {
             return Ok(());
@@ -96,7 +96,7 @@ impl Work {
 
     /// Puts a line at the end.
     fn push_line(&mut self, number: u32, bytes: Bytes) -> Result<(), Refusal>
-        ensures { Acted (acts.with_line self.old number bytes) result self.new }
+        ensures { Acted (acts.with_kept_line self.old number bytes) result self.new }
     {
         let len = bytes.len() as u64;
         if self.size > MOST_BYTES || len > MOST_BYTES - self.size {
@@ -125,7 +125,7 @@ impl Work {
 
     /// Another innermost conditional.
     fn replace(&mut self, conditional: Conditional) -> Result<(), Memory>
-        ensures { OnOk result (self.new ≡ acts.replaced self.old conditional) }
+        ensures { OnOk result (self.new ≡ acts.with_innermost self.old conditional) }
     {
         self.top.pop();
         self.top.push(conditional)
@@ -237,9 +237,9 @@ impl Work {
         Ok(())
     }
 
-    #[tactic(auto, unfolding(crate::specs::Work::undefine))]
+    #[tactic(auto, unfolding(crate::specs::Work::remove_definition))]
     fn undefine(&mut self, rest: &[u8])
-        ensures { acts.undefine self.old rest.now ≡ Ok self.new }
+        ensures { acts.remove_definition self.old rest.now ≡ Ok self.new }
     {
         if let Some(key) = undefined(rest) {
             self.rules.remove(key);
@@ -309,7 +309,7 @@ impl Work {
 }
 
 fn part_of(value: i32) -> Part
-    ensures { result ≡ acts.part_of value }
+    ensures { result ≡ acts.part_of_value value }
 {
     if value == 0 {
         Part::Waiting

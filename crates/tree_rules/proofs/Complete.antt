@@ -26,7 +26,7 @@ use Rattle.tree_rules.specs.Expressions.{value_arg, default_arg, IsNamed, named_
 use Rattle.tree_rules.specs.Expressions.{no_args, first_value, first_named, AreMore, no_more_args}
 use Rattle.tree_rules.specs.Expressions.{more_value, more_named}
 use Rattle.tree_rules.specs.Readers.{got, ◌>>=◌}
-use Rattle.tree_rules.specs.ReadExpressions.{Part, part, Sub}
+use Rattle.tree_rules.specs.ReadExpressions.{Parsed, part, Sub}
 use Rattle.tree_rules.specs.ReadExpressions as p
 use Rattle.tree_rules.proofs.Steps.{false_true}
 use Rattle.tree_rules.proofs.Base.{true_sees, sees_true, IsLeft, sees_other, label_no_sign}
@@ -42,7 +42,7 @@ pub record ExprComplete (ts : List Token) (sub : Sub) (n : ℕ) : Type 0 where
       → q ≤ level → level < binds ts b k → sub b level i ≡ Some (part x q h k)
 
 record Reaches (ts : List Token) (sub : Sub) (d : ℕ) (b : Bool) (level i : ℕ)
-    (x : Part) : Type 0 where
+    (x : Parsed) : Type 0 where
   fuel : ℕ
   enough : suc d < fuel + x.height
   same : p.whole ts sub d b level i ≡ p.climb ts sub d b level i fuel x
@@ -267,7 +267,7 @@ none_low _ low = omega arith
 -- ---- operands and operators
 
 module _ (ts : List Token) (sub : Sub) (d : ℕ) (complete : ExprComplete ts sub d) where
-  starting : (b : Bool) (level i : ℕ) (x : Part) → 1 ≤ x.height
+  starting : (b : Bool) (level i : ℕ) (x : Parsed) → 1 ≤ x.height
       → p.operand_by ts sub d b i (word ts i) ≡ Some x → Reaches ts sub d b level i x
   unfolding p.whole
   starting b level i x some e =
@@ -277,7 +277,7 @@ module _ (ts : List Token) (sub : Sub) (d : ℕ) (complete : ExprComplete ts sub
         same = ap (λ o. o >>= p.climb ts sub d b level i (suc d)) e;
       }
 
-  grown_by : (b : Bool) (level i : ℕ) (t y : Part) (fuel : ℕ) → suc d < fuel + t.height
+  grown_by : (b : Bool) (level i : ℕ) (t y : Parsed) (fuel : ℕ) → suc d < fuel + t.height
       → p.whole ts sub d b level i ≡ p.climb ts sub d b level i fuel t
       → binds ts b t.stop ≤ level → p.grow ts sub d b i t (word ts t.stop) ≡ Some y → t.height ≤ d
       → t.height < y.height → Reaches ts sub d b level i y
@@ -286,12 +286,12 @@ module _ (ts : List Token) (sub : Sub) (d : ℕ) (complete : ExprComplete ts sub
   grown_by b level i t y (suc n) enough same l e low up =
       record { fuel = n; enough = omega arith; same = same ∙ rw (le-ltb _ _ l, e) refl }
 
-  grown : (b : Bool) (level i : ℕ) (t y : Part) → Reaches ts sub d b level i t
+  grown : (b : Bool) (level i : ℕ) (t y : Parsed) → Reaches ts sub d b level i t
       → binds ts b t.stop ≤ level → p.grow ts sub d b i t (word ts t.stop) ≡ Some y → t.height ≤ d
       → t.height < y.height → Reaches ts sub d b level i y
   grown b level i t y r l e low up = grown_by b level i t y r.fuel r.enough r.same l e low up
 
-  label_operand : (b : Bool) (i : ℕ) (x : Part) → (b && is_tag ts i) ≡ true → (v : Word)
+  label_operand : (b : Bool) (i : ℕ) (x : Parsed) → (b && is_tag ts i) ≡ true → (v : Word)
       → word ts i ≡ v → is_label v ≡ true → p.tagged ts sub d b i ≡ Some x
       → p.operand_by ts sub d b i v ≡ Some x
   unfolding p.operand_by p.named
@@ -432,7 +432,7 @@ module _ (ts : List Token) (sub : Sub) (d : ℕ) (complete : ExprComplete ts sub
         le-leb _ _ (low_in _ low),
       ) refl) (omega arith) (omega arith)
 
-  finish : (b : Bool) (level i : ℕ) (x : Part) (fuel : ℕ) → suc d < fuel + x.height
+  finish : (b : Bool) (level i : ℕ) (x : Parsed) (fuel : ℕ) → suc d < fuel + x.height
       → p.whole ts sub d b level i ≡ p.climb ts sub d b level i fuel x → x.height ≤ suc d
       → level < binds ts b x.stop
       → p.whole ts sub d b level i ≡ Some x

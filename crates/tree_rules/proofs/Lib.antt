@@ -8,7 +8,9 @@ pub mod ListLaws
 pub mod Moves
 pub mod Sound
 pub mod SoundDeclarations
+pub mod SoundParts
 pub mod SoundStatements
 pub mod SoundVariables
+pub mod StatementEnds
 pub mod Steps
 pub mod Trees

@@ -1,5 +1,5 @@
 -- What the parser gives is an expression of the grammar.
-use Rattle.std.proofs.Common.{◌≡◌, ℕ, zero, suc, ◌≤◌, ◌<◌, max, Bool, true, false, not, ◌&&◌}
+use Rattle.std.proofs.Common.{◌≡◌, ℕ, zero, suc, ◌≤◌, max, Bool, true, false, not, ◌&&◌}
 use Rattle.std.proofs.Common.{if◌then◌else◌, List, [], ◌∷◌, ◌++◌, Some, refl, sym, ◌∙◌, ap, subst}
 use Rattle.std.proofs.Common.{arith, append_assoc, ⊎_elim}
 use Rattle.std.proofs.lemmas.Bool.{leb-true, ltb-true, ltb-false}
@@ -10,10 +10,8 @@ use Rattle.pawn_token.specs.declared.sign.Sign.TheVariants as sign
 use Rattle.pawn_token.specs.declared.key.Key.TheVariants as key
 use Rattle.pawn_token.specs.contracts.sign.Sign as signs
 use Rattle.pawn_lex.specs.declared.token.Token.{Token}
-use Rattle.pawn_tree.specs.Expressions.{Expr, Arg, Link, links}
+use Rattle.pawn_tree.specs.Expressions.{Arg, Link, links}
 use Rattle.pawn_tree.specs.Expressions as node
-use Rattle.pawn_tree.specs.declared.expression.SizeofOperand.{SizeofOperand}
-use Rattle.pawn_tree.specs.declared.expression.TagofOperand.{TagofOperand}
 use Rattle.tree_rules.specs.declared.word.Word.{Word}
 use Rattle.tree_rules.specs.declared.word.Word.TheVariants as w
 use Rattle.tree_rules.specs.declared.joint.Joint.{Joint}
@@ -21,151 +19,19 @@ use Rattle.tree_rules.specs.declared.joint.Joint.TheVariants as joint
 use Rattle.tree_rules.specs.Tokens.{word, sees, at, is_first, is_blank_word, is_tag}
 use Rattle.tree_rules.specs.Levels.{joint_of, level_of, is_prefix, joint_at, is_compare, binds}
 use Rattle.tree_rules.specs.Levels.{calls, compares}
-use Rattle.tree_rules.specs.Lists.{Many, no_more, one_more}
-use Rattle.tree_rules.specs.Expressions.{IsExpr, IsSizeof, IsTagof, IsLink, AreLinks, IsValue}
-use Rattle.tree_rules.specs.Expressions.{IsNamed, AreArgs, AreMore, Brackets, Whole}
+use Rattle.tree_rules.specs.Expressions.{IsLink, IsValue, IsNamed, AreArgs}
 use Rattle.tree_rules.specs.Expressions as g
 use Rattle.tree_rules.specs.Readers.{Got}
-use Rattle.tree_rules.specs.ReadExpressions.{Part, part, Sub, operation}
+use Rattle.tree_rules.specs.ReadExpressions.{Parsed, Sub, operation}
 use Rattle.tree_rules.specs.ReadExpressions as p
 use Rattle.tree_rules.proofs.Steps.{none_some, some_inj, false_true, bind_some, guard_some}
 use Rattle.tree_rules.proofs.Steps.{if_cases, not_true}
 use Rattle.tree_rules.proofs.Base.{sees_true, binds_joint, name_true, left_level}
 use Rattle.tree_rules.proofs.ListLaws.{IsPart, many_sound, Added, max_zero, max_assoc, part_at}
-
-pub record IsRead (ts : List Token) (n : ℕ) (b : Bool) (level i : ℕ) (x : Part) : Type 0 where
-  pub is_expr : IsExpr ts b x.level x.height x.tree i x.stop
-  pub low : x.height ≤ n
-  pub up_to : x.level ≤ level
-  pub ends : level < binds ts b x.stop
-
-pub record ExprSound (ts : List Token) (sub : Sub) (n : ℕ) : Type 0 where
-  pub read : (b : Bool) (level i : ℕ) (x : Part) → 2 ≤ level → level ≤ 15 → sub b level i ≡ Some x
-      → IsRead ts n b level i x
-
--- where the loop stands
-pub record IsMade (ts : List Token) (d : ℕ) (b : Bool) (level i : ℕ) (x : Part) : Type 0 where
-  pub is_expr : IsExpr ts b x.level x.height x.tree i x.stop
-  pub low : x.height ≤ suc d
-  pub up_to : x.level ≤ level
-
-made : (ts : List Token) (d : ℕ) (b : Bool) (level i : ℕ) (x : Expr) (s under stop : ℕ) (y : Part)
-    → operation d x s under stop ≡ Some y
-    → IsExpr ts b s (suc under) x i stop → s ≤ level → IsMade ts d b level i y
-made ts d b level i x s under stop y e is up =
-    let h = guard_some _ _ _ e in let l : under ≤ d = leb-true _ _ h.0 in
-    subst (λ z. IsMade ts d b level i z) (some_inj _ _ h.1)
-    (record { is_expr = is; low = omega arith; up_to = up })
-
--- a node without others below it
-leaf : (ts : List Token) (d : ℕ) (b : Bool) (level i : ℕ) (x : Expr) (s stop : ℕ) (y : Part)
-    → Some (part x s 1 stop) ≡ Some y
-    → IsExpr ts b s 1 x i stop → s ≤ level → IsMade ts d b level i y
-leaf ts d b level i x s stop y e is up =
-    subst (λ z. IsMade ts d b level i z) (some_inj _ _ e)
-    (record { is_expr = is; low = omega arith; up_to = up })
-
--- ---- what `sizeof` and `tagof` take
-
-pair_true : (ts : List Token) (i : ℕ) → p.pair ts i ≡ true
-    → (word ts i ≡ w.Sign sign.OpenBracket) × (word ts (suc i) ≡ w.Sign sign.CloseBracket)
-pair_true ts i e = let l = first_true _ _ e in (sees_true ts _ i l.0, sees_true ts _ (suc i) l.1)
-  where
-    first_true : (a c : Bool) → (a && c) ≡ true → (a ≡ true) × (c ≡ true)
-    first_true true c e = (refl, e)
-    first_true false c e = absurd (false_true e)
-
-record IsPairs (ts : List Token) (i n : ℕ) : Type 0 where
-  few : n ≤ 2
-  brackets : Brackets ts n i
-
-pairs_by : (ts : List Token) (i : ℕ) (a c : Bool) → p.pair ts i ≡ a → p.pair ts (suc (suc i)) ≡ c
-    → IsPairs ts i (if a then (if c then 2 else 1) else 0)
-pairs_by ts i false c e f = record { few = omega arith; brackets = tt }
-pairs_by ts i true false e f =
-    let x = pair_true ts i e in record { few = omega arith; brackets = (x.0, x.1, tt) }
-pairs_by ts i true true e f =
-    let x = pair_true ts i e in let y = pair_true ts (suc (suc i)) f in
-    record { few = omega arith; brackets = (x.0, x.1, (y.0, y.1, tt)) }
-
-pairs_are : (ts : List Token) (i : ℕ) → IsPairs ts i (p.pairs ts i)
-unfolding p.pairs
-pairs_are ts i = pairs_by ts i _ _ refl refl
-
-sizeof_by_sound : (ts : List Token) (i : ℕ) (x : Got SizeofOperand) (v : Word) → word ts i ≡ v
-    → p.sizeof_by ts i v ≡ Some x → IsSizeof ts x.tree i x.stop
-sizeof_by_sound ts i x w.Name c e =
-    let k = pairs_are ts (suc i) in
-    subst (λ z. IsSizeof ts z.tree i z.stop) (some_inj _ _ e) (g.sizeof_name c k.few k.brackets)
-sizeof_by_sound ts i x w.Text c e =
-    let k = pairs_are ts (suc i) in
-    subst (λ z. IsSizeof ts z.tree i z.stop) (some_inj _ _ e) (g.sizeof_text c k.few k.brackets)
-sizeof_by_sound ts i x _ c e = absurd (none_some e)
-
-sizeof_of_sound : (ts : List Token) (i : ℕ) (x : Got SizeofOperand) → p.sizeof_of ts i ≡ Some x
-    → IsSizeof ts x.tree i x.stop
-unfolding p.sizeof_of
-sizeof_of_sound ts i x e = sizeof_by_sound ts i x _ refl e
-
-and_true : (a c : Bool) → (a && c) ≡ true → (a ≡ true) × (c ≡ true)
-and_true true c e = (refl, e)
-and_true false c e = absurd (false_true e)
-
-tagof_of_sound : (ts : List Token) (b : Bool) (i : ℕ) (x : Got TagofOperand)
-    → p.tagof_of ts b i ≡ Some x → IsTagof ts b x.tree i x.stop
-unfolding p.tagof_of
-tagof_of_sound ts b i x e = ⊎_elim
-    (λ t.
-    subst (λ z. IsTagof ts b z.tree i z.stop) (some_inj _ _ t.1) (g.tagof_tag t.0))
-    (λ f. let h = guard_some _ _ _ f.1 in subst (λ z. IsTagof ts b z.tree i z.stop)
-    (some_inj _ _ h.1) (g.tagof_name (name_true ts i h.0)))
-    (if_cases (b && is_tag ts i) _ _ x e)
-
--- ---- the lists of expressions
-
-pub from_links : {ts : List Token} {b : Bool} {h i j : ℕ} {ls : List Link}
-    → Many (compares ts) (IsLink ts b) h ls i j → AreLinks ts b h ls i j
-from_links (no_more f) = g.no_links f
-from_links (one_more t l m) = g.one_link t l (from_links m)
-
-pub record AddedArgs (ts : List Token) (n : ℕ) (named : Bool) (done : List Arg) (h i : ℕ)
-    (y : Got (List Arg)) : Type 0 where
-  pub added : List Arg
-  pub height : ℕ
-  pub stands : AreMore ts named height added i y.stop
-  pub items : y.tree ≡ done ++ added
-  pub is_height : y.height ≡ max h height
-  pub low : height ≤ n
-
-compare_true : (j : Joint) → is_compare j ≡ true → j ≡ joint.Compare
-compare_true joint.Compare e = refl
-compare_true _ e = absurd (false_true e)
-
-question_sign : (c : Sign) → joint_of c ≡ joint.Question → c ≡ sign.Question
-question_sign sign.Question e = refl
-question_sign _ e = cc
-
-bracket_sign : (c : Sign) → joint_of c ≡ joint.Bracket → c ≡ sign.OpenBracket
-bracket_sign sign.OpenBracket e = refl
-bracket_sign _ e = cc
-
-brace_sign : (c : Sign) → joint_of c ≡ joint.Brace → c ≡ sign.OpenBrace
-brace_sign sign.OpenBrace e = refl
-brace_sign _ e = cc
-
-one_up : (first : Bool) (level : ℕ) → (if first then 16 else 1) ≤ level → 1 ≤ level
-one_up true level l = omega arith
-one_up false level l = l
-
-blank_by : (v : Word) → is_blank_word v ≡ true → v ≡ w.Blank
-blank_by w.Blank e = refl
-blank_by _ e = absurd (false_true e)
-
-pub level_some : {ts : List Token} {b : Bool} {s h i j : ℕ} {x : Expr}
-    → IsExpr ts b s h x i j → 1 ≤ s
-level_some (g.binary {p = q} {c = c} x u k j y v) =
-    let o = left_level c q j in let l = o.least in omega arith
-level_some _ = omega arith
+use Rattle.tree_rules.proofs.SoundParts.{IsRead, ExprSound, IsMade, made, leaf, sizeof_of_sound}
+use Rattle.tree_rules.proofs.SoundParts.{and_true, tagof_of_sound, from_links, AddedArgs}
+use Rattle.tree_rules.proofs.SoundParts.{compare_true, question_sign, bracket_sign, brace_sign}
+use Rattle.tree_rules.proofs.SoundParts.{one_up, blank_by, level_some}
 
 module _ (ts : List Token) (sub : Sub) (n : ℕ) (sound : ExprSound ts sub n) where
   pub value_sound : (i : ℕ) (x : Got Arg) → p.value_arg ts sub i ≡ Some x
@@ -300,7 +166,7 @@ module _ (ts : List Token) (sub : Sub) (n : ℕ) (sound : ExprSound ts sub n) wh
   link_sound b i x t e = link_by_sound b i x _ refl t e
 
 module _ (ts : List Token) (sub : Sub) (d : ℕ) (sound : ExprSound ts sub d) where
-  paren_sound : (b : Bool) (level i : ℕ) (x : Part) → 2 ≤ level
+  paren_sound : (b : Bool) (level i : ℕ) (x : Parsed) → 2 ≤ level
       → word ts i ≡ w.Sign sign.OpenParenthesis → p.paren ts sub d i ≡ Some x
       → IsMade ts d b level i x
   unfolding p.paren
@@ -310,7 +176,7 @@ module _ (ts : List Token) (sub : Sub) (d : ℕ) (sound : ExprSound ts sub d) wh
       made ts d b level i _ _ _ _ x h.1 (g.paren c r.is_expr r.up_to (sees_true ts _ _ h.0))
       (omega arith)
 
-  sizeof_sound : (b : Bool) (level i : ℕ) (x : Part) → 2 ≤ level → word ts i ≡ w.Key key.Sizeof
+  sizeof_sound : (b : Bool) (level i : ℕ) (x : Parsed) → 2 ≤ level → word ts i ≡ w.Key key.Sizeof
       → p.sizeof ts sub d i ≡ Some x → IsMade ts d b level i x
   unfolding p.sizeof
   sizeof_sound b level i x l c e = ⊎_elim
@@ -322,7 +188,7 @@ module _ (ts : List Token) (sub : Sub) (d : ℕ) (sound : ExprSound ts sub d) wh
       (g.sizeof c (sizeof_of_sound ts _ _ y.is)) l)
       (if_cases (sees ts sign.OpenParenthesis (suc i)) _ _ x e)
 
-  tagof_sound : (b : Bool) (level i : ℕ) (x : Part) → 2 ≤ level → word ts i ≡ w.Key key.Tagof
+  tagof_sound : (b : Bool) (level i : ℕ) (x : Parsed) → 2 ≤ level → word ts i ≡ w.Key key.Tagof
       → p.tagof ts sub d b i ≡ Some x → IsMade ts d b level i x
   unfolding p.tagof
   tagof_sound b level i x l c e = ⊎_elim
@@ -334,21 +200,21 @@ module _ (ts : List Token) (sub : Sub) (d : ℕ) (sound : ExprSound ts sub d) wh
       (g.tagof c (tagof_of_sound ts _ _ _ y.is)) l)
       (if_cases (sees ts sign.OpenParenthesis (suc i)) _ _ x e)
 
-  prefix_sound : (b : Bool) (level i : ℕ) (c : Sign) (x : Part) → 2 ≤ level → word ts i ≡ w.Sign c
+  prefix_sound : (b : Bool) (level i : ℕ) (c : Sign) (x : Parsed) → 2 ≤ level → word ts i ≡ w.Sign c
       → is_prefix c ≡ true → p.prefix ts sub d b i c ≡ Some x → IsMade ts d b level i x
   unfolding p.prefix
   prefix_sound b level i c x l k t e =
       let y = bind_some _ _ _ e in let r = sound.read _ _ _ _ (omega arith) (omega arith) y.is in
       made ts d b level i _ _ _ _ x y.next (g.prefix k t r.is_expr r.up_to) l
 
-  tagged_sound : (b : Bool) (level i : ℕ) (x : Part) → 2 ≤ level → (b && is_tag ts i) ≡ true
+  tagged_sound : (b : Bool) (level i : ℕ) (x : Parsed) → 2 ≤ level → (b && is_tag ts i) ≡ true
       → p.tagged ts sub d b i ≡ Some x → IsMade ts d b level i x
   unfolding p.tagged
   tagged_sound b level i x l t e =
       let y = bind_some _ _ _ e in let r = sound.read _ _ _ _ (omega arith) (omega arith) y.is in
       made ts d b level i _ _ _ _ x y.next (g.tagged t r.is_expr r.up_to) l
 
-  call_sound : (b : Bool) (level i : ℕ) (x : Part) → 2 ≤ level → word ts i ≡ w.Name
+  call_sound : (b : Bool) (level i : ℕ) (x : Parsed) → 2 ≤ level → word ts i ≡ w.Name
       → calls ts (suc i) ≡ true → p.call ts sub d i ≡ Some x → IsMade ts d b level i x
   unfolding p.call
   call_sound b level i x l c k e =
@@ -356,7 +222,7 @@ module _ (ts : List Token) (sub : Sub) (d : ℕ) (sound : ExprSound ts sub d) wh
       let a = args_sound ts sub d sound _ _ y.is in
       made ts d b level i _ _ _ _ x h.1 (g.call c k a.stands (sees_true ts _ _ h.0)) (omega arith)
 
-  named_sound : (b : Bool) (level i : ℕ) (x : Part) → 2 ≤ level → word ts i ≡ w.Name
+  named_sound : (b : Bool) (level i : ℕ) (x : Parsed) → 2 ≤ level → word ts i ≡ w.Name
       → p.named ts sub d b i ≡ Some x → IsMade ts d b level i x
   unfolding p.named
   named_sound b level i x l c e = ⊎_elim
@@ -367,7 +233,7 @@ module _ (ts : List Token) (sub : Sub) (d : ℕ) (sound : ExprSound ts sub d) wh
       (if_cases (calls ts (suc i)) _ _ x f.1))
       (if_cases (b && is_tag ts i) _ _ x e)
 
-  signed_sound : (b : Bool) (level i : ℕ) (c : Sign) (x : Part) → 2 ≤ level → word ts i ≡ w.Sign c
+  signed_sound : (b : Bool) (level i : ℕ) (c : Sign) (x : Parsed) → 2 ≤ level → word ts i ≡ w.Sign c
       → p.signed ts sub d b i c ≡ Some x → IsMade ts d b level i x
   unfolding p.signed
   signed_sound b level i c x l k e = ⊎_elim
@@ -377,7 +243,7 @@ module _ (ts : List Token) (sub : Sub) (d : ℕ) (sound : ExprSound ts sub d) wh
       h.1)
       (if_cases (is_prefix c) _ _ x e)
 
-  operand_sound : (b : Bool) (level i : ℕ) (x : Part) → 2 ≤ level → (v : Word) → word ts i ≡ v
+  operand_sound : (b : Bool) (level i : ℕ) (x : Parsed) → 2 ≤ level → (v : Word) → word ts i ≡ v
       → p.operand_by ts sub d b i v ≡ Some x → IsMade ts d b level i x
   unfolding p.operand_by
   operand_sound b level i x l w.Number c e =
@@ -393,7 +259,7 @@ module _ (ts : List Token) (sub : Sub) (d : ℕ) (sound : ExprSound ts sub d) wh
 
   -- ---- operators behind what was read
 
-  postfix_sound : (b : Bool) (level i : ℕ) (c : Sign) (t x : Part) → 1 ≤ level
+  postfix_sound : (b : Bool) (level i : ℕ) (c : Sign) (t x : Parsed) → 1 ≤ level
       → IsMade ts d b level i t → word ts t.stop ≡ w.Sign c → joint_of c ≡ joint.Step
       → is_first ts t.stop ≡ false
       → p.postfix ts sub d i c t ≡ Some x → IsMade ts d b level i x
@@ -402,7 +268,7 @@ module _ (ts : List Token) (sub : Sub) (d : ℕ) (sound : ExprSound ts sub d) wh
       let h = guard_some _ _ _ e in
       made ts d b level i _ _ _ _ x h.1 (g.postfix m.is_expr (leb-true _ _ h.0) k j f) l
 
-  index_sound : (b : Bool) (level i : ℕ) (t x : Part) → 1 ≤ level → IsMade ts d b level i t
+  index_sound : (b : Bool) (level i : ℕ) (t x : Parsed) → 1 ≤ level → IsMade ts d b level i t
       → word ts t.stop ≡ w.Sign sign.OpenBracket → p.index ts sub d i t ≡ Some x
       → IsMade ts d b level i x
   unfolding p.index
@@ -414,7 +280,7 @@ module _ (ts : List Token) (sub : Sub) (d : ℕ) (sound : ExprSound ts sub d) wh
       (g.index m.is_expr (leb-true _ _ a.1) k (not_true _ a.0) r.is_expr r.up_to
       (sees_true ts _ _ h2.0)) l
 
-  character_sound : (b : Bool) (level i : ℕ) (t x : Part) → 1 ≤ level → IsMade ts d b level i t
+  character_sound : (b : Bool) (level i : ℕ) (t x : Parsed) → 1 ≤ level → IsMade ts d b level i t
       → word ts t.stop ≡ w.Sign sign.OpenBrace → is_first ts t.stop ≡ false
       → p.character ts sub d i t ≡ Some x → IsMade ts d b level i x
   unfolding p.character
@@ -425,7 +291,7 @@ module _ (ts : List Token) (sub : Sub) (d : ℕ) (sound : ExprSound ts sub d) wh
       made ts d b level i _ _ _ _ x h2.1
       (g.character m.is_expr (leb-true _ _ h.0) k f r.is_expr r.up_to (sees_true ts _ _ h2.0)) l
 
-  binary_sound : (b : Bool) (level i q : ℕ) (c : Sign) (t x : Part) → q ≤ level
+  binary_sound : (b : Bool) (level i q : ℕ) (c : Sign) (t x : Parsed) → q ≤ level
       → IsMade ts d b level i t → word ts t.stop ≡ w.Sign c → joint_of c ≡ joint.Left q
       → p.binary ts sub d b i q c t ≡ Some x → IsMade ts d b level i x
   unfolding p.binary
@@ -437,7 +303,7 @@ module _ (ts : List Token) (sub : Sub) (d : ℕ) (sound : ExprSound ts sub d) wh
       made ts d b level i _ _ _ _ x y.next
       (g.binary m.is_expr (leb-true _ _ h.0) k j r.is_expr (omega arith)) l
 
-  choice_sound : (b : Bool) (level i : ℕ) (t x : Part) → 13 ≤ level → IsMade ts d b level i t
+  choice_sound : (b : Bool) (level i : ℕ) (t x : Parsed) → 13 ≤ level → IsMade ts d b level i t
       → word ts t.stop ≡ w.Sign sign.Question → p.choice ts sub d b i t ≡ Some x
       → IsMade ts d b level i x
   unfolding p.choice
@@ -451,7 +317,7 @@ module _ (ts : List Token) (sub : Sub) (d : ℕ) (sound : ExprSound ts sub d) wh
       (g.choice m.is_expr (leb-true _ _ h.0) k r.is_expr r.up_to
       (sees_true ts _ _ h2.0) r2.is_expr r2.up_to) l
 
-  assign_sound : (b : Bool) (level i : ℕ) (c : Sign) (t x : Part) → 14 ≤ level
+  assign_sound : (b : Bool) (level i : ℕ) (c : Sign) (t x : Parsed) → 14 ≤ level
       → IsMade ts d b level i t → word ts t.stop ≡ w.Sign c → joint_of c ≡ joint.Assign
       → p.assign ts sub d b i c t ≡ Some x → IsMade ts d b level i x
   unfolding p.assign
@@ -461,7 +327,7 @@ module _ (ts : List Token) (sub : Sub) (d : ℕ) (sound : ExprSound ts sub d) wh
       made ts d b level i _ _ _ _ x y.next
       (g.assign m.is_expr (leb-true _ _ h.0) k j r.is_expr r.up_to) l
 
-  chain_sound : (b : Bool) (level i : ℕ) (t x : Part) → 9 ≤ level → IsMade ts d b level i t
+  chain_sound : (b : Bool) (level i : ℕ) (t x : Parsed) → 9 ≤ level → IsMade ts d b level i t
       → compares ts t.stop ≡ true → p.chain ts sub d b i t ≡ Some x → IsMade ts d b level i x
   unfolding p.chain
   chain_sound b level i t x l m k e =
@@ -473,7 +339,7 @@ module _ (ts : List Token) (sub : Sub) (d : ℕ) (sound : ExprSound ts sub d) wh
       _ z.is in
       chain_made b level i t x y.first z.first l m (leb-true _ _ h.0) f a z.next
     where
-      chain_made : (b : Bool) (level i : ℕ) (t x : Part) (y : Got Link) (z : Got (List Link))
+      chain_made : (b : Bool) (level i : ℕ) (t x : Parsed) (y : Got Link) (z : Got (List Link))
           → 9 ≤ level → IsMade ts d b level i t → t.level ≤ 8 → IsPart (IsLink ts b) d t.stop y
           → Added (compares ts) (IsLink ts b) d (y.tree ∷ []) y.height y.stop z
           → operation d (node.Chain (at ts i) t.tree (links z.tree)) 9
@@ -487,7 +353,7 @@ module _ (ts : List Token) (sub : Sub) (d : ℕ) (sound : ExprSound ts sub d) wh
   step_first true level m l = absurd (omega arith)
   step_first false level m l = refl
 
-  grow_by_sound : (b : Bool) (level i : ℕ) (t x : Part) (c : Sign) (j : Joint)
+  grow_by_sound : (b : Bool) (level i : ℕ) (t x : Parsed) (c : Sign) (j : Joint)
       → word ts t.stop ≡ w.Sign c → joint_of c ≡ j → level ≤ 15
       → level_of b (is_first ts t.stop) j ≤ level
       → IsMade ts d b level i t → p.grow_by ts sub d b i t c j ≡ Some x → IsMade ts d b level i x
@@ -511,7 +377,7 @@ module _ (ts : List Token) (sub : Sub) (d : ℕ) (sound : ExprSound ts sub d) wh
   grow_by_sound b level i t x c joint.Colon k j u l m e = absurd (none_some e)
   grow_by_sound b level i t x c joint.Nothing k j u l m e = absurd (none_some e)
 
-  grow_sound : (b : Bool) (level i : ℕ) (t x : Part) (v : Word) → word ts t.stop ≡ v → level ≤ 15
+  grow_sound : (b : Bool) (level i : ℕ) (t x : Parsed) (v : Word) → word ts t.stop ≡ v → level ≤ 15
       → binds ts b t.stop ≤ level → IsMade ts d b level i t → p.grow ts sub d b i t v ≡ Some x
       → IsMade ts d b level i x
   unfolding p.grow
@@ -520,7 +386,7 @@ module _ (ts : List Token) (sub : Sub) (d : ℕ) (sound : ExprSound ts sub d) wh
       grow_by_sound b level i t x c _ k refl u (omega arith) m e
   grow_sound b level i t x _ k u l m e = absurd (none_some e)
 
-  climb_sound : (b : Bool) (level i n : ℕ) (t x : Part) → level ≤ 15 → IsMade ts d b level i t
+  climb_sound : (b : Bool) (level i n : ℕ) (t x : Parsed) → level ≤ 15 → IsMade ts d b level i t
       → p.climb ts sub d b level i n t ≡ Some x → IsRead ts (suc d) b level i x
   unfolding p.climb
   climb_sound b level i zero t x u m e = absurd (none_some e)
@@ -531,7 +397,7 @@ module _ (ts : List Token) (sub : Sub) (d : ℕ) (sound : ExprSound ts sub d) wh
       (grow_sound b level i t y.first _ refl u (ltb-false _ _ f.0) m y.is) y.next)
       (if_cases _ _ _ x e)
 
-  whole_sound : (b : Bool) (level i : ℕ) (x : Part) → 2 ≤ level → level ≤ 15
+  whole_sound : (b : Bool) (level i : ℕ) (x : Parsed) → 2 ≤ level → level ≤ 15
       → p.whole ts sub d b level i ≡ Some x → IsRead ts (suc d) b level i x
   unfolding p.whole
   whole_sound b level i x l u e =

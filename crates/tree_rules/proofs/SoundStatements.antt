@@ -35,8 +35,8 @@ use Rattle.tree_rules.proofs.Base.{sees_true, sees_key_true, name_true}
 use Rattle.tree_rules.proofs.ListLaws.{IsPart, IsSound, IsSoundWhere, anywhere, got_part}
 use Rattle.tree_rules.proofs.ListLaws.{node_part, all_sound, several_sound, behind_sound}
 use Rattle.tree_rules.proofs.ListLaws.{led_sound}
-use Rattle.tree_rules.proofs.Sound.{ExprSound, expr_sound, AddedArgs, value_sound}
-use Rattle.tree_rules.proofs.Sound.{more_args_sound}
+use Rattle.tree_rules.proofs.SoundParts.{ExprSound, AddedArgs}
+use Rattle.tree_rules.proofs.Sound.{expr_sound, value_sound, more_args_sound}
 use Rattle.tree_rules.proofs.SoundVariables.{expression_sound, condition_sound, constant_sound}
 use Rattle.tree_rules.proofs.SoundVariables.{vars_sound, variables_sound}
 

@@ -21,7 +21,8 @@ use Rattle.tree_rules.proofs.Steps.{none_some, bind_some, guard_some, if_cases}
 use Rattle.tree_rules.proofs.Base.{sees_true, sees_key_true, name_true}
 use Rattle.tree_rules.proofs.ListLaws.{IsPart, IsSound, got_part, node_part, all_sound}
 use Rattle.tree_rules.proofs.ListLaws.{several_sound, behind_sound, led_sound}
-use Rattle.tree_rules.proofs.Sound.{ExprSound, expr_sound}
+use Rattle.tree_rules.proofs.SoundParts.{ExprSound}
+use Rattle.tree_rules.proofs.Sound.{expr_sound}
 
 module _ (ts : List Token) (sub : Sub) (n : ℕ) (sound : ExprSound ts sub n) where
   pub expression_sound : (b : Bool) (level : ℕ) → 2 ≤ level → level ≤ 15

@@ -24,23 +24,23 @@ use Rattle.tree_rules.specs.Expressions.{behind_brackets}
 use Rattle.tree_rules.specs.Readers.{Got, got, Reader, ◌>>=◌, guard, many}
 
 -- an expression that was read: the tree, its level, its height, and the token behind it
-pub record Part : Type 0 where
+pub record Parsed : Type 0 where
   pub tree : Expr
   pub level : ℕ
   pub height : ℕ
   pub stop : ℕ
 
 -- an expression with its level and its height, up to a token
-abbrev pub part : Expr → ℕ → ℕ → ℕ → Part
+abbrev pub part : Expr → ℕ → ℕ → ℕ → Parsed
 part x p h j = record { tree = x; level = p; height = h; stop = j }
 
 -- a node of a level, if no more than d levels stand below it
-abbrev pub operation : ℕ → Expr → ℕ → ℕ → ℕ → Option Part
+abbrev pub operation : ℕ → Expr → ℕ → ℕ → ℕ → Option Parsed
 operation d x level under stop = guard (nat_le under d) (Some (part x level (suc under) stop))
 
 -- a parser of expressions: whether tags may stand, the level, from
 abbrev pub Sub : Type 0
-Sub = Bool → ℕ → ℕ → Option Part
+Sub = Bool → ℕ → ℕ → Option Parsed
 
 -- how many `[]` stand there, two at most
 abbrev pub pair : List Token → ℕ → Bool
@@ -72,13 +72,13 @@ tagof_of ts tags i =
 
 module _ (ts : List Token) (sub : Sub) where
   -- an expression in parentheses
-  unfoldable pub paren : ℕ → ℕ → Option Part
+  unfoldable pub paren : ℕ → ℕ → Option Parsed
   paren d i = sub true 15 (suc i) >>= (λ x.
       guard (sees ts sign.CloseParenthesis x.stop)
       (operation d (e.Paren (at ts i) x.tree) 1 x.height (suc x.stop)))
 
   -- `sizeof` with its operand
-  unfoldable pub sizeof : ℕ → ℕ → Option Part
+  unfoldable pub sizeof : ℕ → ℕ → Option Parsed
   sizeof d i =
       if sees ts sign.OpenParenthesis (suc i)
       then (sizeof_of ts (suc (suc i)) >>= (λ x.
@@ -87,7 +87,7 @@ module _ (ts : List Token) (sub : Sub) where
       else (sizeof_of ts (suc i) >>= (λ x. Some (part (e.Sizeof (at ts i) x.tree) 2 1 x.stop)))
 
   -- `tagof` with its operand
-  unfoldable pub tagof : ℕ → Bool → ℕ → Option Part
+  unfoldable pub tagof : ℕ → Bool → ℕ → Option Parsed
   tagof d tags i =
       if sees ts sign.OpenParenthesis (suc i)
       then (tagof_of ts true (suc (suc i)) >>= (λ x.
@@ -96,12 +96,12 @@ module _ (ts : List Token) (sub : Sub) where
       else (tagof_of ts tags (suc i) >>= (λ x. Some (part (e.Tagof (at ts i) x.tree) 2 1 x.stop)))
 
   -- a sign before its operand
-  unfoldable pub prefix : ℕ → Bool → ℕ → Sign → Option Part
+  unfoldable pub prefix : ℕ → Bool → ℕ → Sign → Option Parsed
   prefix d tags i c = sub tags 2 (suc i) >>= (λ x.
       operation d (e.Prefix (at ts i) c x.tree) 2 x.height x.stop)
 
   -- a tag before its operand
-  unfoldable pub tagged : ℕ → Bool → ℕ → Option Part
+  unfoldable pub tagged : ℕ → Bool → ℕ → Option Parsed
   tagged d tags i = sub tags 2 (suc (suc i)) >>= (λ x.
       operation d (e.Tagged (at ts i) (spelling ts i) x.tree) 2 x.height x.stop)
 
@@ -141,7 +141,7 @@ module _ (ts : List Token) (sub : Sub) where
       more_args (suc (length ts)) (sees ts sign.Dot i) (x.tree ∷ []) x.height x.stop))
 
   -- a call
-  unfoldable pub call : ℕ → ℕ → Option Part
+  unfoldable pub call : ℕ → ℕ → Option Parsed
   call d i = call_args (suc (suc i)) >>= (λ xs. guard (sees ts sign.CloseParenthesis xs.stop)
       (operation d (e.Call (at ts i) (spelling ts i) (args xs.tree) false) 1 xs.height
       (suc xs.stop)))
@@ -149,19 +149,19 @@ module _ (ts : List Token) (sub : Sub) where
   -- ---- operands
 
   -- what begins with a name
-  unfoldable pub named : ℕ → Bool → ℕ → Option Part
+  unfoldable pub named : ℕ → Bool → ℕ → Option Parsed
   named d tags i =
       if tags && is_tag ts i then tagged d tags i
       else (if calls ts (suc i) then call d i else Some
       (part (e.Name (at ts i) (spelling ts i)) 1 1 (suc i)))
 
   -- what begins with a sign
-  unfoldable pub signed : ℕ → Bool → ℕ → Sign → Option Part
+  unfoldable pub signed : ℕ → Bool → ℕ → Sign → Option Parsed
   signed d tags i c = if is_prefix c then prefix d tags i c else guard
       (sameb signs.the_type sign.OpenParenthesis c) (paren d i)
 
   -- an operand, by its first token
-  unfoldable pub operand_by : ℕ → Bool → ℕ → Word → Option Part
+  unfoldable pub operand_by : ℕ → Bool → ℕ → Word → Option Parsed
   operand_by d tags i w.Number = Some (part (e.Number (at ts i) (value ts i)) 1 1 (suc i))
   operand_by d tags i w.Text = Some
       (part (e.Text (at ts i) (spelling ts i) (is_packed ts i)) 1 1 (suc i))
@@ -175,26 +175,26 @@ module _ (ts : List Token) (sub : Sub) where
   -- ---- operators behind what was read
 
   -- `++` or `--` behind what was read
-  unfoldable pub postfix : ℕ → ℕ → Sign → Part → Option Part
+  unfoldable pub postfix : ℕ → ℕ → Sign → Parsed → Option Parsed
   postfix d i c t = guard (nat_le t.level 1)
       (operation d (e.Postfix (at ts i) c t.tree) 1 t.height (suc t.stop))
 
   -- `[e]` behind it
-  unfoldable pub index : ℕ → ℕ → Part → Option Part
+  unfoldable pub index : ℕ → ℕ → Parsed → Option Parsed
   index d i t = guard (not (is_first ts t.stop) && nat_le t.level 1)
       (sub true 15 (suc t.stop) >>= (λ y.
       guard (sees ts sign.CloseBracket y.stop)
       (operation d (e.Index (at ts i) t.tree y.tree) 1 (max t.height y.height) (suc y.stop))))
 
   -- `{e}` behind it
-  unfoldable pub character : ℕ → ℕ → Part → Option Part
+  unfoldable pub character : ℕ → ℕ → Parsed → Option Parsed
   character d i t = guard (nat_le t.level 1) (sub true 15 (suc t.stop) >>= (λ y.
       guard (sees ts sign.CloseBrace y.stop)
       (operation d (e.Character (at ts i) t.tree y.tree) 1 (max t.height y.height)
       (suc y.stop))))
 
   -- an operator that groups to the left, and its right operand
-  unfoldable pub binary : ℕ → Bool → ℕ → ℕ → Sign → Part → Option Part
+  unfoldable pub binary : ℕ → Bool → ℕ → ℕ → Sign → Parsed → Option Parsed
   binary d tags i p c t = guard (nat_le t.level p) (sub tags (p - 1) (suc t.stop) >>= (λ y.
       operation d (e.Binary (at ts i) c t.tree y.tree) p (max t.height y.height) y.stop))
 
@@ -209,25 +209,25 @@ module _ (ts : List Token) (sub : Sub) where
   link tags i = link_by tags i (word ts i)
 
   -- a chain of comparisons
-  unfoldable pub chain : ℕ → Bool → ℕ → Part → Option Part
+  unfoldable pub chain : ℕ → Bool → ℕ → Parsed → Option Parsed
   chain d tags i t = guard (nat_le t.level 8) (link tags t.stop >>= (λ l.
       many (compares ts) (link tags) (suc (length ts)) (l.tree ∷ []) l.height l.stop >>= (λ ls.
       operation d (e.Chain (at ts i) t.tree (links ls.tree)) 9 (max t.height ls.height) ls.stop)))
 
   -- `?` with its two values
-  unfoldable pub choice : ℕ → Bool → ℕ → Part → Option Part
+  unfoldable pub choice : ℕ → Bool → ℕ → Parsed → Option Parsed
   choice d tags i t = guard (nat_le t.level 12) (sub false 13 (suc t.stop) >>= (λ x.
       guard (sees ts sign.Colon x.stop) (sub tags 13 (suc x.stop) >>= (λ y.
       operation d (e.Choice (at ts i) t.tree x.tree y.tree) 13
       (max t.height (max x.height y.height)) y.stop))))
 
   -- an assignment
-  unfoldable pub assign : ℕ → Bool → ℕ → Sign → Part → Option Part
+  unfoldable pub assign : ℕ → Bool → ℕ → Sign → Parsed → Option Parsed
   assign d tags i c t = guard (nat_le t.level 1) (sub tags 14 (suc t.stop) >>= (λ y.
       operation d (e.Assign (at ts i) c t.tree y.tree) 14 (max t.height y.height) y.stop))
 
   -- what was read with the operator behind it, by how that continues it
-  unfoldable pub grow_by : ℕ → Bool → ℕ → Part → Sign → Joint → Option Part
+  unfoldable pub grow_by : ℕ → Bool → ℕ → Parsed → Sign → Joint → Option Parsed
   grow_by d tags i t c (joint.Left p) = binary d tags i p c t
   grow_by d tags i t c joint.Compare = chain d tags i t
   grow_by d tags i t c joint.Question = choice d tags i t
@@ -238,19 +238,19 @@ module _ (ts : List Token) (sub : Sub) where
   grow_by d tags i t c _ = None
 
   -- what was read with the token behind it
-  unfoldable pub grow : ℕ → Bool → ℕ → Part → Word → Option Part
+  unfoldable pub grow : ℕ → Bool → ℕ → Parsed → Word → Option Parsed
   grow d tags i t (w.Sign c) = grow_by d tags i t c (joint_of c)
   grow d tags i t _ = None
 
   -- what was read with all operators up to a level, in so many turns
-  unfoldable pub climb : ℕ → Bool → ℕ → ℕ → ℕ → Part → Option Part
+  unfoldable pub climb : ℕ → Bool → ℕ → ℕ → ℕ → Parsed → Option Parsed
   climb d tags level i zero t = None
   climb d tags level i (suc n) t =
       if nat_lt level (binds ts tags t.stop) then Some t else
       (grow d tags i t (word ts t.stop) >>= climb d tags level i n)
 
   -- an expression up to a level
-  unfoldable pub whole : ℕ → Bool → ℕ → ℕ → Option Part
+  unfoldable pub whole : ℕ → Bool → ℕ → ℕ → Option Parsed
   whole d tags level i = operand_by d tags i (word ts i) >>= climb d tags level i (suc d)
 
 -- expressions of height d at most

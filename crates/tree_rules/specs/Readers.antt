@@ -20,8 +20,8 @@ got x h j = record { tree = x; height = h; stop = j }
 abbrev pub Reader : Type 0 → Type 0
 Reader A = ℕ → Option (Got A)
 
--- the one behind the other
 infixl 10 ◌>>=◌
+-- the one behind the other: None as soon as one of them is
 abbrev pub ◌>>=◌ : {A B : Type 0} → Option A → (A → Option B) → Option B
 None >>= f = None
 (Some x) >>= f = f x

@@ -24,8 +24,8 @@ use Rattle.types_rules.specs.Scope.{Scope}
 use Rattle.types_rules.proofs.VerdictLaws.{Holds, stands_itself, breaks_holds, holds_after}
 use Rattle.types_rules.proofs.VerdictLaws.{holds_both, holds_all}
 use Rattle.types_rules.specs.Constants as constants
-use Rattle.types_rules.specs.Sizes.{Dimension, Inner, Dimensions, size_in, cells_for, dimension}
-use Rattle.types_rules.specs.Sizes.{inner_with, inner, dimensions, within}
+use Rattle.types_rules.specs.Sizes.{Dimension, Inner, Dimensions, positive_size, cells_for}
+use Rattle.types_rules.specs.Sizes.{dimension, inner_with, inner, dimensions, within}
 use Rattle.types_rules.specs.FirstValues as values
 use Rattle.types_rules.specs.FirstValues.{no_cells, last_of, step_of, further, missing, filled_to}
 use Rattle.types_rules.specs.FirstValues.{filled, object_cells, literal_in, text_by, text}
@@ -81,15 +81,15 @@ pub record GoodDimensions (it : Dimensions) : Type 0 where
   pub inner : Each IsSize it.inner
   pub count : length it.inner ≤ 2
 
-size_in_good : (at : At) (v : ℤ) (warned : List At) → IsCell v
-    → Holds GoodDimension (size_in at v warned)
-size_in_good at (pos zero) warned h = breaks_holds _ _
-size_in_good at (pos (suc n)) warned h =
+positive_size_good : (at : At) (v : ℤ) (warned : List At) → IsCell v
+    → Holds GoodDimension (positive_size at v warned)
+positive_size_good at (pos zero) warned h = breaks_holds _ _
+positive_size_good at (pos (suc n)) warned h =
     stands_itself _ _ (record {
       size = λ m e. let same : suc n ≡ m = cc in
           subst IsSize same (record { least = omega arith; cell = h });
     })
-size_in_good at (negsuc n) warned h = breaks_holds _ _
+positive_size_good at (negsuc n) warned h = breaks_holds _ _
 
 -- so many characters, and three more, are as many cells or fewer
 abbrev IsFew : ℤ → Type 0
@@ -101,13 +101,13 @@ few_by (pos n) h = omega (arith, ints, h)
 few_by (negsuc n) h = tt
 
 quotient_good : (at : At) (s : ℤ) (warned : List At) → IsFew s
-    → Holds GoodDimension (size_in at (floor_quotient s (pos 4)) warned)
+    → Holds GoodDimension (positive_size at (floor_quotient s (pos 4)) warned)
 quotient_good at (pos n) warned h =
-    size_in_good at (pos (n / 4)) warned (small_cell (n / 4) (omega (arith, h)))
+    positive_size_good at (pos (n / 4)) warned (small_cell (n / 4) (omega (arith, h)))
 quotient_good at (negsuc n) warned h = breaks_holds _ _
 
 chars_good : (at : At) (v : ℤ) (warned : List At) → IsCell v
-    → Holds GoodDimension (size_in at (cells_for v) warned)
+    → Holds GoodDimension (positive_size at (cells_for v) warned)
 chars_good at v warned h =
     quotient_good at (v +ℤ pos 3) warned (few_by (v +ℤ pos 3) (omega (arith, ints, h)))
 
@@ -243,7 +243,7 @@ module _ (cx : Around) (tags : HasTags cx) (path : Scope) (known : IsPlainPath p
       stands_itself _ _ (record { size = λ n e. let no : ⊥ = cc in absurd no })
   dimension_good (Cells e) h =
       holds_after (constant_plain IsAnyName e h)
-      (λ it p. size_in_good at it.value it.warned p.value)
+      (λ it p. positive_size_good at it.value it.warned p.value)
   dimension_good (Chars e) h =
       holds_after (constant_plain IsAnyName e h)
       (λ it p. chars_good at it.value it.warned p.value)

@@ -17,7 +17,7 @@ use Rattle.types_rules.specs.Keys.{Key, Named, Operates, Enters, Misshapen}
 use Rattle.types_rules.specs.Enums.{enum_rule}
 use Rattle.types_rules.specs.Sources.{Source}
 use Rattle.types_rules.specs.Declarations.{Done, nothing_done, shaped_key, bare_head, globals}
-use Rattle.types_rules.specs.Declarations.{constant_rule, decl_rule}
+use Rattle.types_rules.specs.Declarations.{global_constant, decl_rule}
 use Rattle.types_laws.proofs.GroupLaws.{IsShaped}
 
 -- no body
@@ -49,7 +49,7 @@ module _ (source : Source) (cx : Around) where
       (λ x t. stands_itself _ _ (record { bodies = refl })))
 
   pub constant_bare : (point : Point) (at : At) (of : ConstantOf)
-      → Holds IsBare (constant_rule source cx point at of)
+      → Holds IsBare (global_constant source cx point at of)
   constant_bare point at of =
       holds_after (holds_all (constants.constant cx point.scope at of.value))
       (λ c t. stands_itself _ _ (record { bodies = refl }))

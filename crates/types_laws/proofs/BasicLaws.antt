@@ -23,11 +23,11 @@ use Rattle.types_rules.specs.Scope.{Meaning, Constant, Variable, Function, Nativ
 use Rattle.types_rules.specs.Scope.{Unknown, Scope, found}
 use Rattle.types_rules.specs.Scope as means
 use Rattle.types_rules.specs.Texts.{text_cells, text_object}
-use Rattle.types_rules.specs.NamesAndNumbers.{text_rule, name_rule, first_size}
+use Rattle.types_rules.specs.NamesAndNumbers.{text_rule, name_rule, size_or_zero}
 use Rattle.types_rules.specs.NamesAndNumbers.{size_at, size_or_broken}
 use Rattle.types_rules.specs.NamesAndNumbers.{size_of_cell, size_of, size_in}
 use Rattle.types_rules.specs.NamesAndNumbers.{sizeof_rule, tag_in, tagof_rule}
-use Rattle.types_rules.specs.Indexes.{is_outside, characters, part_extent, part, index_rule}
+use Rattle.types_rules.specs.Indexes.{is_outside, characters, part_extent, indexed_part, index_rule}
 use Rattle.types_rules.specs.Indexes.{character_in, character_rule}
 use Rattle.types_rules.proofs.VerdictLaws.{Holds, stands_itself, breaks_holds, holds_after}
 use Rattle.types_rules.proofs.VerdictLaws.{holds_both, holds_all}
@@ -52,7 +52,7 @@ pub record SoundHeld (scope : program.Scope) (it : Held) : Type 0 where
 -- ---- sizes
 
 pub first_size_cell : (first : Option ℕ) → IfSome first (λ size. IsCell (pos size))
-    → IsCell (pos (first_size first))
+    → IsCell (pos (size_or_zero first))
 first_size_cell None h = small_cell 0 (omega arith)
 first_size_cell (Some size) h = h
 
@@ -187,7 +187,7 @@ module _ (scope : program.Scope) where
   }
 
   part_sound : (held : Held) (e : Expr) (inner : List ℕ) → held.extent.inner ≡ inner
-      → SoundHeld scope held → IsValidExpr scope e → IsValidForm scope (part held e inner)
+      → SoundHeld scope held → IsValidExpr scope e → IsValidForm scope (indexed_part held e inner)
   part_sound held e [] same h p = (is_line held same h, h.reached.array, p)
   part_sound held e (size ∷ inner) same h p =
       let rows : ¬ (held.extent.inner ≡ []) = λ none. let no : ⊥ = cc in no in

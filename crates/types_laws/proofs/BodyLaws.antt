@@ -43,13 +43,14 @@ use Rattle.types_rules.proofs.StatementLaws.{stmt_made}
 use Rattle.types_rules.specs.Params.{Headed, head_parts, head_rule, in_body}
 use Rattle.types_rules.specs.Keys.{Key}
 use Rattle.types_rules.specs.Enums.{Counted, value_of, means_value, item_value, behind_item}
-use Rattle.types_rules.specs.Enums.{behind_items, nothing_counted, named, behind_enum, enum_rule}
+use Rattle.types_rules.specs.Enums.{behind_items, nothing_counted, with_enum_name, behind_enum}
+use Rattle.types_rules.specs.Enums.{enum_rule}
 use Rattle.types_rules.specs.Sources.{Source}
 use Rattle.types_rules.specs.Paths.{behind_decl}
 use Rattle.types_rules.specs.Declarations.{Done, done_behind, nothing_done, warning, objects_done}
 use Rattle.types_rules.specs.Declarations.{body_of, bodied, shaped_key, native_name, function_key}
 use Rattle.types_rules.specs.Declarations.{body_point, function_with, bare_head, globals}
-use Rattle.types_rules.specs.Declarations.{constant_rule, decl_rule, declarations}
+use Rattle.types_rules.specs.Declarations.{global_constant, decl_rule, declarations}
 use Rattle.types_laws.specs.Known.{KnowsAround}
 use Rattle.types_laws.specs.ValidExpressions.{ExpressionsAreValid}
 use Rattle.types_laws.specs.Objects.{Each, IsGoodObject}
@@ -64,8 +65,8 @@ use Rattle.types_laws.specs.WrittenStatements.{IsConstant, MayBeConstant, IsWrit
 use Rattle.types_laws.specs.ValidStatements.{IsGoodSlot, IsCalled}
 use Rattle.types_laws.proofs.ListPartLaws.{sits_left, sits_right, sits_at, sits_there}
 use Rattle.types_laws.proofs.SeenLaws.{seen_with, seen_inside, plain_path}
-use Rattle.types_laws.proofs.Variables.{Place, scope_at, Sound, StandsSound, tag_small}
-use Rattle.types_laws.proofs.Variables.{static_holds}
+use Rattle.types_laws.proofs.Bodies.{Place, scope_at, SoundStatements, StandsSound}
+use Rattle.types_laws.proofs.Variables.{tag_small, static_holds}
 use Rattle.types_laws.proofs.StatementParts.{SubIn, sub_in}
 use Rattle.types_laws.proofs.StatementLaws.{stmt_holds}
 use Rattle.types_laws.specs.WrittenDeclarations.{IsWrittenItem, IsOwnHead, IsWrittenDecl}
@@ -241,7 +242,7 @@ module _ (law : ExpressionsAreValid) (it : Program) (cx : Around) (Calls : List 
       → DeclSound it cx Calls point to (objects_done y)
   global_sound point to y bare p = record {
     sound = λ seen fits.
-        let r : Sound (body_place it [] 0) cx Calls [] point false to y =
+        let r : SoundStatements (body_place it [] 0) cx Calls [] point false to y =
         p.sound [] (record {
           path = path_there it cx Calls [] 0 point.scope seen;
           low = omega arith;
@@ -294,7 +295,7 @@ module _ (law : ExpressionsAreValid) (it : Program) (cx : Around) (Calls : List 
     constant_sound : (point : Point) (at : At) (of : ConstantOf)
         → IsConstant of.value
         → Holds (DeclSound it cx Calls point (behind_constant cx point at of))
-        (constant_rule source cx point at of)
+        (global_constant source cx point at of)
     constant_sound point at of w =
         holds_after {P = λ c. constants.constant cx point.scope at of.value ≡ Stands c}
         (record { of = λ c e. e }) (λ c e. stands_itself _ _
@@ -350,7 +351,7 @@ module _ (law : ExpressionsAreValid) (it : Program) (cx : Around) (Calls : List 
           }) w.1
 
       named_seen : (name : Option n.Name) (done : Counted) → SeenCount done
-          → IsSeenPath (file_scope it) cx Calls (named name tag done)
+          → IsSeenPath (file_scope it) cx Calls (with_enum_name name tag done)
       named_seen None done seen = seen.path
       named_seen (Some name) done seen =
           seen_with cx Calls (file_scope it) done.scope _ seen.path

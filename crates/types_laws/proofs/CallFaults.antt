@@ -16,11 +16,10 @@ use Rattle.types_rules.specs.Around as around
 use Rattle.types_rules.specs.Scope.{Meaning, Constant, Variable, Function, Entering, Taken, Unknown}
 use Rattle.types_rules.specs.Scope.{Scope, found}
 use Rattle.types_rules.specs.Scope as means
-use Rattle.types_rules.specs.NamesAndNumbers.{first_size}
-use Rattle.types_rules.specs.Given.{keeps_constant, value_in, plain_given}
-use Rattle.types_rules.specs.Given.{place_in, reference_given}
-use Rattle.types_rules.specs.Given.{fitting, rest_from, passed, array_in, array_given, given_by}
-use Rattle.types_rules.specs.Given.{given_rule}
+use Rattle.types_rules.specs.NamesAndNumbers.{size_or_zero}
+use Rattle.types_rules.specs.Given.{keeps_constant, value_in, plain_given, place_in}
+use Rattle.types_rules.specs.Given.{reference_given, fitting, rest_from, passed, array_argument}
+use Rattle.types_rules.specs.Given.{array_given, given_by, given_rule}
 use Rattle.types_rules.specs.Filling.{Filled, Argument, Offer, Positional, Skipped, Filling, put_in}
 use Rattle.types_rules.specs.Filling.{put, for_param, for_rest, positional, skipped_rest, skipped}
 use Rattle.types_rules.specs.Filling.{named_param, named, number_of_param, offer_step, fill}
@@ -73,17 +72,17 @@ fitting_blames : (at : At) (wanted reach : Extent) (a : Array)
     → Blames (fitting at wanted reach a)
 fitting_blames at wanted reach a = when _ (stood a) (blamed _ _)
 
-array_in_blames : (at : At) (keeps : Bool) (wanted : Extent) (form : Form)
-    → Blames (array_in at keeps wanted form)
-array_in_blames at keeps wanted (typed.Value e) = blamed _ _
-array_in_blames at keeps wanted (typed.Place p constant) =
+array_argument_blames : (at : At) (keeps : Bool) (wanted : Extent) (form : Form)
+    → Blames (array_argument at keeps wanted form)
+array_argument_blames at keeps wanted (typed.Value e) = blamed _ _
+array_argument_blames at keeps wanted (typed.Place p constant) =
     blames_also (keeps_blames at constant keeps)
     (passed_blames (rest_from at wanted p) 0 (rest_blames at wanted p))
-array_in_blames at keeps wanted (typed.Whole a reach constant) =
+array_argument_blames at keeps wanted (typed.Whole a reach constant) =
     blames_also (keeps_blames at constant keeps)
-    (passed_blames (fitting at wanted reach a) (first_size reach.first)
+    (passed_blames (fitting at wanted reach a) (size_or_zero reach.first)
     (fitting_blames at wanted reach a))
-array_in_blames at keeps wanted (typed.Literal object cells) =
+array_argument_blames at keeps wanted (typed.Literal object cells) =
     passed_blames _ cells (fitting_blames at wanted (line cells) _)
 
 module _ (cx : Around) (at : At) where
@@ -100,7 +99,7 @@ module _ (cx : Around) (at : At) where
       → Blames (array_given cx at param wanted x)
   unfolding array_given
   array_given_blames param wanted x =
-      blames_after (array_in_blames at param.constant wanted x.form) (λ it e. stood _)
+      blames_after (array_argument_blames at param.constant wanted x.form) (λ it e. stood _)
 
   given_by_blames : (param : Param) (reach : Option Extent) (x : Typed)
       → Blames (given_by cx at param reach x)

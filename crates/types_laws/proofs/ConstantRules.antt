@@ -27,7 +27,7 @@ use Rattle.types_rules.specs.Operators.{operate, operator_rule, logical_rule, co
 use Rattle.types_rules.specs.Operators.{between_rule, chosen_for_one, operate_one, unary_value}
 use Rattle.types_rules.specs.Operators.{not_rule, negate_rule, invert_rule}
 use Rattle.types_rules.specs.Prefixes.{prefix_rule, postfix_rule}
-use Rattle.types_rules.specs.Indexes.{part, index_rule, character_in, character_rule}
+use Rattle.types_rules.specs.Indexes.{indexed_part, index_rule, character_in, character_rule}
 use Rattle.types_rules.specs.Choices.{value_of_choice, choice_rule}
 use Rattle.types_rules.specs.Chains.{Compared, link_choice, link_code, links_code, link_warned}
 use Rattle.types_rules.specs.Chains.{links_warned, link_tag, chain_tag, link_value, and_more}
@@ -145,7 +145,7 @@ module _ (names : List (List ℕ)) (operators : Overloads) (fs ns fs2 ns2 : List
   module _ (at : At) where
     -- ---- rules that never make a constant
 
-    part_text : (held : Held) (e : Expr) (inner : List ℕ) → IsText (part held e inner) → ⊥
+    part_text : (held : Held) (e : Expr) (inner : List ℕ) → IsText (indexed_part held e inner) → ⊥
     part_text held e [] h = h
     part_text held e (size ∷ inner) h = h
 

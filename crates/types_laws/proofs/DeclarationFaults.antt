@@ -34,7 +34,7 @@ use Rattle.types_rules.specs.Keys.{Key, Named, Operates, Enters, Misshapen}
 use Rattle.types_rules.specs.Sources.{Source}
 use Rattle.types_rules.specs.Enums.{Counted, value_of, entry, item_value, counted_behind}
 use Rattle.types_rules.specs.Enums.{behind_item, behind_items, item_rule, items_rule, items_parts}
-use Rattle.types_rules.specs.Enums.{nothing_counted, named, behind_enum, enum_rule}
+use Rattle.types_rules.specs.Enums.{nothing_counted, with_enum_name, behind_enum, enum_rule}
 use Rattle.types_rules.specs.Paths.{behind_decl}
 use Rattle.types_rules.specs.Declarations.{shaped_key, native_name, function_key, body_point}
 use Rattle.types_rules.specs.Declarations.{function_with, bare_head, globals, decl_rule}
@@ -129,7 +129,7 @@ enum_blames cx path known at tag items =
     (items_blame cx at tag (nothing_counted path) (begun path known) items)
 
 named_known : (name : Option n.Name) (tag : ℕ) (done : Counted) → KnownCount done
-    → AllMeant IsKnown (named name tag done)
+    → AllMeant IsKnown (with_enum_name name tag done)
 named_known None tag done known = known.path
 named_known (Some name) tag done known =
     meant_with IsKnown done.scope (entry name.bytes tag done.next) known.path

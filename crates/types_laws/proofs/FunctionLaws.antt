@@ -308,10 +308,10 @@ module _ (source : Source) where
 
   program_at : (all : List Stated) (number : ℕ) (groups : List Group) (bodies : List Bodied) (f : ℕ)
       (group : Group) → slice_get groups f ≡ Some group
-      → slice_get (programs.functions_from source all number groups bodies) f
+      → slice_get (programs.program_functions source all number groups bodies) f
       ≡ Some (function_of source.automata (group_tag source all group) group
       (bodies_of bodies (number + f)))
-  unfolding programs.functions_from
+  unfolding programs.program_functions
   program_at all number [] bodies f group e = absurd (let no : ⊥ = cc in no)
   program_at all number (x ∷ more) bodies zero group e =
       let same : x ≡ group = cc in
@@ -385,7 +385,7 @@ module _ (source : Source) where
             function = function_of source.automata (group_tag source all r.group) r.group
                 (bodies_of done.bodies f);
             there = subst (λ (n : ℕ).
-                slice_get (programs.functions_from source all 0 source.groups done.bodies) n
+                slice_get (programs.program_functions source all 0 source.groups done.bodies) n
                 ≡ Some (function_of source.automata (group_tag source all r.group) r.group
                 (bodies_of done.bodies f)))
                 (sym number)

@@ -18,13 +18,13 @@ use Rattle.names_rules.specs.Verdict.{Verdict}
 use Rattle.types_rules.specs.Typed.{Typed, Form, line}
 use Rattle.types_rules.specs.Typed as typed
 use Rattle.types_rules.specs.Around.{Around, Param}
-use Rattle.types_rules.specs.NamesAndNumbers.{first_size}
+use Rattle.types_rules.specs.NamesAndNumbers.{size_or_zero}
 use Rattle.types_rules.proofs.VerdictLaws.{Holds, stands_itself, breaks_holds, holds_after}
 use Rattle.types_rules.proofs.VerdictLaws.{holds_also}
 use Rattle.types_rules.specs.Given.{Given, keeps_constant, value_in, plain_given, cell_of_memory}
 use Rattle.types_rules.specs.Given.{place_in, reference_given, first_fits, fits, fitting}
-use Rattle.types_rules.specs.Given.{is_open_line, rest_from, Passed, passed, array_in, array_given}
-use Rattle.types_rules.specs.Given.{given_by, given_rule, rest_place, rest_arg}
+use Rattle.types_rules.specs.Given.{is_open_line, rest_from, PassedArray, passed, array_argument}
+use Rattle.types_rules.specs.Given.{array_given, given_by, given_rule, rest_place, rest_arg}
 use Rattle.types_laws.specs.Meant.{IsReached}
 use Rattle.types_laws.specs.Known.{array_slot, slot_by, slot_of, KnowsAround}
 use Rattle.types_laws.specs.ValidExpressions.{IsValidForm}
@@ -48,7 +48,7 @@ record SoundArray (scope : program.Scope) (wanted : Extent) (a : Array) : Type 0
   pub valid : IsValidArray scope a
   pub agrees : ArgAgrees scope (array_slot wanted.inner wanted.first) (Whole a)
 
-record SoundPassed (scope : program.Scope) (wanted : Extent) (it : Passed) : Type 0 where
+record SoundPassed (scope : program.Scope) (wanted : Extent) (it : PassedArray) : Type 0 where
   pub array : SoundArray scope wanted it.array
   pub size : IsCell (pos it.size)
 
@@ -166,18 +166,19 @@ module _ (scope : program.Scope) (cx : Around) (known : KnowsAround scope.progra
   passed_sound wanted a size h c =
       holds_after h (λ it p. stands_itself _ _ (record { array = p; size = c }))
 
-  array_in_sound : (at : At) (keeps : Bool) (wanted : Extent) (form : Form)
-      → IsValidForm scope form → Holds (SoundPassed scope wanted) (array_in at keeps wanted form)
-  array_in_sound at keeps wanted (typed.Value e) h = breaks_holds _ _
-  array_in_sound at keeps wanted (typed.Place p constant) h =
+  array_argument_sound : (at : At) (keeps : Bool) (wanted : Extent) (form : Form)
+      → IsValidForm scope form
+      → Holds (SoundPassed scope wanted) (array_argument at keeps wanted form)
+  array_argument_sound at keeps wanted (typed.Value e) h = breaks_holds _ _
+  array_argument_sound at keeps wanted (typed.Place p constant) h =
       holds_also (keeps_constant at constant keeps)
       (passed_sound wanted (rest_from at wanted p) 0 (rest_sound at wanted p h)
       (small_cell 0 (omega arith)))
-  array_in_sound at keeps wanted (typed.Whole a reach constant) h =
+  array_argument_sound at keeps wanted (typed.Whole a reach constant) h =
       holds_also (keeps_constant at constant keeps)
-      (passed_sound wanted (fitting at wanted reach a) (first_size reach.first)
+      (passed_sound wanted (fitting at wanted reach a) (size_or_zero reach.first)
       (fitting_sound at wanted reach a h) (first_size_cell reach.first h.cells.first))
-  array_in_sound at keeps wanted (typed.Literal object cells) h =
+  array_argument_sound at keeps wanted (typed.Literal object cells) h =
       passed_sound wanted (fitting at wanted (line cells) (code.Object object)) cells
       (fitting_sound at wanted (line cells) (code.Object object) h) h.cells.first
 
@@ -186,7 +187,7 @@ module _ (scope : program.Scope) (cx : Around) (known : KnowsAround scope.progra
       (array_given cx at param wanted x)
   unfolding array_given
   array_given_sound at param wanted x p =
-      holds_after (array_in_sound at param.constant wanted x.form p.form) (λ it t.
+      holds_after (array_argument_sound at param.constant wanted x.form p.form) (λ it t.
       stands_itself _ _ (record {
         valid = t.array.valid;
         agrees = t.array.agrees;

@@ -39,7 +39,7 @@ use Rattle.types_rules.specs.Params.{param_entries, no_default, no_reference, pa
 use Rattle.types_rules.specs.Params.{params, head_parts, head_rule, head_of}
 use Rattle.types_rules.specs.Enums.{Counted, value_of, item_value, counted_behind, behind_item}
 use Rattle.types_rules.specs.Enums.{behind_items, item_rule, items_rule, items_parts}
-use Rattle.types_rules.specs.Enums.{nothing_counted, named, behind_enum, enum_rule}
+use Rattle.types_rules.specs.Enums.{nothing_counted, with_enum_name, behind_enum, enum_rule}
 use Rattle.types_rules.specs.Paths.{behind_decl, heads_of, heads}
 use Rattle.types_rules.specs.Sources.{Source, operators_from, functions_from, natives_from}
 use Rattle.types_rules.specs.Sources.{natives_in}
@@ -227,7 +227,7 @@ module _ (names : List (List ℕ)) (operators : Overloads) (fs ns fs2 ns2 : List
     enum_same path name items =
         holds_unless (items_parts A at tag (nothing_counted path) items)
         (holds_as (items_same (nothing_counted path) items)
-        (λ y p. ap (λ (done : Counted). named name tag done) p))
+        (λ y p. ap (λ (done : Counted). with_enum_name name tag done) p))
 
   -- ---- heads
 

@@ -5,6 +5,7 @@ mod AutomatonLaws
 pub mod BareLaws
 mod BasicLaws
 pub mod Blames
+pub mod Bodies
 pub mod BodyLaws
 mod BodyNumbers
 mod CallFaults

@@ -18,7 +18,7 @@ use Rattle.types_rules.proofs.VerdictLaws.{holds_both, holds_all}
 use Rattle.types_rules.specs.Groups.{Group}
 use Rattle.types_rules.specs.Sources.{Source, Stated, source_of, all_stated, around_of, beginning}
 use Rattle.types_rules.specs.Declarations.{Bodied, Done}
-use Rattle.types_rules.specs.Programs.{bodies_of, params_of, functions_from, program_of}
+use Rattle.types_rules.specs.Programs.{bodies_of, params_of, program_functions, program_of}
 use Rattle.types_rules.specs.TypedTrees.{Checked, passed, whole_fault, dynamic_faults, entry_faults}
 use Rattle.types_rules.specs.TypedTrees.{unless, sum_faults, whole_faults, source_faults, done}
 use Rattle.types_rules.specs.TypedTrees.{checked_of, typed}
@@ -81,8 +81,8 @@ module _ (it : Program) where
 
   functions_within : (source : Source) (all : List Stated) (number : ℕ) (groups : List Group)
       (bodies : List Bodied) → Each (IsSoundBody it) bodies
-      → Each IsWithinFunction (functions_from source all number groups bodies)
-  unfolding functions_from
+      → Each IsWithinFunction (program_functions source all number groups bodies)
+  unfolding program_functions
   functions_within source all number [] bodies h = tt
   functions_within source all number (group ∷ more) bodies h =
       let own = filtered (IsSoundBody it) (λ (b : Bodied). nat_eq b.number number) bodies h in (

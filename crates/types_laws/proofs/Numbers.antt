@@ -16,7 +16,7 @@ use Rattle.types_rules.specs.Sources.{Source, Stated}
 use Rattle.types_rules.specs.Publics.{not_above, inserted, sorted, group_name, is_public}
 use Rattle.types_rules.specs.Publics.{publics_from, publics}
 use Rattle.types_rules.specs.Declarations.{Bodied}
-use Rattle.types_rules.specs.Programs.{mentions, tags_from, functions_from}
+use Rattle.types_rules.specs.Programs.{mentions, tags_from, program_functions}
 use Rattle.types_rules.specs.TypedTrees.{whole_fault, dynamic_faults}
 use Rattle.types_laws.specs.Objects.{Each}
 use Rattle.types_laws.proofs.Facts.{position_within}
@@ -85,8 +85,8 @@ publics_within source =
 -- ---- functions
 
 pub functions_count : (source : Source) (all : List Stated) (n : ℕ) (groups : List Group)
-    (bodies : List Bodied) → length (functions_from source all n groups bodies) ≡ length groups
-unfolding functions_from
+    (bodies : List Bodied) → length (program_functions source all n groups bodies) ≡ length groups
+unfolding program_functions
 functions_count source all n [] bodies = refl
 functions_count source all n (group ∷ more) bodies =
     ap suc (functions_count source all (n + 1) more bodies)

@@ -17,8 +17,8 @@ use Rattle.pawn_tags.specs.declared.op.Signature.{Signature}
 use Rattle.pawn_tags.proofs.OverloadLaws.{only_for}
 use Rattle.names_rules.specs.Overloads.{op_of, tag_number, plain_tags}
 use Rattle.types_rules.specs.Keys.{Key, Named, Operates, Enters, Misshapen, signature_between}
-use Rattle.types_rules.specs.Keys.{signature_of, operator_key, entered, entry_name, key_by}
-use Rattle.types_rules.specs.Keys.{same_key}
+use Rattle.types_rules.specs.Keys.{signature_of, operator_key, entered_automaton, entry_name}
+use Rattle.types_rules.specs.Keys.{key_by, same_key}
 use Rattle.types_laws.specs.Known.{operands}
 
 -- ---- the operator of a signature
@@ -186,7 +186,8 @@ pub operator_head : (names : List (List ℕ)) (fallback : List ℕ) (head : Head
     (states : Option (List StateName)) (name : HeadName) (it : Signature)
     → key_by names fallback head states name ≡ Operates it → IsOperatorHead names head it
 operator_head names fallback head states (called.Name name) it e =
-    absurd (no_name (bytes_eq name.bytes entry_name) (entered fallback states) name.bytes it e)
+    absurd
+    (no_name (bytes_eq name.bytes entry_name) (entered_automaton fallback states) name.bytes it e)
 operator_head names fallback head states (called.Operator at s) it e =
     head_by names head it s (op_of s (length head.params)) refl (operates_is _ it e)
 

@@ -23,7 +23,7 @@ use Rattle.types_rules.specs.Points.{var_by, behind_var, behind_vars}
 use Rattle.types_rules.specs.Params.{Reach, tag_numbers, reach, array_param_means, cell_param_means}
 use Rattle.types_rules.specs.Params.{param_by, param_entries}
 use Rattle.types_rules.specs.Enums.{Counted, value_of, means_value, item_value, behind_item}
-use Rattle.types_rules.specs.Enums.{behind_items, nothing_counted, named, behind_enum}
+use Rattle.types_rules.specs.Enums.{behind_items, nothing_counted, with_enum_name, behind_enum}
 use Rattle.types_rules.specs.Paths.{behind_decl}
 use Rattle.pawn_cells.proofs.CellLaws.{small_cell, wrap_cell}
 use Rattle.types_laws.proofs.PathLaws.{meant_with, meant_same, meant_inside}
@@ -125,7 +125,7 @@ module _ (cx : Around) (tags : HasTags cx) where
         }) w.1
 
     named_plain : (name : Option n.Name) (done : Counted) → PlainCount done
-        → IsPlainPath (named name tag done)
+        → IsPlainPath (with_enum_name name tag done)
     named_plain None done known = known.path
     named_plain (Some name) done known =
         plain_with done.scope _ known.path (value_plain done.next known.next)

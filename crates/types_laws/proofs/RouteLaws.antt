@@ -30,7 +30,7 @@ use Rattle.types_rules.specs.Functions.{classifier_faults, bodies_faults, clause
 use Rattle.types_rules.specs.Functions.{fault_if, head_faults, heads_of_group, group_faults}
 use Rattle.types_rules.specs.Declarations.{Bodied, Done, declarations}
 use Rattle.types_rules.specs.Programs.{bodies_of, params_of, dispatch_by, function_of}
-use Rattle.types_rules.specs.Programs.{functions_from, program_of}
+use Rattle.types_rules.specs.Programs.{program_functions, program_of}
 use Rattle.types_rules.specs.declared.fault.TheConstants.{HEAD_DIFFERS}
 use Rattle.types_laws.specs.Objects.{Each}
 use Rattle.types_laws.proofs.Facts.{each_all, position_within}
@@ -313,9 +313,9 @@ module _ (source : Source) (all : List Written) (bodies : List Bodied)
         (bodies_of bodies (n + f)) ≡ x
 
   pub function_at : (sts : List Stated) (n : ℕ) (groups : List Group) (f : ℕ) (x : Function)
-      → slice_get (functions_from source sts n groups bodies) f ≡ Some x
+      → slice_get (program_functions source sts n groups bodies) f ≡ Some x
       → IsFunctionAt sts groups n f x
-  unfolding functions_from
+  unfolding program_functions
   function_at sts n [] f x e = absurd (let never : ⊥ = cc in never)
   function_at sts n (group ∷ more) zero x e =
       let plus : n + 0 ≡ n = omega arith in
@@ -339,10 +339,10 @@ module _ (source : Source) (all : List Written) (bodies : List Bodied)
 
   function_there : (sts : List Stated) (n : ℕ) (groups : List Group) (f : ℕ) (group : Group)
       → slice_get groups f ≡ Some group
-      → slice_get (functions_from source sts n groups bodies) f
+      → slice_get (program_functions source sts n groups bodies) f
       ≡ Some (function_of source.automata (group_tag source sts group) group
       (bodies_of bodies (n + f)))
-  unfolding functions_from
+  unfolding program_functions
   function_there sts n [] f group e = absurd (let never : ⊥ = cc in never)
   function_there sts n (x ∷ more) zero group e =
       let same : x ≡ group = some_same e in
@@ -362,9 +362,9 @@ module _ (source : Source) (all : List Written) (bodies : List Bodied)
 
   functions_routed : (program : Program) → program.automata ≡ source.automata → (sts : List Stated)
       → KeepTogether source sts
-      → Each (IsRouted program) (functions_from source sts 0 source.groups bodies)
+      → Each (IsRouted program) (program_functions source sts 0 source.groups bodies)
   functions_routed program same sts together =
-      each_from _ (functions_from source sts 0 source.groups bodies) (λ f x e.
+      each_from _ (program_functions source sts 0 source.groups bodies) (λ f x e.
       let r = function_at sts 0 source.groups f x e in
       let none = append_none (classifier_faults r.group) _
       (each_at (λ (group : Group). group_faults source sts group ≡ []) source.groups f r.group
@@ -430,7 +430,7 @@ module _ (source : Source) (all : List Written) (bodies : List Bodied)
         function =
             function_of source.automata (group_tag source sts r.it) r.it (bodies_of bodies f);
         there =
-            ap (λ (bs : List Bodied). slice_get (functions_from source sts 0 source.groups bs) f)
+            ap (λ (bs : List Bodied). slice_get (program_functions source sts 0 source.groups bs) f)
             same
             ∙ function_there sts 0 source.groups f r.it r.there
             ∙ ap (λ (m : ℕ). Some (function_of source.automata (group_tag source sts r.it) r.it

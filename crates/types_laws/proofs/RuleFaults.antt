@@ -20,9 +20,9 @@ use Rattle.types_rules.specs.Around.{Around}
 use Rattle.types_rules.specs.Scope.{Meaning, Constant, Variable, Function, Native, Entering, Taken}
 use Rattle.types_rules.specs.Scope.{Unknown, Scope, found}
 use Rattle.types_rules.specs.Scope as means
-use Rattle.types_rules.specs.NamesAndNumbers.{text_rule, name_rule, size_or_broken}
-use Rattle.types_rules.specs.NamesAndNumbers.{size_of, size_in}
-use Rattle.types_rules.specs.NamesAndNumbers.{sizeof_rule, tag_of, tag_in, tagof_rule, size_at}
+use Rattle.types_rules.specs.NamesAndNumbers.{text_rule, name_rule, size_or_broken, size_of}
+use Rattle.types_rules.specs.NamesAndNumbers.{size_in, sizeof_rule, tag_of_meaning, tag_in}
+use Rattle.types_rules.specs.NamesAndNumbers.{tagof_rule, size_at}
 use Rattle.types_rules.specs.Operators.{operate, operator_rule, logical_rule, comma_rule}
 use Rattle.types_rules.specs.Operators.{between_rule, not_rule, negate_rule, invert_rule, chosen}
 use Rattle.types_rules.specs.Prefixes.{prefix_rule, postfix_rule}
@@ -110,17 +110,17 @@ size_of_blames at dimension (Some (Entering tag)) k = blamed _ _
 size_of_blames at dimension (Some Taken) k = blamed _ _
 size_of_blames at dimension (Some Unknown) k = absurd (k Unknown refl refl)
 
-tag_of_blames : (at : At) (it : Option Meaning) → ((m : Meaning) → it ≡ Some m → IsKnown m)
-    → Blames (tag_of at it)
-tag_of_blames at None k = blamed _ _
-tag_of_blames at (Some (Constant v tag)) k = stood tag
-tag_of_blames at (Some (Variable p tag constant)) k = stood tag
-tag_of_blames at (Some (means.Array a reach tag constant)) k = stood tag
-tag_of_blames at (Some (Function f tag)) k = stood tag
-tag_of_blames at (Some (Native n tag)) k = stood tag
-tag_of_blames at (Some (Entering tag)) k = stood tag
-tag_of_blames at (Some Taken) k = blamed _ _
-tag_of_blames at (Some Unknown) k = absurd (k Unknown refl refl)
+tag_of_meaning_blames : (at : At) (it : Option Meaning) → ((m : Meaning) → it ≡ Some m → IsKnown m)
+    → Blames (tag_of_meaning at it)
+tag_of_meaning_blames at None k = blamed _ _
+tag_of_meaning_blames at (Some (Constant v tag)) k = stood tag
+tag_of_meaning_blames at (Some (Variable p tag constant)) k = stood tag
+tag_of_meaning_blames at (Some (means.Array a reach tag constant)) k = stood tag
+tag_of_meaning_blames at (Some (Function f tag)) k = stood tag
+tag_of_meaning_blames at (Some (Native n tag)) k = stood tag
+tag_of_meaning_blames at (Some (Entering tag)) k = stood tag
+tag_of_meaning_blames at (Some Taken) k = blamed _ _
+tag_of_meaning_blames at (Some Unknown) k = absurd (k Unknown refl refl)
 
 module _ (path : Scope) (known : AllMeant IsKnown path) where
   pub name_blames : (at : At) (name : List ℕ) → Blames (name_rule at (found path name))
@@ -138,7 +138,7 @@ module _ (path : Scope) (known : AllMeant IsKnown path) where
   tag_in_blames : (cx : Around) (at : At) (operand : TagofOperand)
       → Blames (tag_in cx path at operand)
   tag_in_blames cx at (tagof.Name name) =
-      tag_of_blames at (found path name.bytes) (known.meant name.bytes)
+      tag_of_meaning_blames at (found path name.bytes) (known.meant name.bytes)
   tag_in_blames cx at (tagof.Tag name) = stood _
 
   pub tagof_blames : (cx : Around) (at : At) (operand : TagofOperand)

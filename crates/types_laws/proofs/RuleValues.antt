@@ -34,7 +34,7 @@ use Rattle.types_rules.specs.Scope.{Unknown, Scope, found}
 use Rattle.types_rules.specs.Scope as means
 use Rattle.types_rules.specs.Texts.{packed_cells, text_cells, text_object}
 use Rattle.types_rules.specs.NamesAndNumbers.{constant_value, text_rule, name_rule}
-use Rattle.types_rules.specs.NamesAndNumbers.{first_size, size_at}
+use Rattle.types_rules.specs.NamesAndNumbers.{size_or_zero, size_at}
 use Rattle.types_rules.specs.NamesAndNumbers.{size_or_broken, size_of_cell, size_of}
 use Rattle.types_rules.specs.NamesAndNumbers.{size_in, sizeof_rule}
 use Rattle.types_rules.specs.NamesAndNumbers.{tag_in, tagof_rule}
@@ -43,7 +43,7 @@ use Rattle.types_rules.specs.Operators.{chosen, operate, operator_rule, logical_
 use Rattle.types_rules.specs.Operators.{between_rule, chosen_for_one, operate_one, not_rule}
 use Rattle.types_rules.specs.Operators.{negate_rule, invert_rule}
 use Rattle.types_rules.specs.Prefixes.{prefix_rule, postfix_rule}
-use Rattle.types_rules.specs.Indexes.{part, index_rule, character_in, character_rule}
+use Rattle.types_rules.specs.Indexes.{indexed_part, index_rule, character_in, character_rule}
 use Rattle.types_rules.specs.Choices.{value_of_choice, choice_rule}
 use Rattle.types_rules.specs.Chains.{Compared, link_choice, links_code, links_value, chain_value}
 use Rattle.types_rules.specs.Chains.{link_tag, chain_tag, chain_rule}
@@ -222,7 +222,7 @@ record SizeCell (size : ℕ) : Type 0 where
   pub cell : IsCell (pos size)
 
 first_cell : (first : Option ℕ) → IfSome first (λ size. IsCell (pos size))
-    → IsCell (pos (first_size first))
+    → IsCell (pos (size_or_zero first))
 first_cell None h = small_cell 0 (omega arith)
 first_cell (Some size) h = h
 
@@ -286,7 +286,7 @@ module _ (path : Scope) (known : IsPlainPath path) where
 -- ---- operators
 
 part_text : (held : Held) (e : Expr) (inner : List ℕ) (ls : List StaticObject)
-    → HasText (part held e inner) ls
+    → HasText (indexed_part held e inner) ls
 part_text held e [] ls = tt
 part_text held e (size ∷ inner) ls = tt
 

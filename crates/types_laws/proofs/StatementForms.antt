@@ -24,7 +24,7 @@ use Rattle.types_laws.specs.Seen.{IsSeenPath}
 use Rattle.types_laws.specs.ValidStatements.{IsGoodSlot}
 use Rattle.types_laws.proofs.ListPartLaws.{sits_left, sits_right, sits_at, numbers_joined}
 use Rattle.types_laws.proofs.SeenLaws.{seen_inside}
-use Rattle.types_laws.proofs.Variables.{Place, scope_at, Here, Sound, StandsSound}
+use Rattle.types_laws.proofs.Bodies.{Place, scope_at, Here, SoundStatements, StandsSound}
 use Rattle.types_laws.proofs.StatementParts.{OneIn, SubIn, OtherIn, CasedIn, UsedIn, MaybeIn}
 use Rattle.types_laws.proofs.StatementParts.{UsedFine, MaybeFine, CasedFine, sub_in}
 
@@ -99,7 +99,7 @@ module _ (law : ExpressionsAreValid) (place : Place) (cx : Around) (Calls : List
       → OneSound in_loop point (block_rule x).stmts x.slots x.objects
   block_one in_loop point to x p = record {
     sound = λ made here fits slots.
-        let r : Sound place cx Calls made (inside point) in_loop to x =
+        let r : SoundStatements place cx Calls made (inside point) in_loop to x =
         p.sound made (record {
           path = seen_inside cx Calls (scope_at place made) point.scope here.path;
           low = here.low;
@@ -289,7 +289,7 @@ module _ (law : ExpressionsAreValid) (place : Place) (cx : Around) (Calls : List
       (first.objects ++ ((c.objects ++ step.objects) ++ x.objects))
   for_one in_loop point inner then body to j k first c step x p u w q e eo es e2 eo2 es2 = record {
     sound = λ made here fits slots.
-        let f : Sound place cx Calls made (inside point) in_loop inner first =
+        let f : SoundStatements place cx Calls made (inside point) in_loop inner first =
         p.sound made (record {
           path = seen_inside cx Calls (scope_at place made) point.scope here.path;
           low = here.low;

@@ -37,8 +37,8 @@ use Rattle.types_laws.specs.ValidStatements.{IsCalled, StatementsAreValid}
 use Rattle.types_laws.proofs.ListPartLaws.{one_valid, one_made}
 use Rattle.types_laws.proofs.SeenLaws.{seen_more}
 use Rattle.types_laws.proofs.Expressions.{sent_valid}
-use Rattle.types_laws.proofs.Variables.{Place, scope_at, StandsSound, nothing_sound}
-use Rattle.types_laws.proofs.Variables.{behind_sound, vars_holds, local_vars_holds}
+use Rattle.types_laws.proofs.Bodies.{Place, scope_at, StandsSound}
+use Rattle.types_laws.proofs.Variables.{nothing_sound, behind_sound, vars_holds, local_vars_holds}
 use Rattle.types_laws.proofs.Variables.{constant_holds}
 use Rattle.types_laws.proofs.StatementParts.{OneIn, SubIn, UsedFine, MaybeTyped, PartFine}
 use Rattle.types_laws.proofs.StatementParts.{PartOk, CasesOk, CasesFine, part_fine, used_fine}

@@ -54,7 +54,7 @@ use Rattle.types_laws.proofs.ListPartLaws.{numbers_joined, one_valid}
 use Rattle.types_laws.proofs.ListPartLaws.{one_made}
 use Rattle.types_laws.proofs.SeenLaws.{plain_path}
 use Rattle.types_laws.proofs.Expressions.{Fine, CellOf, expr_fine, cell_valid, texts_count}
-use Rattle.types_laws.proofs.Variables.{Place, scope_at, Here, Sound, StandsSound}
+use Rattle.types_laws.proofs.Bodies.{Place, scope_at, Here, SoundStatements, StandsSound}
 
 -- ---- states
 
@@ -144,7 +144,7 @@ module _ (law : ExpressionsAreValid) (place : Place) (cx : Around) (Calls : List
       → o ≡ point.objects → s ≡ point.slots → Sits place.program.objects o x.objects
       → Sits place.slots s x.slots → SubIn place made s in_loop x
   sub_in in_loop point to x p made o s path low eo es fits slots =
-      let r : Sound place cx Calls made point in_loop to x =
+      let r : SoundStatements place cx Calls made point in_loop to x =
       p.sound made (record { path = path; low = omega (arith, low, es) })
       (sits_at place.program.objects o point.objects x.objects eo fits)
       (sits_at place.slots s point.slots x.slots es slots) in

@@ -12,8 +12,8 @@ use Rattle.types_rules.specs.Typed.{Typed}
 use Rattle.types_rules.specs.Around.{Around}
 use Rattle.types_rules.specs.Scope.{Scope}
 use Rattle.types_rules.specs.Constants as constants
-use Rattle.types_rules.specs.Sizes.{Dimension, size_in, dimension, inner_with, inner, dimensions}
-use Rattle.types_rules.specs.Sizes.{within, Inner}
+use Rattle.types_rules.specs.Sizes.{Dimension, positive_size, dimension, inner_with, inner}
+use Rattle.types_rules.specs.Sizes.{dimensions, within, Inner}
 use Rattle.types_rules.specs.FirstValues as values
 use Rattle.types_rules.specs.FirstValues.{filled, literal_in, text_by, text, whole_value}
 use Rattle.types_rules.specs.FirstValues.{value_cell, cell_of_list, cells_of_list, unless_goes_on}
@@ -35,10 +35,10 @@ pub constant_rule_blames : (at : At) (x : Typed) → Blames (constants.constant_
 unfolding constants.constant_rule
 constant_rule_blames at x = constant_by_blames at x x.value
 
-size_in_blames : (at : At) (v : ℤ) (warned : List At) → Blames (size_in at v warned)
-size_in_blames at (pos zero) warned = blamed _ _
-size_in_blames at (pos (suc n)) warned = stood _
-size_in_blames at (negsuc n) warned = blamed _ _
+positive_size_blames : (at : At) (v : ℤ) (warned : List At) → Blames (positive_size at v warned)
+positive_size_blames at (pos zero) warned = blamed _ _
+positive_size_blames at (pos (suc n)) warned = stood _
+positive_size_blames at (negsuc n) warned = blamed _ _
 
 filled_blames : (at : At) (size : ℕ) (goes_on : Bool) (it : values.First)
     → Blames (filled at size goes_on it)
@@ -57,9 +57,9 @@ module _ (cx : Around) (path : Scope) (known : AllMeant IsKnown path) (at : At) 
   dimension_blames : (dim : Dim) → Blames (dimension cx path at dim)
   dimension_blames Open = stood _
   dimension_blames (Cells e) =
-      blames_after (constant_blames e) (λ it s. size_in_blames at it.value it.warned)
+      blames_after (constant_blames e) (λ it s. positive_size_blames at it.value it.warned)
   dimension_blames (Chars e) =
-      blames_after (constant_blames e) (λ it s. size_in_blames at _ it.warned)
+      blames_after (constant_blames e) (λ it s. positive_size_blames at _ it.warned)
 
   inner_with_blames : (it : Dimension) (size : Option ℕ) (more : Inner)
       → Blames (inner_with cx path at it size more)

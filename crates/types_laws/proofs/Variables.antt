@@ -1,8 +1,8 @@
 -- Variables and constants of a block: they are valid where they stand, and what stands behind them
 -- sees what their names mean.
-use Rattle.std.proofs.Common.{◌≡◌, inr, ◌+◌, ◌≤◌, ℕ, List, [], ◌∷◌, ◌++◌, Bool, false, Option, None}
+use Rattle.std.proofs.Common.{◌≡◌, inr, ◌+◌, ℕ, List, [], ◌∷◌, ◌++◌, Bool, false, Option, None}
 use Rattle.std.proofs.Common.{Some, refl, sym, ap, ◌∙◌, subst, arith}
-use Rattle.std.specs.Prelude.{length, slice_get}
+use Rattle.std.specs.Prelude.{length}
 use Rattle.std.proofs.lemmas.List.{append_assoc, append-nil, length-append}
 use Rattle.pawn_tree.specs.declared.name.At.{At}
 use Rattle.pawn_tree.specs.declared.name.Name as n
@@ -10,15 +10,13 @@ use Rattle.pawn_tree.specs.declared.variable.Storage.{Storage}
 use Rattle.pawn_tree.specs.declared.variable.Storage.TheVariants as storage
 use Rattle.pawn_tree.specs.Variables.{Dim, Init, Value, Braces, Var}
 use Rattle.pawn_tree.specs.Statements.{ConstantOf}
-use Rattle.pawn_meaning.specs.Program.{Stmt, Local, LocalArray, Slot, ScalarSlot, ArraySlot}
-use Rattle.pawn_meaning.specs.Program.{StaticObject, Object, SlotArray, Own, Global}
+use Rattle.pawn_meaning.specs.Program.{ScalarSlot, SlotArray, Own, Global}
 use Rattle.pawn_meaning.specs.Program as code
-use Rattle.pawn_meaning.specs.Scope.{Extent, extent, known_extent, object_extent, slot_extent}
-use Rattle.pawn_meaning.specs.Scope.{with_made, IsMade}
+use Rattle.pawn_meaning.specs.Scope.{Extent}
 use Rattle.pawn_meaning.specs.Scope as program
-use Rattle.pawn_meaning.specs.Valid.{AreSizes, numbers_from}
-use Rattle.pawn_meaning.specs.ValidExprs.{IsValidExpr, IsCellObject}
-use Rattle.pawn_meaning.specs.ValidStmts.{slots_made_by, all_slots_made_by, AreValidStmts}
+use Rattle.pawn_meaning.specs.Valid.{numbers_from}
+use Rattle.pawn_meaning.specs.ValidExprs.{IsValidExpr}
+use Rattle.pawn_meaning.specs.ValidStmts.{slots_made_by}
 use Rattle.names_rules.specs.Verdict.{Verdict, Stands, Breaks, after}
 use Rattle.types_rules.specs.Around.{Around}
 use Rattle.types_rules.specs.Scope.{Scope, Meaning, Entry}
@@ -48,82 +46,17 @@ use Rattle.pawn_cells.proofs.CellLaws.{small_cell}
 use Rattle.types_laws.proofs.Facts.{each_append}
 use Rattle.types_laws.proofs.RuleValues.{tag_number_small}
 use Rattle.types_laws.proofs.ArrayValues.{PlainConstant, GoodArray, GoodCells, constant_plain}
-use Rattle.types_laws.proofs.ArrayValues.{array_value_good, static_good, array_object}
-use Rattle.types_laws.proofs.ArrayValues.{cell_object}
+use Rattle.types_laws.proofs.ArrayValues.{array_value_good, static_good, array_object, cell_object}
 use Rattle.types_laws.specs.Sits.{Sits}
 use Rattle.types_laws.specs.Seen.{IsSeen, IsSeenPath}
 use Rattle.types_laws.specs.ValidStatements.{IsGoodSlot}
-use Rattle.types_laws.proofs.ListPartLaws.{made_last, sits_left, sits_right}
-use Rattle.types_laws.proofs.ListPartLaws.{sits_at, numbers_joined}
-use Rattle.types_laws.proofs.ListPartLaws.{made_append, all_made_append, valid_append}
+use Rattle.types_laws.proofs.ListPartLaws.{made_last, sits_left, sits_right, sits_at}
+use Rattle.types_laws.proofs.ListPartLaws.{numbers_joined, made_append, all_made_append}
+use Rattle.types_laws.proofs.ListPartLaws.{valid_append}
 use Rattle.types_laws.proofs.SeenLaws.{seen_more, seen_with, plain_path}
 use Rattle.types_laws.proofs.Expressions.{expr_fine, sent_valid, cell_valid, texts_count}
-
--- ---- what is known of statements, by the body that they stand in
-
--- the program, the slots of the body, and how many of them are parameters
-pub record Place : Type 0 where
-  pub program : code.Program
-  pub slots : List Slot
-  pub params : ℕ
-
--- with these slots made
-abbrev pub scope_at : Place → List ℕ → program.Scope
-scope_at place made = record {
-  program = place.program;
-  slots = place.slots;
-  params = place.params;
-  made = made;
-}
-
-pub record Here (place : Place) (cx : Around) (Calls : List ℕ → Type 0) (made : List ℕ)
-    (point : Point) : Type 0 where
-  pub path : IsSeenPath (scope_at place made) cx Calls point.scope
-  pub low : place.params ≤ point.slots
-
--- statements that stand, and what stands behind them
-pub record Sound (place : Place) (cx : Around) (Calls : List ℕ → Type 0) (made : List ℕ)
-    (point : Point) (in_loop : Bool) (to : Point) (x : Stood) : Type 0 where
-  pub valid : AreValidStmts (scope_at place made) in_loop (stmts_in x.stmts)
-  pub all_made : all_slots_made_by (stmts_in x.stmts) ≡ numbers_from point.slots (length x.slots)
-  pub slots : Each IsGoodSlot x.slots
-  pub objects : Each IsGoodObject x.objects
-  pub behind : Here place cx Calls (made ++ slots_made_by (stmts_in x.stmts)) to
-  pub at_objects : to.objects ≡ point.objects + length x.objects
-  pub at_slots : to.slots ≡ point.slots + length x.slots
-
--- where they sit in the program
-pub record StandsSound (place : Place) (cx : Around) (Calls : List ℕ → Type 0) (in_loop : Bool)
-    (point to : Point) (x : Stood) : Type 0 where
-  pub sound : (made : List ℕ) → Here place cx Calls made point
-      → Sits place.program.objects point.objects x.objects → Sits place.slots point.slots x.slots
-      → Sound place cx Calls made point in_loop to x
-
--- ---- the slots of variables
-
-scalar_good : IsGoodSlot ScalarSlot
-scalar_good = record { valid = tt; within = tt }
-
-shaped_extent : (sizes : List ℕ) → AreSizes sizes → known_extent sizes ≡ Some (extent_of sizes)
-shaped_extent [] h = absurd (omega (arith, h.0))
-shaped_extent (size ∷ inner) h = refl
-
-object_there : (scope : program.Scope) (o : ℕ) (it : StaticObject)
-    → slice_get scope.program.objects o ≡ Some it → AreSizes it.sizes
-    → extent scope (Object o) ≡ Some (extent_of it.sizes)
-object_there scope o it e h =
-    ap (λ (x : Option StaticObject). object_extent x) e ∙ shaped_extent it.sizes h
-
-slot_there : (scope : program.Scope) (s : ℕ) (sizes : List ℕ)
-    → slice_get scope.slots s ≡ Some (ArraySlot sizes) → AreSizes sizes
-    → extent scope (SlotArray s) ≡ Some (extent_of sizes)
-slot_there scope s sizes e h =
-    ap (λ (x : Option Slot). slot_extent x) e ∙ shaped_extent sizes h
-
-cell_there : (it : Option StaticObject) (object : StaticObject) → it ≡ Some object
-    → object.sizes ≡ 1 ∷ [] → IsCellObject it
-cell_there it object e h =
-    subst (λ (x : Option StaticObject). IsCellObject x) (sym e) h
+use Rattle.types_laws.proofs.Bodies.{Place, scope_at, Here, SoundStatements, StandsSound}
+use Rattle.types_laws.proofs.Bodies.{scalar_good, object_there, slot_there, cell_there}
 
 module _ (law : ExpressionsAreValid) (place : Place) (cx : Around) (Calls : List ℕ → Type 0)
     (known : KnowsAround place.program cx) (tags : HasTags cx) where
@@ -185,7 +118,7 @@ module _ (law : ExpressionsAreValid) (place : Place) (cx : Around) (Calls : List
         → LocalFine made point.objects (literals_of_init x.init) it
         → Sits place.program.objects point.objects it.literals
         → Sits place.slots point.slots (ScalarSlot ∷ [])
-        → Sound place cx Calls made point in_loop
+        → SoundStatements place cx Calls made point in_loop
         (declared (beyond point (literals_of_init x.init) 1)
         (record {
           name = x.name.bytes;
@@ -231,7 +164,7 @@ module _ (law : ExpressionsAreValid) (place : Place) (cx : Around) (Calls : List
         (made : List ℕ) → Here place cx Calls made point → GoodCells 1 it
         → Sits place.program.objects point.objects
         (record { sizes = 1 ∷ []; constant = constant; first = it.cells } ∷ [])
-        → Sound place cx Calls made point in_loop
+        → SoundStatements place cx Calls made point in_loop
         (declared (beyond point 1 0)
         (record {
           name = x.name.bytes;
@@ -300,7 +233,7 @@ module _ (law : ExpressionsAreValid) (place : Place) (cx : Around) (Calls : List
         → m ≡ means.Array (SlotArray point.slots) (extent_of it.sizes) (tag_of cx x.tag) constant
         → GoodArray it → Sits place.program.objects point.objects (new_array point it).objects
         → Sits place.slots point.slots (new_array point it).slots
-        → Sound place cx Calls made point in_loop
+        → SoundStatements place cx Calls made point in_loop
         (declared (beyond point 1 1) (record { name = x.name.bytes; means = m } ∷ []))
         (new_array point it)
     slot_array_sound point constant x m it made here e p fits slots = record {
@@ -338,7 +271,7 @@ module _ (law : ExpressionsAreValid) (place : Place) (cx : Around) (Calls : List
         → GoodArray it
         → Sits place.program.objects point.objects (array_by cx point kind constant it).objects
         → Sits place.slots point.slots (array_by cx point kind constant it).slots
-        → Sound place cx Calls made point in_loop
+        → SoundStatements place cx Calls made point in_loop
         (declared (beyond point 1 (slots_of_storage kind))
         (record { name = x.name.bytes; means = m } ∷ []))
         (array_by cx point kind constant it)
@@ -443,12 +376,12 @@ module _ (law : ExpressionsAreValid) (place : Place) (cx : Around) (Calls : List
       → StandsSound place cx Calls in_loop point to (stood_behind y more)
   behind_sound in_loop point mid to y more p q = record {
     sound = λ made here fits slots.
-        let a : Sound place cx Calls made point in_loop mid y =
+        let a : SoundStatements place cx Calls made point in_loop mid y =
         p.sound made here (sits_left place.program.objects point.objects y.objects
         more.objects fits)
         (sits_left place.slots point.slots y.slots more.slots slots) in
-        let b : Sound place cx Calls (made ++ slots_made_by (stmts_in y.stmts)) mid in_loop to more
-        =
+        let b : SoundStatements place cx Calls (made ++ slots_made_by (stmts_in y.stmts)) mid
+        in_loop to more =
         q.sound (made ++ slots_made_by (stmts_in y.stmts)) a.behind
         (sits_at place.program.objects (point.objects + length y.objects) mid.objects more.objects
         (sym a.at_objects)

@@ -96,7 +96,7 @@ names : map faults (
 unfolding found thread constant_rule sizeof_rule behind_vars locals vars_parts params_parts params
     behind_params grouped classified entered heads functions_from natives_from operators_from
     function_entries native_entries globals declarations behind_items items_rule items_parts
-    sorted publics_from programs.functions_from programs.tags_from sent sign_spelling
+    sorted publics_from programs.program_functions programs.tags_from sent sign_spelling
     call_rule args_of plain_given rest_rule cells.binary operator_rule int_wrap
 names = refl
 
@@ -116,7 +116,7 @@ after_the_last : bodies (
 unfolding found thread constant_rule sizeof_rule behind_vars locals vars_parts params_parts params
     behind_params grouped classified entered heads functions_from natives_from operators_from
     function_entries native_entries globals declarations behind_items items_rule items_parts
-    sorted publics_from programs.functions_from programs.tags_from sent sign_spelling
+    sorted publics_from programs.program_functions programs.tags_from sent sign_spelling
     call_rule args_of plain_given rest_rule cells.binary operator_rule int_wrap
 after_the_last = refl
 
@@ -128,7 +128,7 @@ tests : map (λ tree. warnings_in (typed tree (pos 4096))) (
 unfolding found thread constant_rule sizeof_rule behind_vars locals vars_parts params_parts params
     behind_params grouped classified entered heads functions_from natives_from operators_from
     function_entries native_entries globals declarations behind_items items_rule items_parts
-    sorted publics_from programs.functions_from programs.tags_from sent sign_spelling
+    sorted publics_from programs.program_functions programs.tags_from sent sign_spelling
     call_rule args_of plain_given rest_rule cells.binary operator_rule int_wrap
 tests = refl
 
@@ -151,7 +151,7 @@ heads_compared : map faults (
 unfolding found thread constant_rule sizeof_rule behind_vars locals vars_parts params_parts params
     behind_params grouped classified entered heads functions_from natives_from operators_from
     function_entries native_entries globals declarations behind_items items_rule items_parts
-    sorted publics_from programs.functions_from programs.tags_from sent sign_spelling
+    sorted publics_from programs.program_functions programs.tags_from sent sign_spelling
     call_rule args_of plain_given rest_rule cells.binary operator_rule int_wrap
 heads_compared = refl
 
@@ -184,7 +184,7 @@ operators_refused : map faults (
 unfolding found thread constant_rule sizeof_rule behind_vars locals vars_parts params_parts params
     behind_params grouped classified entered heads functions_from natives_from operators_from
     function_entries native_entries globals declarations behind_items items_rule items_parts
-    sorted publics_from programs.functions_from programs.tags_from sent sign_spelling
+    sorted publics_from programs.program_functions programs.tags_from sent sign_spelling
     call_rule args_of plain_given rest_rule cells.binary operator_rule int_wrap
 operators_refused = refl
 
@@ -211,7 +211,7 @@ conversions : bodies (
 unfolding found thread constant_rule sizeof_rule behind_vars locals vars_parts params_parts params
     behind_params grouped classified entered heads functions_from natives_from operators_from
     function_entries native_entries globals declarations behind_items items_rule items_parts
-    sorted publics_from programs.functions_from programs.tags_from sent sign_spelling
+    sorted publics_from programs.program_functions programs.tags_from sent sign_spelling
     call_rule args_of plain_given rest_rule cells.binary operator_rule int_wrap
 conversions = refl
 
@@ -230,7 +230,7 @@ publics : publics_in (program_in (typed (
 unfolding found thread constant_rule sizeof_rule behind_vars locals vars_parts params_parts params
     behind_params grouped classified entered heads functions_from natives_from operators_from
     function_entries native_entries globals declarations behind_items items_rule items_parts
-    sorted publics_from programs.functions_from programs.tags_from sent sign_spelling
+    sorted publics_from programs.program_functions programs.tags_from sent sign_spelling
     call_rule args_of plain_given rest_rule cells.binary operator_rule int_wrap
 publics = refl
 
@@ -256,7 +256,7 @@ known : automata_in states ≡ record { name = []; states = codes "a" ∷ []; en
 unfolding found thread constant_rule sizeof_rule behind_vars locals vars_parts params_parts params
     behind_params grouped classified entered heads functions_from natives_from operators_from
     function_entries native_entries globals declarations behind_items items_rule items_parts
-    sorted publics_from programs.functions_from programs.tags_from sent sign_spelling
+    sorted publics_from programs.program_functions programs.tags_from sent sign_spelling
     call_rule args_of plain_given rest_rule cells.binary operator_rule int_wrap
 known = refl
 
@@ -266,7 +266,7 @@ routes : dispatch_in states
 unfolding found thread constant_rule sizeof_rule behind_vars locals vars_parts params_parts params
     behind_params grouped classified entered heads functions_from natives_from operators_from
     function_entries native_entries globals declarations behind_items items_rule items_parts
-    sorted publics_from programs.functions_from programs.tags_from sent sign_spelling
+    sorted publics_from programs.program_functions programs.tags_from sent sign_spelling
     call_rule args_of plain_given rest_rule cells.binary operator_rule int_wrap
 routes = refl
 
@@ -290,7 +290,7 @@ classifiers : map faults (
 unfolding found thread constant_rule sizeof_rule behind_vars locals vars_parts params_parts params
     behind_params grouped classified entered heads functions_from natives_from operators_from
     function_entries native_entries globals declarations behind_items items_rule items_parts
-    sorted publics_from programs.functions_from programs.tags_from sent sign_spelling
+    sorted publics_from programs.program_functions programs.tags_from sent sign_spelling
     call_rule args_of plain_given rest_rule cells.binary operator_rule int_wrap
 classifiers = refl
 
@@ -321,7 +321,7 @@ first_entered : map faults (
 unfolding found thread constant_rule sizeof_rule tagof_rule behind_vars locals vars_parts
     params_parts params behind_params grouped classified entered heads functions_from natives_from
     operators_from function_entries native_entries globals declarations behind_items items_rule
-    items_parts sorted publics_from programs.functions_from programs.tags_from sent
+    items_parts sorted publics_from programs.program_functions programs.tags_from sent
     sign_spelling call_rule args_of plain_given rest_rule cells.binary operator_rule
     int_wrap
 first_entered = refl
@@ -367,7 +367,7 @@ by_themselves : map faults (
 unfolding found thread constant_rule sizeof_rule behind_vars locals vars_parts params_parts params
     behind_params grouped classified entered heads functions_from natives_from operators_from
     function_entries native_entries globals declarations behind_items items_rule items_parts
-    sorted publics_from programs.functions_from programs.tags_from sent sign_spelling
+    sorted publics_from programs.program_functions programs.tags_from sent sign_spelling
     call_rule args_of plain_given rest_rule cells.binary operator_rule int_wrap
 by_themselves = refl
 
@@ -379,6 +379,6 @@ rooms : map (λ room. map kind_and_line (faults_of (typed (main nothing ∷ []) 
 unfolding found thread constant_rule sizeof_rule behind_vars locals vars_parts params_parts params
     behind_params grouped classified entered heads functions_from natives_from operators_from
     function_entries native_entries globals declarations behind_items items_rule items_parts
-    sorted publics_from programs.functions_from programs.tags_from sent sign_spelling
+    sorted publics_from programs.program_functions programs.tags_from sent sign_spelling
     call_rule args_of plain_given rest_rule cells.binary operator_rule int_wrap
 rooms = refl

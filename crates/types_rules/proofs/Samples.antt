@@ -144,13 +144,13 @@ typed it = expr around scope 4 it
 abbrev pub kinds : Expr → List ℕ
 kinds it = map (λ (fault : Fault). fault.kind) (faults_of (typed it))
 
-abbrev pub value_in : Verdict Typed → Option ℤ
-value_in (Stands it) = it.value
-value_in (Breaks found) = None
+abbrev pub worth_in : Verdict Typed → Option ℤ
+worth_in (Stands it) = it.value
+worth_in (Breaks found) = None
 
 -- its value as a constant
 abbrev pub worth : Expr → Option ℤ
-worth it = value_in (typed it)
+worth it = worth_in (typed it)
 
 abbrev pub form_in : Verdict Typed → Option Form
 form_in (Stands it) = Some it.form

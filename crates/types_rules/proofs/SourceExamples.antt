@@ -51,7 +51,7 @@ refused : map faults (
     ≡ ((71, 1) ∷ []) ∷ ((51, 4) ∷ []) ∷ ((63, 3) ∷ []) ∷ ((64, 4) ∷ (64, 5) ∷ []) ∷ []
 unfolding found thread constant_rule behind_vars locals vars_parts params_parts params behind_params
     grouped classified entered heads functions_from natives_from operators_from function_entries
-    native_entries globals declarations sorted publics_from programs.functions_from
+    native_entries globals declarations sorted publics_from programs.program_functions
     programs.tags_from sent sign_spelling
 refused = refl
 
@@ -78,7 +78,7 @@ automata_refused : map faults (
     ∷ ((44, 2) ∷ []) ∷ []
 unfolding found thread constant_rule behind_vars locals vars_parts params_parts params behind_params
     grouped classified entered heads functions_from natives_from operators_from function_entries
-    native_entries globals declarations sorted publics_from programs.functions_from
+    native_entries globals declarations sorted publics_from programs.program_functions
     programs.tags_from sent sign_spelling
 automata_refused = refl
 
@@ -112,7 +112,7 @@ called_native : program_in (typed (
     })
 unfolding found thread constant_rule behind_vars locals vars_parts params_parts params behind_params
     grouped classified entered heads functions_from natives_from operators_from function_entries
-    native_entries globals declarations sorted publics_from programs.functions_from
+    native_entries globals declarations sorted publics_from programs.program_functions
     programs.tags_from sent sign_spelling call_rule args_of plain_given
 called_native = refl
 
@@ -136,6 +136,6 @@ warnings : warnings_in (typed (
     ∷ []) (pos 4096)) ≡ 8 ∷ []
 unfolding found thread constant_rule behind_vars locals vars_parts params_parts params behind_params
     grouped classified entered heads functions_from natives_from operators_from function_entries
-    native_entries globals declarations sorted publics_from programs.functions_from
+    native_entries globals declarations sorted publics_from programs.program_functions
     programs.tags_from sent sign_spelling call_rule args_of plain_given operator_rule
 warnings = refl

@@ -53,8 +53,8 @@ args_in [] = no_args
 args_in (arg ∷ more) = then_arg arg (args_in more)
 
 -- a call that stands: its value has the function's tag, and is no constant
-abbrev pub called : At → Callee → Filling → Args → Typed
-called at callee filling args = record {
+abbrev pub typed_call : At → Callee → Filling → Args → Typed
+typed_call at callee filling args = record {
   at = at;
   form = Value (call_code callee.is_native callee.number args);
   tag = callee.tag;
@@ -69,7 +69,7 @@ judged cx at callee offers head =
     after (fill cx at head offers) (λ filling.
     after (args_of cx at head.params filling.slots head.params filling.slots
     (args_in filling.rest)) (λ args.
-    Stands (called at callee filling args)))
+    Stands (typed_call at callee filling args)))
 
 -- ---- without a head
 

@@ -34,13 +34,13 @@ pub record LocalValue : Type 0 where
   pub warned : List At
 
 -- a first value on its way to its variable
-abbrev pub local_by : Typed → Sent → LocalValue
-local_by x it = record { code = it.code; literals = x.literals; warned = it.warned ++ x.warned }
+abbrev pub sent_value : Typed → Sent → LocalValue
+sent_value x it = record { code = it.code; literals = x.literals; warned = it.warned ++ x.warned }
 
 -- one cell, sent to a variable of this tag
 abbrev pub local_rule : Around → At → ℕ → Typed → Verdict LocalValue
 local_rule cx at tag x =
-    after (cell at x) (λ e. Stands (local_by x (sent cx (tag ∷ []) x.tag x.at e)))
+    after (cell at x) (λ e. Stands (sent_value x (sent cx (tag ∷ []) x.tag x.at e)))
 
 -- behind so many objects
 abbrev pub local_value : Around → Scope → ℕ → At → ℕ → Option Init → Verdict LocalValue

@@ -169,8 +169,8 @@ module _ (source : Source) (cx : Around) where
       (λ y more. Stands (done_behind (objects_done y) more))
 
   -- a `const` of the file, whose value is a constant expression
-  abbrev pub constant_rule : Point → At → ConstantOf → Verdict Done
-  constant_rule point at it =
+  abbrev pub global_constant : Point → At → ConstantOf → Verdict Done
+  global_constant point at it =
       after (constants.constant cx point.scope at it.value) (λ x.
       Stands (warning (constants.constant_warned cx (tag_of cx it.tag) x)))
 
@@ -181,7 +181,7 @@ module _ (source : Source) (cx : Around) where
   decl_rule point (Variables at it) =
       unless_faults (vars_parts cx point at storage.Static it.constant it.vars)
       (globals point at it.constant it.vars)
-  decl_rule point (Constant at it) = constant_rule point at it
+  decl_rule point (Constant at it) = global_constant point at it
   decl_rule point (Enum at name items) =
       after (enum_rule cx point.scope at (tag_of cx name) items) (λ warned. Stands (warning warned))
   decl_rule point (Native at head) = native_rule point at head

@@ -79,14 +79,14 @@ abbrev pub nothing_counted : Scope → Counted
 nothing_counted scope = record { scope = scope; next = Some (pos 0) }
 
 -- an enumeration with a name declares one constant more: the value after its last one
-abbrev pub named : Option n.Name → ℕ → Counted → Scope
-named None tag done = done.scope
-named (Some name) tag done = with_entries done.scope (entry name.bytes tag done.next ∷ [])
+abbrev pub with_enum_name : Option n.Name → ℕ → Counted → Scope
+with_enum_name None tag done = done.scope
+with_enum_name (Some name) tag done = with_entries done.scope (entry name.bytes tag done.next ∷ [])
 
 -- the path behind an enumeration, whose name is known behind its constants
 abbrev pub behind_enum : Around → Scope → At → ℕ → Option n.Name → List Item → Scope
 behind_enum cx scope at tag name items =
-    named name tag (behind_items cx at tag (nothing_counted scope) items)
+    with_enum_name name tag (behind_items cx at tag (nothing_counted scope) items)
 
 -- what an enumeration warns of, judged where no expression in it has a fault
 abbrev pub enum_rule : Around → Scope → At → ℕ → List Item → Verdict (List At)

@@ -13,7 +13,7 @@ use Rattle.types_rules.specs.Rule.{broken, also}
 use Rattle.types_rules.specs.Typed.{Typed, Form, line}
 use Rattle.types_rules.specs.Typed as typed
 use Rattle.types_rules.specs.Around.{Around, Param}
-use Rattle.types_rules.specs.NamesAndNumbers.{first_size}
+use Rattle.types_rules.specs.NamesAndNumbers.{size_or_zero}
 use Rattle.types_rules.specs.Tests.{Sent, sent, tested}
 
 -- the argument in the program, what `sizeof` and `tagof` of the parameter are with it, and what it
@@ -112,29 +112,29 @@ rest_from at wanted (Element a e) =
     if is_open_line wanted.first wanted.inner then Stands (From a e) else broken SIZES_DIFFER at
 
 -- an array with its first size, 0 where that isn't known
-pub record Passed : Type 0 where
+pub record PassedArray : Type 0 where
   pub array : Array
   pub size : ℕ
 
 -- an array that fits, with the size that `sizeof` gives for it
-abbrev pub passed : Verdict Array → ℕ → Verdict Passed
+abbrev pub passed : Verdict Array → ℕ → Verdict PassedArray
 passed a size = after a (λ it. Stands (record { array = it; size = size }))
 
 -- an array for a parameter that takes one, whole or from an element on
-abbrev pub array_in : At → Bool → Extent → Form → Verdict Passed
-array_in at keeps wanted (typed.Value e) = broken ARGUMENT_KIND at
-array_in at keeps wanted (typed.Place p constant) =
+abbrev pub array_argument : At → Bool → Extent → Form → Verdict PassedArray
+array_argument at keeps wanted (typed.Value e) = broken ARGUMENT_KIND at
+array_argument at keeps wanted (typed.Place p constant) =
     also (keeps_constant at constant keeps) (passed (rest_from at wanted p) 0)
-array_in at keeps wanted (typed.Whole a extent constant) =
+array_argument at keeps wanted (typed.Whole a extent constant) =
     also (keeps_constant at constant keeps)
-    (passed (fitting at wanted extent a) (first_size extent.first))
-array_in at keeps wanted (typed.Literal object cells) =
+    (passed (fitting at wanted extent a) (size_or_zero extent.first))
+array_argument at keeps wanted (typed.Literal object cells) =
     passed (fitting at wanted (line cells) (code.Object object)) cells
 
 -- an argument for a parameter that is an array
 unfoldable pub array_given : Around → At → Param → Extent → Typed → Verdict Given
 array_given cx at param wanted x =
-    after (array_in at param.constant wanted x.form)
+    after (array_argument at param.constant wanted x.form)
     (λ it. Stands (tested_given cx param.tags x (Whole it.array) it.size))
 
 -- ---- all kinds

@@ -22,9 +22,9 @@ abbrev pub part_extent : ℕ → List ℕ → Extent
 part_extent size inner = record { first = Some size; inner = inner }
 
 -- an element, or a part with its own elements
-abbrev pub part : Held → Expr → List ℕ → Form
-part held e [] = Place (Element held.array e) held.constant
-part held e (size ∷ inner) = Whole (Row held.array e) (part_extent size inner) held.constant
+abbrev pub indexed_part : Held → Expr → List ℕ → Form
+indexed_part held e [] = Place (Element held.array e) held.constant
+indexed_part held e (size ∷ inner) = Whole (Row held.array e) (part_extent size inner) held.constant
 
 -- what an index leads to has the array's tag
 abbrev pub indexed : At → Typed → Typed → Form → Typed
@@ -41,7 +41,7 @@ indexed at x i form = record {
 abbrev pub index_in : At → Typed → Typed → Held → Expr → Verdict Typed
 index_in at x i held e =
     if is_outside held.extent.first i.value then broken INDEX_OUTSIDE at
-    else Stands (indexed at x i (part held e held.extent.inner))
+    else Stands (indexed at x i (indexed_part held e held.extent.inner))
 
 -- `a[i]`
 unfoldable pub index_rule : At → Typed → Typed → Verdict Typed

@@ -51,15 +51,15 @@ abbrev pub entry_name : List ℕ
 entry_name = codes "entry"
 
 -- the automaton that a body named `entry` names; a fallback is of the one that is given
-abbrev pub entered : List ℕ → Option (List StateName) → List ℕ
-entered fallback None = []
-entered fallback (Some []) = fallback
-entered fallback (Some (it ∷ more)) = (clause (it ∷ more)).automaton
+abbrev pub entered_automaton : List ℕ → Option (List StateName) → List ℕ
+entered_automaton fallback None = []
+entered_automaton fallback (Some []) = fallback
+entered_automaton fallback (Some (it ∷ more)) = (clause (it ∷ more)).automaton
 
 -- a head with a name: an entry function of its automaton, else the function of that name
 abbrev pub name_key : List ℕ → List ℕ → Option (List StateName) → Key
 name_key fallback name states =
-    if bytes_eq name entry_name then Enters (entered fallback states) else Named name
+    if bytes_eq name entry_name then Enters (entered_automaton fallback states) else Named name
 
 -- ---- all functions
 

@@ -74,13 +74,13 @@ name_rule at (Some Unknown) = fallen
 -- ---- `sizeof`
 
 -- the size of a dimension: 0 where the first one isn't known
-abbrev pub first_size : Option ℕ → ℕ
-first_size None = 0
-first_size (Some size) = size
+abbrev pub size_or_zero : Option ℕ → ℕ
+size_or_zero None = 0
+size_or_zero (Some size) = size
 
 -- how many cells or parts the dimension behind so many brackets has, 0 if that is unknown
 abbrev pub size_at : Extent → ℕ → Option ℕ
-size_at extent zero = Some (first_size extent.first)
+size_at extent zero = Some (size_or_zero extent.first)
 size_at extent (suc n) = slice_get extent.inner n
 
 -- an array has so many dimensions
@@ -124,20 +124,20 @@ sizeof_rule scope at operand =
 -- ---- `tagof`
 
 -- the tag of what a name means, of a function the tag of what it gives
-abbrev pub tag_of : At → Option Meaning → Verdict ℕ
-tag_of at None = broken UNDEFINED at
-tag_of at (Some (Constant v tag)) = Stands tag
-tag_of at (Some (Variable p tag constant)) = Stands tag
-tag_of at (Some (Array a extent tag constant)) = Stands tag
-tag_of at (Some (Function f tag)) = Stands tag
-tag_of at (Some (Native n tag)) = Stands tag
-tag_of at (Some (Entering tag)) = Stands tag
-tag_of at (Some Taken) = broken UNDEFINED at
-tag_of at (Some Unknown) = fallen
+abbrev pub tag_of_meaning : At → Option Meaning → Verdict ℕ
+tag_of_meaning at None = broken UNDEFINED at
+tag_of_meaning at (Some (Constant v tag)) = Stands tag
+tag_of_meaning at (Some (Variable p tag constant)) = Stands tag
+tag_of_meaning at (Some (Array a extent tag constant)) = Stands tag
+tag_of_meaning at (Some (Function f tag)) = Stands tag
+tag_of_meaning at (Some (Native n tag)) = Stands tag
+tag_of_meaning at (Some (Entering tag)) = Stands tag
+tag_of_meaning at (Some Taken) = broken UNDEFINED at
+tag_of_meaning at (Some Unknown) = fallen
 
 -- the tag of an operand of `tagof`: what a name has, or the tag itself
 abbrev pub tag_in : Around → Scope → At → TagofOperand → Verdict ℕ
-tag_in cx scope at (tagof.Name name) = tag_of at (found scope name.bytes)
+tag_in cx scope at (tagof.Name name) = tag_of_meaning at (found scope name.bytes)
 tag_in cx scope at (tagof.Tag name) = Stands (tag_number cx name.bytes)
 
 -- a tag's number from 2^31 on is the cell with these bits

@@ -61,11 +61,11 @@ tags_from marks number (name ∷ more) =
 
 module _ (source : Source) (all : List Stated) where
   -- functions from a number on, one for each group of bodies
-  unfoldable pub functions_from : ℕ → List Group → List Bodied → List Function
-  functions_from number [] bodies = []
-  functions_from number (group ∷ more) bodies =
+  unfoldable pub program_functions : ℕ → List Group → List Bodied → List Function
+  program_functions number [] bodies = []
+  program_functions number (group ∷ more) bodies =
       function_of source.automata (group_tag source all group) group (bodies_of bodies number)
-      ∷ functions_from (number + 1) more bodies
+      ∷ program_functions (number + 1) more bodies
 
   -- the natives that are called, in order of declaration
   abbrev pub natives : List (List ℕ)
@@ -77,7 +77,7 @@ module _ (source : Source) (all : List Stated) where
   abbrev pub program_of : List Mark → ℤ → Done → Program
   program_of marks dynamic done = record {
     objects = done.objects;
-    functions = functions_from 0 source.groups done.bodies;
+    functions = program_functions 0 source.groups done.bodies;
     natives = natives;
     automata = source.automata;
     tags = tags_from marks 0 source.tags;

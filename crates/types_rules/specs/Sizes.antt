@@ -31,10 +31,10 @@ pub record Dimensions : Type 0 where
   pub warned : List At
 
 -- a size is 1 or more
-abbrev pub size_in : At → ℤ → List At → Verdict Dimension
-size_in at (pos zero) warned = broken LIMIT_ARRAY at
-size_in at (pos (suc n)) warned = Stands (record { size = Some (suc n); warned = warned })
-size_in at (negsuc n) warned = broken LIMIT_ARRAY at
+abbrev pub positive_size : At → ℤ → List At → Verdict Dimension
+positive_size at (pos zero) warned = broken LIMIT_ARRAY at
+positive_size at (pos (suc n)) warned = Stands (record { size = Some (suc n); warned = warned })
+positive_size at (negsuc n) warned = broken LIMIT_ARRAY at
 
 -- the cells for so many packed characters
 abbrev pub cells_for : ℤ → ℤ
@@ -44,9 +44,9 @@ module _ (cx : Around) (scope : Scope) (at : At) where
   -- one dimension: unknown, so many cells, or the cells for so many characters
   abbrev pub dimension : Dim → Verdict Dimension
   dimension Open = Stands (record { size = None; warned = [] })
-  dimension (Cells e) = after (constant cx scope at e) (λ it. size_in at it.value it.warned)
+  dimension (Cells e) = after (constant cx scope at e) (λ it. positive_size at it.value it.warned)
   dimension (Chars e) =
-      after (constant cx scope at e) (λ it. size_in at (cells_for it.value) it.warned)
+      after (constant cx scope at e) (λ it. positive_size at (cells_for it.value) it.warned)
 
   -- a dimension behind the first one has a size
   abbrev pub inner_with : Dimension → Option ℕ → Inner → Verdict Inner

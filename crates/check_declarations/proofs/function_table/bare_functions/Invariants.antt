@@ -10,9 +10,9 @@ use Rattle.check_declarations.proofs.function_table.bare_functions.Given as goal
 abbrev pub invariant-loop-i : goal.invariant-loop-i
 invariant-loop-i l =
     map function_view l.functions.items
-    ++ spec.functions_from (source_view l.source)
+    ++ spec.program_functions (source_view l.source)
     (stated (source_view l.source) (map heading_view l.source.headings) [])
     l.i (drop l.i (groups_view l.source.groups)) []
-    ≡ spec.functions_from (source_view l.source)
+    ≡ spec.program_functions (source_view l.source)
     (stated (source_view l.source) (map heading_view l.source.headings) [])
     0 (groups_view l.source.groups) []

@@ -2,7 +2,6 @@ use Rattle.std.proofs.lemmas.Grind.{common_steps}
 use Rattle.std.proofs.Common.{◌≡◌, ◌+◌, ◌-◌, ◌*◌, ◌<◌, ◌==◌, ◌++◌, ℕ, Bool, false, List, pos, []}
 use Rattle.std.proofs.Common.{◌∷◌, length, get_or, sym, ap, subst, ◌∙◌, w32, FitsSigned, arith}
 use Rattle.std.proofs.Common.{rules}
-use Rattle.std.proofs.lemmas.Bool.{false≢true}
 use Rattle.std.proofs.lemmas.Int.{to_z-of_z}
 use Rattle.pawn_meaning.specs.Scope.{row_extent, rest_extent}
 use Rattle.pawn_meaning.specs.View.{scalar_view, array_view, expr_view, args_view, links_view}
@@ -20,8 +19,8 @@ use Rattle.gen_expr.proofs.GrowLaws.{then_grow, then_ok}
 use Rattle.gen_expr.proofs.PartLaws.{keeps_cells}
 use Rattle.gen_expr.specs.ChainItems.{chain_items}
 use Rattle.gen_expr.proofs.ArgLaws.{arg_grows, none_passed, all_passed, count_is}
-use Rattle.gen_expr.proofs.ChainLaws.{at_last, Linked, none_linked, none_chained, link_stepped}
-use Rattle.gen_expr.proofs.ChainLaws.{link_ended, all_in, all_ended_ok}
+use Rattle.gen_expr.proofs.ChainLaws.{some_left, at_last, Linked, none_linked, none_chained}
+use Rattle.gen_expr.proofs.ChainLaws.{link_stepped, link_ended, all_in, all_ended_ok}
 use Rattle.gen_expr.proofs.NodeLaws.{second_waits, middle_done, last_done, part_turned}
 use Rattle.gen_expr.proofs.NodeLaws.{parts_done, call_done, native_done, then_part, then_both}
 use Rattle.gen_expr.proofs.NodeLaws.{then_choice, indexed, then_indexed, call_seen, native_seen}
@@ -361,12 +360,6 @@ or_else-returns t c =
     c.in_ok-part.ensures c.in_ok-second.ensures) c.in_ok-done.ensures
 
 -- ---- chains
-
--- links that aren't none
-some_left : (items : List Link) (none : Bool) → none ≡ (length items == 0) → none ≡ false
-    → 0 < length items
-some_left [] none e f = absurd (false≢true (sym f ∙ e))
-some_left (link ∷ items) none e f = omega arith
 
 pub middle-returns : goal.middle-returns
 middle-returns t c =
