@@ -1,2 +1,10 @@
+pub mod Assembles
+pub mod Drafts
+pub mod Faults
+pub mod Forms
 pub mod Lines
+pub mod Listed
 pub mod Listing
+pub mod Names
+pub mod Readers
+pub mod Texts

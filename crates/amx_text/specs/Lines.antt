@@ -1,15 +1,45 @@
--- The lines of a listing. Numbers are decimal, with a sign where negative; names stand between
--- quotes as in a trace; the address that begins a line has eight hexadecimal digits.
+-- How the lines of a listing are spelled. Numbers are decimal, with a sign where negative; names
+-- stand between quotes as in a trace; the address that begins a line has eight hexadecimal digits.
 use denote.Enum.Declared.{tag_of}
 use Rattle.std.specs.Prelude.{◌+◌, ◌/◌, ◌%◌, ◌++◌, ℕ, zero, suc, ℤ, pos, List, [], ◌∷◌, Option}
 use Rattle.std.specs.Prelude.{None, Some, codes, map, slice_get, nat_lt, if◌then◌else◌}
-use Rattle.std.specs.Fmt.{signed_decimal}
+use Rattle.std.specs.Fmt.{decimal, signed_decimal}
 use Rattle.host_script.specs.declared.event.Seen.TheVariants.{Cell, Text}
 use Rattle.host_script.specs.Text.{argument_text, arguments_text}
 use Rattle.amx_ops.specs.declared.amx.Record.{Record}
 use Rattle.amx_ops.specs.declared.op.Op.{Op}
 use Rattle.amx_ops.specs.contracts.op.Op.{the_type}
 use Rattle.amx_ops.specs.Table.{Row, row_of, table}
+pub use Rattle.amx_text.specs.declared.header.Header.{Header}
+use Rattle.amx_text.specs.declared.kind.Kind.{Kind}
+use Rattle.amx_text.specs.declared.kind.Kind.TheVariants.{Public, Native, Library, Variable, Tag}
+
+-- ---- the header
+
+-- the first line
+abbrev pub header_text : Header → List ℕ
+header_text it =
+    codes "amx flags " ++ (decimal it.flags ++ (codes " version " ++ (decimal it.version
+    ++ (codes " code " ++ (decimal it.code
+    ++ (codes " data " ++ (decimal it.store
+    ++ (codes " room " ++ (decimal it.room
+    ++ (codes " entry " ++ (signed_decimal it.entry ++ codes "\n")))))))))))
+
+-- ---- the lines between the parts
+
+-- behind it stand the instructions
+abbrev pub code_mark : List ℕ
+code_mark = codes "code\n"
+
+-- behind it stand the cells of the data
+abbrev pub data_mark : List ℕ
+data_mark = codes "data\n"
+
+-- the last line
+abbrev pub end_mark : List ℕ
+end_mark = codes "end\n"
+
+-- ---- the lines of the parts
 
 -- from 0 to 9, and from a to f
 abbrev pub hexadecimal_digit : ℕ → ℕ
@@ -27,6 +57,14 @@ address_text at = hexadecimal 8 at
 -- a name between its quotes, after one blank
 abbrev pub name_text : List ℕ → List ℕ
 name_text name = argument_text (Text (map pos name))
+
+-- the word that begins a record's line, by its table
+abbrev pub word_of : Kind → List ℕ
+word_of Public = codes "public"
+word_of Native = codes "native"
+word_of Library = codes "library"
+word_of Variable = codes "variable"
+word_of Tag = codes "tag"
 
 -- a record of a table
 abbrev pub record_line : List ℕ → Record → List ℕ

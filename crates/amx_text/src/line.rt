@@ -59,7 +59,7 @@ fn say_character<S: Sink>(out: &mut S, byte: u8) -> Result<(), SinkFault>
 }
 
 /// Whether a byte is printable and neither the quote nor the backslash.
-fn stands_for_itself(byte: u8) -> bool
+pub fn stands_for_itself(byte: u8) -> bool
     ensures { result ≡ stands_for_itself byte }
 {
     32 <= byte && byte <= 126 && byte != 34 && byte != 92

@@ -12,7 +12,7 @@ use Rattle.command_parts.specs.declared.command_words.WordsFault.{WordsFault}
 use Rattle.command_parts.specs.declared.command_words.WordsFault.TheVariants.{Bad, Memory}
 use Rattle.command_parts.specs.Command.{is_plain, first_plain, optional_plain, alone, command_of}
 use Rattle.command_parts.specs.Command.{command_by, verify_of, list_of, run_of, resume_of, go_of}
-use Rattle.command_parts.specs.Command.{compile_of, compact_of, compact_word}
+use Rattle.command_parts.specs.Command.{compile_of, assemble_of, compact_of, compact_word}
 use Rattle.command_parts.specs.Options.{once, options_from, with_option, with_steps, with_sleeps}
 use Rattle.command_parts.specs.Options.{with_entry}
 use Rattle.command_parts.specs.Reading.{IsBad, Reads}
@@ -203,9 +203,19 @@ module _ (word : List ℕ) (words : List (List ℕ)) (result : Result Command Wo
       → Reads (compile_of words) result → Reads (command_by word words) result
   by_compile a b c d e h reads = rw (sym a, sym b, sym c, sym d, sym e, sym h) reads
 
+  pub by_assemble : false ≡ bytes_eq word (codes "verify") → false ≡ bytes_eq word (codes "list")
+      → false ≡ bytes_eq word (codes "run")
+      → false ≡ bytes_eq word (codes "resume") → false ≡ bytes_eq word (codes "go")
+      → false ≡ bytes_eq word (codes "compile") → true ≡ bytes_eq word (codes "assemble")
+      → Reads (assemble_of words) result → Reads (command_by word words) result
+  by_assemble a b c d e h i reads =
+      rw (sym a, sym b, sym c, sym d, sym e, sym h, sym i) reads
+
 pub by_none : (word : List ℕ) (words : List (List ℕ)) → false ≡ bytes_eq word (codes "verify")
     → false ≡ bytes_eq word (codes "list")
     → false ≡ bytes_eq word (codes "run") → false ≡ bytes_eq word (codes "resume")
     → false ≡ bytes_eq word (codes "go")
-    → false ≡ bytes_eq word (codes "compile") → command_by word words ≡ None
-by_none word words a b c d e h = rw (sym a, sym b, sym c, sym d, sym e, sym h) refl
+    → false ≡ bytes_eq word (codes "compile") → false ≡ bytes_eq word (codes "assemble")
+    → command_by word words ≡ None
+by_none word words a b c d e h i =
+    rw (sym a, sym b, sym c, sym d, sym e, sym h, sym i) refl

@@ -5,7 +5,7 @@ use Rattle.std.specs.Prelude.{take, bytes_eq, unwrap_or, is_some, option_map, op
 use Rattle.std.specs.Prelude.{if◌then◌else◌}
 use Rattle.command_parts.specs.declared.command.Command.{Command}
 use Rattle.command_parts.specs.declared.command.Command.TheVariants.{Compile, Verify, List as Lists}
-use Rattle.command_parts.specs.declared.command.Command.TheVariants.{Run, Resume, Go}
+use Rattle.command_parts.specs.declared.command.Command.TheVariants.{Run, Resume, Go, Assemble}
 use Rattle.command_parts.specs.declared.options.Options.{Options}
 use Rattle.command_parts.specs.declared.options.TheConstants.{DEFAULT_STEPS, DEFAULT_SLEEPS, MAIN}
 use Rattle.command_parts.specs.Options.{no_options, options_from}
@@ -59,6 +59,13 @@ abbrev pub compile_of : List (List ℕ) → Option Command
 compile_of words =
     named (λ src. named (λ amx more. option_map
     (λ compact. Compile (record { src = src; amx = amx; compact = compact }))
+    (compact_of more))) words
+
+-- `assemble`: a text, the file that is listed with it, and whether its cells are compact
+abbrev pub assemble_of : List (List ℕ) → Option Command
+assemble_of words =
+    named (λ text. named (λ amx more. option_map
+    (λ compact. Assemble (record { text = text; amx = amx; compact = compact }))
     (compact_of more))) words
 
 -- `verify`: the file of a program
@@ -132,6 +139,7 @@ command_by word words =
     else if bytes_eq word (codes "resume") then resume_of words
     else if bytes_eq word (codes "go") then go_of words
     else if bytes_eq word (codes "compile") then compile_of words
+    else if bytes_eq word (codes "assemble") then assemble_of words
     else None
 
 -- no command without a word

@@ -11,6 +11,16 @@ pub struct CompileWords {
     pub compact: bool,
 }
 
+/// What `assemble` is asked to do.
+#[derive(Debug, Drop)]
+pub struct AssembleWords {
+    /// The names of the text and of the file that is put.
+    pub text: Name,
+    pub amx: Name,
+    /// Whether the cells of the file are compact.
+    pub compact: bool,
+}
+
 /// What `run` is asked to do.
 #[derive(Debug, Drop)]
 pub struct RunWords {
@@ -53,6 +63,7 @@ pub struct GoWords {
 #[derive(Debug, Drop)]
 pub enum Command {
     Compile(CompileWords),
+    Assemble(AssembleWords),
     Verify { amx: Name },
     List { amx: Name },
     Run(RunWords),

@@ -4,12 +4,12 @@ ghost use Rattle.std.specs.String.{string_bytes};
 ghost use Rattle.command_parts.specs.Reading.{Reads, IsBad};
 ghost use Rattle.command_parts.specs.Command.{command_of, command_by, compile_of, compact_of};
 ghost use Rattle.command_parts.specs.Command.{compact_word, verify_of, list_of, run_of, go_of};
-ghost use Rattle.command_parts.specs.Command.{resume_of};
+ghost use Rattle.command_parts.specs.Command.{resume_of, assemble_of};
 ghost use Rattle.command_parts.specs.Command.{run_with, resume_with, go_with};
 ghost use Rattle.command_parts.specs.Command.{is_plain, first_plain, optional_plain};
 ghost use Rattle.command_parts.specs.Front.{AreImageWords, AreTwoNames, IsOnlyName, NoTwoNames};
 
-use super::command::{Command, CompileWords, GoWords, ResumeWords, RunWords};
+use super::command::{AssembleWords, Command, CompileWords, GoWords, ResumeWords, RunWords};
 use super::name::Name;
 use super::options::{DEFAULT_SLEEPS, DEFAULT_STEPS, MAIN, Options, read_options};
 use pawn_base::{Bytes, Memory};
@@ -72,6 +72,8 @@ fn read_command(alloc: Global, word: &str, rest: &[String]) -> Result<Command, W
         read_go(alloc, rest)
     } else if word == "compile" {
         read_compile(alloc, rest)
+    } else if word == "assemble" {
+        read_assemble(alloc, rest)
     } else {
         Err(WordsFault::Bad)
     }
@@ -120,6 +122,16 @@ fn read_compile(alloc: Global, words: &[String]) -> Result<Command, WordsFault>
     let (src, amx, words) = read_two_names(alloc, words)?;
     match read_compact(words) {
         Some(compact) => Ok(Command::Compile(CompileWords { src, amx, compact })),
+        None => Err(WordsFault::Bad),
+    }
+}
+
+fn read_assemble(alloc: Global, words: &[String]) -> Result<Command, WordsFault>
+    ensures { Reads (assemble_of (map string_bytes words.now)) result }
+{
+    let (text, amx, words) = read_two_names(alloc, words)?;
+    match read_compact(words) {
+        Some(compact) => Ok(Command::Assemble(AssembleWords { text, amx, compact })),
         None => Err(WordsFault::Bad),
     }
 }

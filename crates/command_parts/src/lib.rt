@@ -16,10 +16,10 @@ mod stop;
 mod telling;
 mod valid;
 
-pub use command::{Command, CompileWords, GoWords, ResumeWords, RunWords};
+pub use command::{AssembleWords, Command, CompileWords, GoWords, ResumeWords, RunWords};
 pub use command_words::{WordsFault, read_words};
 pub use name::Name;
-pub use named_stop::{no_entry, no_file, unregistered};
+pub use named_stop::{no_entry, no_file, refused, unregistered};
 pub use options::{DEFAULT_SLEEPS, DEFAULT_STEPS, MAIN};
 pub use program::{Program, read_program};
 pub use putting::put;

@@ -24,6 +24,16 @@ pub fn too_large(alloc: Global, name: &str) -> Stop
     }
 }
 
+/// The stop at a line of a text that is refused, for the cause with this number.
+pub fn refused(alloc: Global, kind: u8, name: &str, line: u32) -> Stop
+    ensures { IsStopOf (Stop.Refused kind name.now line) result }
+{
+    match Bytes::from_slice(alloc, name.as_bytes()) {
+        Ok(file) => Stop::Refused { kind, file, line },
+        Err(Memory) => Stop::NoMemory,
+    }
+}
+
 /// The stop at an entry that isn't there.
 pub fn no_entry(alloc: Global, name: &[u8]) -> Stop
     ensures { IsStopOf (Stop.NoEntry name.now) result }

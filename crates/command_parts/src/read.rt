@@ -8,7 +8,7 @@ use pawn_base::Bytes;
 use pawn_outside::{Files, ReadAnswer};
 use std::alloc::Global;
 
-/// The most bytes of a source.
+/// The most bytes of a source, or of a text that is assembled.
 pub const SOURCE_LIMIT: u64 = 16_777_216;
 
 /// The most bytes of an AMX file.

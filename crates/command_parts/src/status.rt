@@ -6,7 +6,7 @@ ghost use Rattle.command_parts.specs.Status.{status_number};
 pub enum Status {
     /// Compiled, valid, listed, done or exited.
     Ok,
-    /// The source was refused.
+    /// The source or the text was refused.
     Refused,
     /// The words are no command.
     BadWords,

@@ -11,7 +11,7 @@ use script_reader::Field;
 /// What ends a command before its run, or between two segments of it.
 #[derive(Debug, Drop)]
 pub enum Stop {
-    /// A source is refused: the number of the cause, the file and its line.
+    /// A source or a text is refused: the number of the cause, the file and its line.
     Refused { kind: u8, file: Bytes, line: u32 },
     BadWords,
     NoFile(Bytes),

@@ -23,6 +23,8 @@ pub enum Row<'a> {
     Hold(&'a str),
     /// `use NAME`: what is held at the name goes on the content.
     Use(&'a str),
+    /// `text`: what the last command wrote goes on the content.
+    Wrote,
     /// `set PLACE HEX`: bytes of the piece are changed.
     Set(u32, &'a str),
     /// `cut N`: the piece keeps so many bytes.
@@ -38,6 +40,8 @@ pub enum Row<'a> {
     Size(&'a str),
     /// `! NAME`: the bytes that are held at the name.
     Bytes(&'a str),
+    /// `same NAME NAME`: whether the same bytes are held at both names.
+    Same(&'a str),
     /// `calls`: how many calls of the files were made, and how many of them failed.
     Calls,
     /// An empty line, or one that begins with `#`.
@@ -61,6 +65,7 @@ impl Row<'_> {
         match line.split_once(' ') {
             Some((sign, rest)) => of_sign(sign, rest),
             None if line == "calls" => Row::Calls,
+            None if line == "text" => Row::Wrote,
             None if line == "." => Row::End,
             None => Row::Bad,
         }
@@ -78,6 +83,7 @@ fn of_sign<'a>(sign: &str, rest: &'a str) -> Row<'a> {
         ">>" => Row::Quiet(rest),
         "?" => Row::Size(rest),
         "!" => Row::Bytes(rest),
+        "same" => Row::Same(rest),
         _ => of_number(sign, rest),
     }
 }

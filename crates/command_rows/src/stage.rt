@@ -55,6 +55,7 @@ impl Stage {
             Row::Fronts(rooms, words) => self.tell_fronts(rt, rooms, words),
             Row::Size(name) => self.tell_size(rt, name),
             Row::Bytes(name) => self.tell_bytes(rt, name),
+            Row::Same(names) => self.tell_same(rt, names),
             Row::Calls => self.tell_calls(rt),
             Row::Bad => bail!("no row: {line}"),
             row => self.write(row),
@@ -70,6 +71,7 @@ impl Stage {
             }
             Row::Text(text) => self.content.add(text.as_bytes()),
             Row::Hex(text) => self.content.add_hex(text),
+            Row::Wrote => self.content.add(&self.last),
             Row::Times(count) => self.content.repeat(count),
             Row::End => self.content.end_piece(),
             Row::Set(place, text) => {
@@ -177,6 +179,18 @@ impl Stage {
             text.push_str(format!(in self.alloc; "{byte:02x}")?.as_str())?;
         }
         println!(rt; "! {name} {text}")?;
+        Ok(())
+    }
+
+    fn tell_same(&mut self, rt: &impl Print, names: &str) -> anyhow::Result<()> {
+        let Some((name, other)) = names.split_once(' ') else {
+            bail!("no two names: {names}");
+        };
+        let same = match (self.held(name), self.held(other)) {
+            (Some(bytes), Some(others)) => bytes.as_slice() == others.as_slice(),
+            _ => false,
+        };
+        println!(rt; "same {names} {}", if same { "yes" } else { "no" })?;
         Ok(())
     }
 

@@ -15,7 +15,7 @@ use Rattle.command_parts.specs.ScriptFile.{IsScriptOf}
 use Rattle.command_parts.specs.Told.{Writes, TellsStop}
 use Rattle.commands.specs.Runs.{IsStopped}
 use Rattle.command_parts.specs.declared.command.GoWords.{GoWords}
-use Rattle.commands.specs.Compiles.{Unput}
+use Rattle.commands.specs.PutFile.{Unput}
 use Rattle.commands.specs.Lines.{warning_lines}
 use Rattle.commands.specs.Goes.{Goes, GoesGood, NotGood, RunsPut, behind}
 use Rattle.commands.specs.Natives.{HasNatives}

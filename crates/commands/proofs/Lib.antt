@@ -1,3 +1,4 @@
+pub mod AssembleLaws
 pub mod BoundNativeLaws
 pub mod CompileLaws
 pub mod DoneLaws

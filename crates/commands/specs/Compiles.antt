@@ -1,49 +1,28 @@
 -- `compile SRC AMX [--compact]`: what it answers, writes and puts, over the files that it reads.
-use Rattle.std.specs.Prelude.{◌≡◌, ◌⊎◌, ℕ, List, Bool, true, false, Option}
-use Rattle.pawn_outside.specs.Held.{Held, with_put}
+use Rattle.std.specs.Prelude.{◌⊎◌, ℕ, List, Bool, true, false, Option}
+use Rattle.pawn_outside.specs.Held.{Held}
 use Rattle.amx_format.specs.declared.encoding.Encoding.{Encoding}
 use Rattle.amx_format.specs.declared.encoding.Encoding.TheVariants.{Plain, Compact}
 use Rattle.pawn_front.specs.declared.compiled.Compiled.{Compiled}
 use Rattle.pawn_front.specs.Compiled.{IsCompiled}
 use Rattle.command_parts.specs.declared.status.Status.{Status}
-use Rattle.command_parts.specs.declared.status.Status.TheVariants as status
-use Rattle.command_parts.specs.declared.stop.Stop.{Stop}
-use Rattle.command_parts.specs.Put.{NotPut}
-use Rattle.command_parts.specs.Told.{Told, Writes, TellsStop, status_told}
+use Rattle.command_parts.specs.Told.{Writes}
 use Rattle.commands.specs.Runs.{IsStopped}
 use Rattle.command_parts.specs.declared.command.CompileWords.{CompileWords}
 use Rattle.commands.specs.Lines.{compile_text}
 use Rattle.commands.specs.Made.{NoSource}
+use Rattle.commands.specs.PutFile.{PutsFile}
 
 -- cells are compact exactly where that is asked
 abbrev pub encoding_of : Bool → Encoding
 encoding_of true = Compact
 encoding_of false = Plain
 
--- ---- the file that is put
-
--- it isn't put at its name, and the line of the stop is told
-pub record Unput {S : Type 0} (writes : Writes S) (name : List ℕ) (held after : Option Held)
-    (old new : S) (answer : Status) : Type 0 where
-  pub stop : Stop
-  pub comes : NotPut held after name stop
-  pub tells : TellsStop stop writes old new answer
-
--- it is put, and its lines are told, or a front of them
-pub record TellsPut {S : Type 0} (writes : Writes S) (it : Compiled) (name : List ℕ)
-    (held after : Option Held) (old new : S) (answer : Status) : Type 0 where
-  pub kept : after ≡ with_put held name it.bytes
-  pub told : Told
-  pub written : writes old new (compile_text it) told
-  pub is : answer ≡ status_told status.Ok told
-
--- ---- the whole command
-
--- either of both
+-- its file isn't put, or is put, and its lines are told
 abbrev pub Puts : {S : Type 0} → Writes S → Compiled → List ℕ → Option Held → Option Held → S → S
     → Status → Type 0
 Puts writes it name held after old new answer =
-    Unput writes name held after old new answer ⊎ TellsPut writes it name held after old new answer
+    PutsFile writes it.bytes (compile_text it) name held after old new answer
 
 -- its source is compiled
 pub record CompilesGood {S : Type 0} (writes : Writes S) (words : CompileWords)

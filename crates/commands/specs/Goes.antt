@@ -10,7 +10,7 @@ use Rattle.pawn_front.specs.declared.compiled.Compiled.{Compiled}
 use Rattle.pawn_front.specs.Compiled.{IsCompiled}
 use Rattle.command_parts.specs.Told.{Writes}
 use Rattle.commands.specs.Runs.{IsStopped}
-use Rattle.commands.specs.Compiles.{Unput}
+use Rattle.commands.specs.PutFile.{Unput}
 use Rattle.commands.specs.Lines.{warning_lines}
 use Rattle.commands.specs.Made.{NoSource}
 use Rattle.commands.specs.declared.goes.Prepared.{Prepared}

@@ -9,7 +9,7 @@ use Rattle.gen_agrees.specs.Agrees.{Serves}
 use Rattle.command_parts.specs.declared.status.Status.{Status}
 use Rattle.command_parts.specs.declared.stop.Stop.TheVariants.{NoMemory}
 use Rattle.command_parts.specs.Told.{Writes, TellsStop}
-use Rattle.commands.specs.Compiles.{Unput}
+use Rattle.commands.specs.PutFile.{Unput}
 use Rattle.commands.specs.Lines.{warning_lines}
 use Rattle.commands.specs.Runs.{IsStopped}
 use Rattle.command_parts.specs.declared.command.GoWords.{GoWords}

@@ -1,3 +1,4 @@
+pub mod Assembles
 pub mod Compiles
 pub mod Done
 pub mod Entry
@@ -8,6 +9,7 @@ pub mod GoodCompile
 pub mod GoodGo
 pub mod GoodImage
 pub mod GoodSource
+pub mod GoodText
 pub mod ImageLine
 pub mod Lines
 pub mod Made
@@ -15,6 +17,7 @@ pub mod Meant
 pub mod Natives
 pub mod Played
 pub mod Prepared
+pub mod PutFile
 pub mod ReadyFile
 pub mod ReadySegment
 pub mod Restored

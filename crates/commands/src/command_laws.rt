@@ -4,6 +4,7 @@ ghost use Rattle.commands.specs.GoodCompile.{GoodIsCompiled};
 ghost use Rattle.commands.specs.GoodGo.{GoodIsGone};
 ghost use Rattle.commands.specs.GoodImage.{GoodImagesAreRead};
 ghost use Rattle.commands.specs.GoodSource.{GoodSourcesGo};
+ghost use Rattle.commands.specs.GoodText.{GoodIsAssembled};
 ghost use Rattle.pawn_outside.specs.Said.{Said};
 
 use pawn_outside::Sink;
@@ -62,4 +63,11 @@ pub fn good_is_compiled<S: Sink>()
 #[tactic(auto, using(crate::proofs::GoodSourceLaws::good_is_gone))]
 pub fn good_is_gone<S: Sink>()
     ensures { GoodIsGone (Said S.taken S.faults S.has_room) }
+{}
+
+/// The same of `assemble` with the listing of a valid file that can be written: the file isn't put,
+/// or is put.
+#[tactic(auto, using(crate::proofs::AssembleLaws::good_is_assembled))]
+pub fn good_is_assembled<S: Sink>()
+    ensures { GoodIsAssembled (Said S.taken S.faults S.has_room) }
 {}

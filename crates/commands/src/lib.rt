@@ -1,6 +1,7 @@
-//! The commands run, resume, compile and go.
+//! The commands run, resume, compile, go and assemble.
 #![tactic(auto)]
 
+mod assembles;
 mod bind;
 mod command_laws;
 mod compiles;
@@ -10,6 +11,7 @@ mod image;
 mod lines;
 mod natives;
 mod play;
+mod put_file;
 mod ready_file;
 mod ready_segment;
 mod resumes;
@@ -17,10 +19,11 @@ mod runs;
 mod sources;
 mod wake;
 
+pub use assembles::assemble;
 pub use bind::bind_natives;
 pub use command_laws::{
-    good_files_are_read, good_images_are_read, good_is_compiled, good_is_gone, good_is_resumed,
-    good_is_run, good_programs_start, good_sources_go,
+    good_files_are_read, good_images_are_read, good_is_assembled, good_is_compiled, good_is_gone,
+    good_is_resumed, good_is_run, good_programs_start, good_sources_go,
 };
 pub use compiles::compile;
 pub use goes::go;

@@ -1,3 +1,4 @@
+mod assembled;
 mod base;
 mod bindings;
 mod blocks;
@@ -9,6 +10,7 @@ mod file_instructions;
 mod files;
 mod large_files;
 mod large_machines;
+mod large_texts;
 mod listings;
 mod natives;
 mod programs;

@@ -3,13 +3,14 @@ use Rattle.std.specs.Prelude.{◌≡◌, ◌⊎◌, Option, None, Some}
 use Rattle.pawn_outside.specs.Held.{Held}
 use Rattle.command_parts.specs.declared.command.Command.{Command}
 use Rattle.command_parts.specs.declared.command.Command.TheVariants.{Compile, Verify, List, Run}
-use Rattle.command_parts.specs.declared.command.Command.TheVariants.{Resume, Go}
+use Rattle.command_parts.specs.declared.command.Command.TheVariants.{Resume, Go, Assemble}
 use Rattle.command_parts.specs.declared.status.Status.{Status}
 use Rattle.command_parts.specs.declared.stop.Stop.{Stop}
 use Rattle.command_parts.specs.declared.stop.Stop.TheVariants.{BadWords, NoMemory}
 use Rattle.command_parts.specs.declared.command_words.WordsFault.{WordsFault}
 use Rattle.command_parts.specs.declared.command_words.WordsFault.TheVariants as words
 use Rattle.command_parts.specs.Told.{Writes}
+use Rattle.commands.specs.Assembles.{Assembles}
 use Rattle.commands.specs.Compiles.{Compiles}
 use Rattle.commands.specs.Runs.{IsStopped, Runs}
 use Rattle.commands.specs.Resumes.{Resumes}
@@ -36,6 +37,8 @@ abbrev pub Does : {S : Type 0} → Writes S → Option Command → Option Held �
 Does writes None held after old new answer = ⊥
 Does writes (Some (Compile words)) held after old new answer =
     Compiles writes words held after old new answer
+Does writes (Some (Assemble words)) held after old new answer =
+    Assembles writes words held after old new answer
 Does writes (Some (Verify amx)) held after old new answer =
     Verifies writes amx held after old new answer
 Does writes (Some (List amx)) held after old new answer = Lists writes amx held after old new answer

@@ -8,7 +8,7 @@ ghost use Rattle.pawn_cli.specs.Answers.{Answers, Does, words_stop};
 use super::list::list;
 use super::verify::verify;
 use command_parts::{Command, Status, Stop, WordsFault, read_words, tell_stop};
-use commands::{compile, go, resume, run};
+use commands::{assemble, compile, go, resume, run};
 use pawn_outside::{Files, Sink};
 use std::alloc::Global;
 
@@ -48,6 +48,7 @@ fn serve<F: Files, S: Sink>(alloc: Global, command: Command, files: &mut F, out:
 {
     match command {
         Command::Compile(words) => compile(alloc, &words, files, out),
+        Command::Assemble(words) => assemble(alloc, &words, files, out),
         Command::Verify { amx } => verify(alloc, amx.as_str(), files, out),
         Command::List { amx } => list(alloc, amx.as_str(), files, out),
         Command::Run(words) => run(alloc, &words, files, out),

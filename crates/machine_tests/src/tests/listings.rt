@@ -10,15 +10,15 @@ use std::alloc::{AllocError, Global};
 use std::test::Fail;
 
 /// The listing of an empty main.
-const EMPTY_LISTING: &str = "amx flags 0 version 8 code 5 data 0 room 4096 entry 8\n\
+pub const EMPTY_LISTING: &str = "amx flags 0 version 8 code 5 data 0 room 4096 entry 8\n\
     code\n00000000 HALT 0\n00000008 PROC\n0000000c ZERO.pri\n00000010 RETN\ndata\nend\n";
 
 /// That of a file with other flags.
-const FLAGS_LISTING: &str = "amx flags 32889 version 8 code 5 data 0 room 4096 entry 8\n\
+pub const FLAGS_LISTING: &str = "amx flags 32889 version 8 code 5 data 0 room 4096 entry 8\n\
     code\n00000000 HALT 0\n00000008 PROC\n0000000c ZERO.pri\n00000010 RETN\ndata\nend\n";
 
 /// The same cells as data.
-const DATA_LISTING: &str = "amx flags 0 version 8 code 0 data 5 room 4096 entry -1\n\
+pub const DATA_LISTING: &str = "amx flags 0 version 8 code 0 data 5 room 4096 entry -1\n\
     code\ndata\n00000000 120 0 46 89 48\nend\n";
 
 /// That of the file with records in each table.

@@ -71,7 +71,7 @@ fn is_written(alloc: Global, encoding: Encoding, bytes: &[u8]) -> bool {
     }
 }
 
-fn writes_as(alloc: Global, amx: &Amx, encoding: Encoding, bytes: &[u8]) -> bool
+pub fn writes_as(alloc: Global, amx: &Amx, encoding: Encoding, bytes: &[u8]) -> bool
     requires { IsWritableSorted amx.now }
 {
     match write(alloc, amx, encoding) {

@@ -1,14 +1,15 @@
 use Rattle.std.proofs.Common.{refl}
 use Rattle.command_parts.proofs.FaultCountLaws.{only_calls, calls_then, calls_stopped}
-use Rattle.commands.proofs.PutLaws.{compiles_nothing, compiles_good}
+use Rattle.commands.proofs.PutLaws.{compiles_nothing, compiles_good, puts_lent}
 use Rattle.commands.proofs.compiles.compile.Goals as goal
 
 pub returns-in-Ok-clause-answer : goal.returns-in-Ok-clause-answer
 returns-in-Ok-clause-answer g c =
-    compiles_good c.args.words.now _ _ _ _ _ c.encoding_of.result c.in-Ok.compiled c.put_file.result
-    c.as_str.ensures c.as_str-in-Ok.ensures
-    c.encoding_of.ensures c.in-Ok.ensures.answer c.in-Ok.ensures.calls.same
-    c.put_file.ensures.answer
+    compiles_good c.args.words.now _ _ _ c.encoding_of.result c.in-Ok.it c.put_file.result
+    c.as_str.ensures c.encoding_of.ensures c.in-Ok.ensures.answer
+    (puts_lent c.in-Ok.it.bytes _ c.in-Ok.it.warnings _ _ _ _ _ c.args.words.now.amx
+    c.put_file.result c.as_slice.ensures c.as_slice-warnings.ensures c.as_str-in-Ok.ensures
+    c.in-Ok.ensures.calls.same c.put_file.ensures.answer)
 
 pub returns-in-Ok-clause-calls : goal.returns-in-Ok-clause-calls
 returns-in-Ok-clause-calls g c =

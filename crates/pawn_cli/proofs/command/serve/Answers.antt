@@ -19,3 +19,6 @@ returns-in-Go-clause-answer g c = rw c.in-Go.is c.go.ensures.answer
 
 pub returns-in-Compile-clause-answer : goal.returns-in-Compile-clause-answer
 returns-in-Compile-clause-answer g c = rw c.in-Compile.is c.compile.ensures.answer
+
+pub returns-in-Assemble-clause-answer : goal.returns-in-Assemble-clause-answer
+returns-in-Assemble-clause-answer g c = rw c.in-Assemble.is c.assemble.ensures.answer

@@ -1,24 +1,29 @@
-use Rattle.std.proofs.Common.{refl}
+use Rattle.std.proofs.Common.{inl, inr, refl}
 use Rattle.command_parts.specs.declared.status.Status.TheVariants as status
 use Rattle.command_parts.proofs.FaultCountLaws.{calls_stopped, calls_done}
-use Rattle.commands.proofs.PutLaws.{puts_none, puts_some}
-use Rattle.commands.proofs.compiles.put_file.Goals as goal
+use Rattle.commands.proofs.put_file.put_file.Goals as goal
 
 pub returns-in-Ok-clause-answer : goal.returns-in-Ok-clause-answer
 returns-in-Ok-clause-answer g c =
-    puts_some c.args.compiled.now _ _ c.args.amx.now c.as_slice.result.now c.say_compiled.result
-    c.told.result c.as_slice.ensures
-    c.in-Ok.ensures.answer c.say_compiled.ensures c.told.ensures
+    inr (record {
+      kept = c.in-Ok.ensures.answer;
+      told = c.say_put.result;
+      written = c.say_put.ensures;
+      is = c.told.ensures;
+    })
 
 pub returns-in-Ok-clause-calls : goal.returns-in-Ok-clause-calls
 returns-in-Ok-clause-calls g c =
-    calls_done status.Ok c.told.result c.say_compiled.result
+    calls_done status.Ok c.told.result c.say_put.result
     (λ e. absurd (cc e)) c.told.ensures c.in-Ok.ensures.calls
 
 pub returns-in-Err-clause-answer : goal.returns-in-Err-clause-answer
 returns-in-Err-clause-answer g c =
-    puts_none c.args.compiled.now _ _ c.args.amx.now c.in-Err.stop c.tell_stop.result
-    c.in-Err.ensures.answer c.tell_stop.ensures
+    inl (record {
+      stop = c.in-Err.stop;
+      comes = c.in-Err.ensures.answer;
+      tells = c.tell_stop.ensures;
+    })
 
 pub returns-in-Err-clause-calls : goal.returns-in-Err-clause-calls
 returns-in-Err-clause-calls g c =

@@ -1,0 +1,28 @@
+use Rattle.std.proofs.Common.{[], refl}
+use Rattle.command_parts.proofs.FaultCountLaws.{only_calls, calls_then, calls_stopped}
+use Rattle.commands.proofs.AssembleLaws.{assembles_good, assembles_nothing}
+use Rattle.commands.proofs.PutLaws.{puts_lent}
+use Rattle.commands.proofs.assembles.assemble.Goals as goal
+
+pub returns-in-Ok-clause-answer : goal.returns-in-Ok-clause-answer
+returns-in-Ok-clause-answer g c =
+    assembles_good c.args.words.now _ _ _ c.encoding_of.result c.put_file.result c.as_str.ensures
+    c.in-Ok.file c.encoding_of.ensures c.in-Ok.ensures.answer
+    (puts_lent c.in-Ok.file _ [] [] _ _ _ _ c.args.words.now.amx c.put_file.result
+    c.as_slice.ensures refl c.as_str-in-Ok.ensures c.in-Ok.ensures.calls.same
+    c.put_file.ensures.answer)
+
+pub returns-in-Ok-clause-calls : goal.returns-in-Ok-clause-calls
+returns-in-Ok-clause-calls g c =
+    calls_then (only_calls c.in-Ok.ensures.calls) c.put_file.ensures.calls
+
+pub returns-in-Err-clause-answer : goal.returns-in-Err-clause-answer
+returns-in-Err-clause-answer g c =
+    assembles_nothing c.args.words.now _ _ _ c.encoding_of.result c.tell_stop.result
+    c.as_str.ensures c.in-Err.cause c.in-Err.ensures.answer c.in-Err.ensures.calls.same
+    c.tell_stop.ensures
+
+pub returns-in-Err-clause-calls : goal.returns-in-Err-clause-calls
+returns-in-Err-clause-calls g c =
+    calls_stopped c.in-Err.cause c.tell_stop.result
+    (only_calls c.in-Err.ensures.calls) refl c.tell_stop.ensures
