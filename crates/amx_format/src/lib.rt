@@ -18,6 +18,6 @@ pub use file::{
     a_file_is_of_one_amx, code_place, file_size, is_compact, sorted_tables_stay,
     what_is_written_is_read,
 };
-pub use header::FILE_LIMIT;
+pub use header::{FILE_LIMIT, HEADER, MEMORY_LIMIT, RECORD};
 pub use reader::read;
 pub use writer::write;

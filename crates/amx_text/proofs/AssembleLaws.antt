@@ -31,7 +31,7 @@ use Rattle.amx_text.proofs.SaidLaws.{code_of_lines}
 use Rattle.amx_text.proofs.PlacedLaws.{are_placed_at}
 use Rattle.amx_text.proofs.WholeLaws.{Tail}
 use Rattle.amx_text.proofs.TableLines.{parts_of}
-use Rattle.amx_text.proofs.FileLaws.{addresses_placed, listed_of_lines}
+use Rattle.amx_text.proofs.FileLaws.{addresses_placed, file_by, listed_of_lines}
 use Rattle.amx_text.proofs.GatherLaws.{amx_put}
 use Rattle.amx_text.proofs.FinishLaws.{faults_are}
 
@@ -78,19 +78,7 @@ file_there text it others are addresses =
       placed = (and_parts true (are_placed_at 0 0 others) placed).1;
     } in
     let parts = parts_of it others tail in
-    let amx : Amx = record {
-      flags = it.flags;
-      version = it.version;
-      code = flat_map cells_of parts.its;
-      store = parts.store;
-      room = it.room;
-      entry = it.entry;
-      publics = parts.publics;
-      natives = parts.natives;
-      libraries = parts.libraries;
-      variables = parts.variables;
-      tags = parts.tags;
-    } in
+    let amx = file_by it others parts in
     let code : code_in (HeaderLine it ∷ others) ≡ flat_map cells_of parts.its =
     ap (λ ls. code_in (HeaderLine it ∷ ls)) parts.is ∙ code_of_lines amx parts.its in (
       amx,

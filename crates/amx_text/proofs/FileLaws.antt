@@ -197,7 +197,7 @@ module _ (amx : Amx) (its : List Written) (fits : All Fits (lines_behind amx its
 -- ---- a text
 
 -- the file of such parts
-abbrev file_by : Header → (lines : List Line) → Parts lines → Amx
+abbrev pub file_by : Header → (lines : List Line) → Parts lines → Amx
 file_by it lines parts = record {
   flags = it.flags;
   version = it.version;

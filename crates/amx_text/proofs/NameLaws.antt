@@ -28,7 +28,7 @@ found p f g row (x ∷ rows) e h =
     let others : map f rows ≡ map g rows = cc in
     found_by p f g (p x) x row (find p rows) first (found p f g row rows others) h
 
-at_cell : {B : Type 0} (f g : Row → B) (cell : ℤ) (row : Row) → map f table ≡ map g table
+pub at_cell : {B : Type 0} (f g : Row → B) (cell : ℤ) (row : Row) → map f table ≡ map g table
     → row_at cell ≡ Some row → f row ≡ g row
 unfolding row_at
 at_cell f g cell row e h = found (has_number cell) f g row table e h

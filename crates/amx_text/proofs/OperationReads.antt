@@ -1,7 +1,7 @@
 -- An instruction's name and its row: what is spelled is read, and what is read is spelled.
 use Rattle.std.proofs.Common.{◌≡◌, ◌∙◌, ◌+◌, ◌==◌, ◌||◌, ◌++◌, ℕ, zero, suc, ℤ, pos, List, [], ◌∷◌}
 use Rattle.std.proofs.Common.{Bool, true, false, cond, not, Option, None, Some, length, take, drop}
-use Rattle.std.proofs.Common.{map, find, refl, sym, ap, subst, arith, codes, nat_lt}
+use Rattle.std.proofs.Common.{map, refl, sym, ap, subst, arith, codes, nat_lt}
 use Rattle.std.proofs.Common.{take-append-drop, lt-ltb, length-append, ◌⊎◌, inl, inr}
 use Rattle.std.specs.List.{list_all, prefix_len, position_or_len, position}
 use Rattle.std.specs.Prelude.{option_and_then, option_map, slice_get}
@@ -11,13 +11,14 @@ use Rattle.std.proofs.Math.Seq.{take-append_seam, drop-append_seam}
 use Rattle.std.proofs.lemmas.Bool.{and_parts}
 use Rattle.amx_ops.specs.declared.op.Op.{Op}
 use Rattle.amx_ops.specs.declared.table.Operand.{Operand}
-use Rattle.amx_ops.specs.Table.{Row, row_at, row_of, table, number_of, operand_of, has_number}
+use Rattle.amx_ops.specs.Table.{Row, row_at, row_of, table, number_of, operand_of}
 use Rattle.amx_ops.proofs.Rows.{has_row}
 use Rattle.amx_text.specs.Lines.{name_by}
 use Rattle.amx_text.specs.Readers.{after_word, operation_at, operation_before, operation_named}
 use Rattle.amx_text.specs.Readers.{operation_by, names_of, word_end}
 use Rattle.amx_text.proofs.ReaderLaws.{same_pair, word_is}
 use Rattle.amx_text.proofs.LineReads.{and_then_some}
+use Rattle.amx_text.proofs.NameLaws.{at_cell}
 
 -- ---- rows
 
@@ -30,26 +31,6 @@ at_place f g (x ∷ rows) zero row e h =
     subst (λ r. f r ≡ g r) same first
 at_place f g (x ∷ rows) (suc place) row e h =
     let others : map f rows ≡ map g rows = cc in at_place f g rows place row others h
-
-found_by : {B : Type 0} (p : Row → Bool) (f g : Row → B) (b : Bool) (x row : Row)
-    (others : Option Row) → f x ≡ g x → (others ≡ Some row → f row ≡ g row)
-    → cond b (Some x) others ≡ Some row → f row ≡ g row
-found_by p f g true x row others e rest h =
-    let same : x ≡ row = cc in subst (λ r. f r ≡ g r) same e
-found_by p f g false x row others e rest h = rest h
-
-found : {B : Type 0} (p : Row → Bool) (f g : Row → B) (row : Row) (rows : List Row)
-    → map f rows ≡ map g rows → find p rows ≡ Some row → f row ≡ g row
-found p f g row [] e h = absurd (let no : ⊥ = cc in no)
-found p f g row (x ∷ rows) e h =
-    let first : f x ≡ g x = cc in
-    let others : map f rows ≡ map g rows = cc in
-    found_by p f g (p x) x row (find p rows) first (found p f g row rows others) h
-
-at_cell : {B : Type 0} (f g : Row → B) (cell : ℤ) (row : Row) → map f table ≡ map g table
-    → row_at cell ≡ Some row → f row ≡ g row
-unfolding row_at
-at_cell f g cell row e h = found (has_number cell) f g row table e h
 
 -- ---- the operation of a name
 

@@ -59,6 +59,7 @@ follows before line = false
 
 -- ---- how a line is put into a draft
 
+-- the file before any line
 abbrev pub empty_amx : Amx
 empty_amx = record {
   flags = 0;
@@ -183,6 +184,7 @@ Takes may text old new (Err fault) = Unit {0}
 
 -- ---- kinds of lines that one method takes
 
+-- the header line, which alone may come first
 abbrev pub is_header : Line → Bool
 is_header line = follows last.Nothing line
 
@@ -191,10 +193,12 @@ abbrev pub is_record : Kind → Line → Bool
 is_record from (RecordLine kind it) = nat_le (place_of from) (place_of kind)
 is_record from line = false
 
+-- a line of the code, behind its word
 abbrev pub is_instruction : Line → Bool
 is_instruction (InstructionLine at it) = true
 is_instruction line = false
 
+-- a line of cells, behind the word of the data
 abbrev pub is_row : Line → Bool
 is_row (CellsLine at cells) = true
 is_row line = false

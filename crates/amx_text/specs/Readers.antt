@@ -266,19 +266,22 @@ entry_at flags version code store room = option_and_then (λ (it : ℤ × List �
   entry = it.0;
 }) it.1) (option_and_then cell_at (after_word (codes " entry ") room.1))
 
--- the room, and so on up to the flags
+-- from the room on
 abbrev pub room_at : ℕ → ℕ → ℕ → ℕ × List ℕ → Option (Header × List ℕ)
 room_at flags version code store =
     option_and_then (entry_at flags version code store.0) (field_at (codes " room ") store.1)
 
+-- from the number of data cells on
 abbrev pub store_at : ℕ → ℕ → ℕ × List ℕ → Option (Header × List ℕ)
 store_at flags version code =
     option_and_then (room_at flags version code.0) (field_at (codes " data ") code.1)
 
+-- from the number of code cells on
 abbrev pub code_at : ℕ → ℕ × List ℕ → Option (Header × List ℕ)
 code_at flags version =
     option_and_then (store_at flags version.0) (field_at (codes " code ") version.1)
 
+-- from the version on
 abbrev pub version_at : ℕ × List ℕ → Option (Header × List ℕ)
 version_at flags = option_and_then (code_at flags.0) (field_at (codes " version ") flags.1)
 

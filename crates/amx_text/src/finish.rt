@@ -8,18 +8,22 @@ ghost use Rattle.amx_text.specs.Faults.{is_within};
 
 use super::draft::Draft;
 use super::fault::AsmFault;
+use amx_format::{HEADER, MEMORY_LIMIT, RECORD};
 use amx_ops::{Amx, Record};
 use amx_verify::{VerifyFault, verify};
 use std::alloc::Global;
 
 /// The most bytes of code, data, heap and stack.
-const MOST_BYTES: u64 = 134_217_728;
+const MOST_BYTES: u64 = MEMORY_LIMIT as u64;
 
 /// Below it lie a file's size and its stack's top.
 const PAST_FILE: u64 = 0x8000_0000;
 
 /// The bytes of a file's header, and of the number before its names.
-const HEADER_BYTES: u64 = 56 + 2;
+const HEADER_BYTES: u64 = HEADER as u64 + 2;
+
+/// The bytes of a record, and of the zero behind its name.
+const RECORD_BYTES: u64 = RECORD as u64 + 1;
 
 impl Draft {
     /// The file, if it is within the limits, stands where its lines say, has as many cells as its
@@ -163,7 +167,7 @@ fn records_size(records: &[Record]) -> u64
     let mut size: u64 = 0;
     for record in records {
         size = size
-            .saturating_add(9)
+            .saturating_add(RECORD_BYTES)
             .saturating_add(record.name.len() as u64);
     }
     size
