@@ -6,14 +6,19 @@ use Rattle.std.proofs.lemmas.Bool.{false_from_ne_true}
 use Rattle.std.specs.Option.{is_some, option_and_then}
 use Rattle.std.specs.Str.{bytes_eq}
 use Rattle.std.specs.Cmp.Lexicographic.{bytes_decides}
+use Rattle.command_parts.specs.declared.asked_words.TheConstants.{MOST_NUMBER}
 use Rattle.command_parts.specs.declared.command.Command.{Command}
+use Rattle.command_parts.specs.declared.command.Command.TheVariants.{Explain, Help}
 use Rattle.command_parts.specs.declared.options.Options.{Options}
 use Rattle.command_parts.specs.declared.command_words.WordsFault.{WordsFault}
 use Rattle.command_parts.specs.declared.command_words.WordsFault.TheVariants.{Bad, Memory}
 use Rattle.command_parts.specs.Command.{is_plain, first_plain, optional_plain, alone, command_of}
 use Rattle.command_parts.specs.Command.{command_by, verify_of, list_of, run_of, resume_of, go_of}
 use Rattle.command_parts.specs.Command.{compile_of, assemble_of, compact_of, compact_word}
-use Rattle.command_parts.specs.Options.{once, options_from, with_option, with_steps, with_sleeps}
+use Rattle.command_parts.specs.Command.{measure_by, sample_of, usage_of}
+use Rattle.command_parts.specs.Command.{asked_by, explain_of, help_of, version_of, sizes_of}
+use Rattle.command_parts.specs.Command.{explain_on, help_on}
+use Rattle.command_parts.specs.Options.{number_up_to, once, options_from, with_option, with_steps, with_sleeps}
 use Rattle.command_parts.specs.Options.{with_entry}
 use Rattle.command_parts.specs.Reading.{IsBad, Reads}
 
@@ -86,6 +91,16 @@ module _ {X : Type 0} (f : X → List ℕ) where
   alone_no command [] e = absurd (false-eqb 0 0 e refl)
   alone_no command (word ∷ words) e = refl
 
+  pub and_alone : (said : Option Command) (words : List X) → true ≡ (length words == 0)
+      → option_and_then (λ command. alone command (map f words)) said ≡ said
+  and_alone None words e = refl
+  and_alone (Some command) words e = alone_is command words e
+
+  pub and_more : (said : Option Command) (words : List X) → false ≡ (length words == 0)
+      → option_and_then (λ command. alone command (map f words)) said ≡ None
+  and_more None words e = refl
+  and_more (Some command) words e = alone_no command words e
+
   pub compact_none : (words : List X) → length words ≡ 0 → Some false ≡ compact_of (map f words)
   compact_none [] e = refl
   compact_none (word ∷ words) e = absurd (omega (arith, e))
@@ -108,9 +123,44 @@ module _ {X : Type 0} (f : X → List ℕ) where
 
   pub command_is : (words rest : List X) (word : X) (name : List ℕ)
       (result : Result Command WordsFault) → words ≡ word ∷ rest
-      → name ≡ f word → Reads (command_by name (map f rest)) result
+      → name ≡ f word → Reads (asked_by name (map f rest)) result
       → Reads (command_of (map f words)) result
   command_is words rest word name result e n reads = rw (e, ← n) reads
+
+  pub explain_none : (words : List X) → length words ≡ 0
+      → explain_of (map f words) ≡ Some (Explain None)
+  explain_none [] e = refl
+  explain_none (word ∷ words) e = absurd (omega (arith, e))
+
+  pub explain_one : (words rest : List X) (word : X) (name : List ℕ)
+      (result : Result Command WordsFault) → words ≡ word ∷ rest → name ≡ f word
+      → true ≡ (length rest == 0) → Reads (explain_on (number_up_to MOST_NUMBER name)) result
+      → Reads (explain_of (map f words)) result
+  explain_one words [] word name result e n none is = rw (e, ← n) is
+  explain_one words (next ∷ rest) word name result e n none is =
+      absurd (omega (arith, true-eqb (length (next ∷ rest)) 0 none))
+
+  pub explain_more : (words rest : List X) (word : X) → words ≡ word ∷ rest
+      → false ≡ (length rest == 0) → explain_of (map f words) ≡ None
+  explain_more words [] word e more = absurd (false-eqb 0 0 more refl)
+  explain_more words (next ∷ rest) word e more = rw e refl
+
+  pub help_none : (words : List X) → length words ≡ 0 → help_of (map f words) ≡ Some (Help None)
+  help_none [] e = refl
+  help_none (word ∷ words) e = absurd (omega (arith, e))
+
+  pub help_one : (words rest : List X) (word : X) (name : List ℕ)
+      (result : Result Command WordsFault) → words ≡ word ∷ rest → name ≡ f word
+      → true ≡ (length rest == 0) → Reads (help_on name) result
+      → Reads (help_of (map f words)) result
+  help_one words [] word name result e n none is = rw (e, ← n) is
+  help_one words (next ∷ rest) word name result e n none is =
+      absurd (omega (arith, true-eqb (length (next ∷ rest)) 0 none))
+
+  pub help_more : (words rest : List X) (word : X) → words ≡ word ∷ rest
+      → false ≡ (length rest == 0) → help_of (map f words) ≡ None
+  help_more words [] word e more = absurd (false-eqb 0 0 more refl)
+  help_more words (next ∷ rest) word e more = rw e refl
 
   -- ---- options
 
@@ -169,6 +219,29 @@ option_none flag value given a b c = rw (sym a, sym b, sym c) refl
 -- ---- a command by its word
 
 module _ (word : List ℕ) (words : List (List ℕ)) (result : Result Command WordsFault) where
+  pub by_explain : true ≡ bytes_eq word (codes "explain") → Reads (explain_of words) result
+      → Reads (asked_by word words) result
+  by_explain a reads = rw (sym a) reads
+
+  pub by_help : false ≡ bytes_eq word (codes "explain") → true ≡ bytes_eq word (codes "help")
+      → Reads (help_of words) result → Reads (asked_by word words) result
+  by_help a b reads = rw (sym a, sym b) reads
+
+  pub by_version : false ≡ bytes_eq word (codes "explain") → false ≡ bytes_eq word (codes "help")
+      → true ≡ bytes_eq word (codes "version") → Reads (version_of words) result
+      → Reads (asked_by word words) result
+  by_version a b c reads = rw (sym a, sym b, sym c) reads
+
+  pub by_sizes : false ≡ bytes_eq word (codes "explain") → false ≡ bytes_eq word (codes "help")
+      → false ≡ bytes_eq word (codes "version") → true ≡ bytes_eq word (codes "sizes")
+      → Reads (sizes_of words) result → Reads (asked_by word words) result
+  by_sizes a b c d reads = rw (sym a, sym b, sym c, sym d) reads
+
+  pub by_command : false ≡ bytes_eq word (codes "explain") → false ≡ bytes_eq word (codes "help")
+      → false ≡ bytes_eq word (codes "version") → false ≡ bytes_eq word (codes "sizes")
+      → Reads (command_by word words) result → Reads (asked_by word words) result
+  by_command a b c d reads = rw (sym a, sym b, sym c, sym d) reads
+
   pub by_verify : true ≡ bytes_eq word (codes "verify") → Reads (verify_of words) result
       → Reads (command_by word words) result
   by_verify a reads = rw (sym a) reads
@@ -211,11 +284,25 @@ module _ (word : List ℕ) (words : List (List ℕ)) (result : Result Command Wo
   by_assemble a b c d e h i reads =
       rw (sym a, sym b, sym c, sym d, sym e, sym h, sym i) reads
 
-pub by_none : (word : List ℕ) (words : List (List ℕ)) → false ≡ bytes_eq word (codes "verify")
-    → false ≡ bytes_eq word (codes "list")
-    → false ≡ bytes_eq word (codes "run") → false ≡ bytes_eq word (codes "resume")
-    → false ≡ bytes_eq word (codes "go")
-    → false ≡ bytes_eq word (codes "compile") → false ≡ bytes_eq word (codes "assemble")
-    → command_by word words ≡ None
-by_none word words a b c d e h i =
-    rw (sym a, sym b, sym c, sym d, sym e, sym h, sym i) refl
+  pub by_measure : false ≡ bytes_eq word (codes "verify") → false ≡ bytes_eq word (codes "list")
+      → false ≡ bytes_eq word (codes "run")
+      → false ≡ bytes_eq word (codes "resume") → false ≡ bytes_eq word (codes "go")
+      → false ≡ bytes_eq word (codes "compile") → false ≡ bytes_eq word (codes "assemble")
+      → Reads (measure_by word words) result
+      → Reads (command_by word words) result
+  by_measure a b c d e h i reads =
+      rw (sym a, sym b, sym c, sym d, sym e, sym h, sym i) reads
+
+  pub by_sample : true ≡ bytes_eq word (codes "sample") → Reads (sample_of words) result
+      → Reads (measure_by word words) result
+  by_sample a reads = rw (sym a) reads
+
+  pub by_usage : false ≡ bytes_eq word (codes "sample") → true ≡ bytes_eq word (codes "usage")
+      → Reads (usage_of words) result
+      → Reads (measure_by word words) result
+  by_usage a b reads = rw (sym a, sym b) reads
+
+pub by_none : (word : List ℕ) (words : List (List ℕ)) → false ≡ bytes_eq word (codes "sample")
+    → false ≡ bytes_eq word (codes "usage")
+    → measure_by word words ≡ None
+by_none word words a b = rw (sym a, sym b) refl

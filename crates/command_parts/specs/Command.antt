@@ -1,14 +1,20 @@
 -- The words that are a command: its word, its plain words in order, then options in any order, each
 -- at most once.
-use Rattle.std.specs.Prelude.{ℕ, List, [], ◌∷◌, Bool, true, false, not, Option, None, Some, codes}
-use Rattle.std.specs.Prelude.{take, bytes_eq, unwrap_or, is_some, option_map, option_and_then}
-use Rattle.std.specs.Prelude.{if◌then◌else◌}
+use Rattle.std.specs.Prelude.{◌==◌, ℕ, List, [], ◌∷◌, Bool, true, false, not, Option, None, Some, codes}
+use Rattle.std.specs.Prelude.{take, bytes_eq, unwrap_or, is_some}
+use Rattle.std.specs.Prelude.{option_map, option_and_then, if◌then◌else◌}
 use Rattle.command_parts.specs.declared.command.Command.{Command}
 use Rattle.command_parts.specs.declared.command.Command.TheVariants.{Compile, Verify, List as Lists}
 use Rattle.command_parts.specs.declared.command.Command.TheVariants.{Run, Resume, Go, Assemble}
+use Rattle.command_parts.specs.declared.command.Command.TheVariants.{Sample, Usage}
 use Rattle.command_parts.specs.declared.options.Options.{Options}
 use Rattle.command_parts.specs.declared.options.TheConstants.{DEFAULT_STEPS, DEFAULT_SLEEPS, MAIN}
-use Rattle.command_parts.specs.Options.{no_options, options_from}
+use Rattle.command_parts.specs.declared.measure_words.TheConstants.{MOST_FUNCTIONS}
+use Rattle.command_parts.specs.Options.{no_options, number_up_to, options_from}
+use Rattle.command_parts.specs.declared.command.Command.TheVariants.{Sizes, Explain, Help, Version}
+use Rattle.command_parts.specs.declared.asked_words.TheConstants.{MOST_NUMBER}
+use Rattle.command_texts.specs.Explained.{is_explained}
+use Rattle.command_texts.specs.Forms.{is_word}
 
 -- it isn't empty and doesn't begin with two hyphens
 unfoldable pub is_plain : List ℕ → Bool
@@ -76,6 +82,35 @@ verify_of words = named (λ amx. alone (Verify amx)) words
 abbrev pub list_of : List (List ℕ) → Option Command
 list_of words = named (λ amx. alone (Lists amx)) words
 
+-- `sizes`: the file of a program
+abbrev pub sizes_of : List (List ℕ) → Option Command
+sizes_of words = named (λ amx. alone (Sizes amx)) words
+
+-- a number that some row has
+abbrev pub explain_on : Option ℕ → Option Command
+explain_on None = None
+explain_on (Some number) = if is_explained number then Some (Explain (Some number)) else None
+
+-- `explain`: all numbers, or one that is printed
+abbrev pub explain_of : List (List ℕ) → Option Command
+explain_of [] = Some (Explain None)
+explain_of (word ∷ []) = explain_on (number_up_to MOST_NUMBER word)
+explain_of (word ∷ next ∷ words) = None
+
+-- a word that some command has
+abbrev pub help_on : List ℕ → Option Command
+help_on word = if is_word word then Some (Help (Some word)) else None
+
+-- `help`: all commands, or the one with a word
+abbrev pub help_of : List (List ℕ) → Option Command
+help_of [] = Some (Help None)
+help_of (word ∷ []) = help_on word
+help_of (word ∷ next ∷ words) = None
+
+-- `version`
+abbrev pub version_of : List (List ℕ) → Option Command
+version_of words = alone Version words
+
 -- a run of a program with a script and an image of memory, for so many steps, from an entry
 abbrev pub run_with : List ℕ → List ℕ → List ℕ → Options → Option Command
 run_with amx script image o =
@@ -128,6 +163,38 @@ abbrev pub go_of : List (List ℕ) → Option Command
 go_of words = named (λ src. named (λ amx more.
     with_options (go_with src amx (optional_plain more).0) (optional_plain more).1)) words
 
+-- ---- those that measure
+
+-- a number that isn't 0
+abbrev pub unless_zero : ℕ → Option ℕ
+unless_zero n = if n == 0 then None else Some n
+
+-- how many functions a sample is asked to have: from 1 to the most
+abbrev pub functions_of : List ℕ → Option ℕ
+functions_of word = option_and_then unless_zero (number_up_to MOST_FUNCTIONS word)
+
+-- a sample of so many functions
+abbrev pub sample_with : List ℕ → List ℕ → Option Command
+sample_with number amx =
+    option_map (λ n. Sample (record { functions = n; amx = amx })) (functions_of number)
+
+-- `sample`: how many functions its source has, and the file of its program
+abbrev pub sample_of : List (List ℕ) → Option Command
+sample_of words =
+    named (λ number. named (λ amx more. option_and_then (λ command. alone command more)
+    (sample_with number amx))) words
+
+-- `usage`: a source
+abbrev pub usage_of : List (List ℕ) → Option Command
+usage_of words = named (λ src. alone (Usage src)) words
+
+-- one of them by its word
+abbrev pub measure_by : List ℕ → List (List ℕ) → Option Command
+measure_by word words =
+    if bytes_eq word (codes "sample") then sample_of words
+    else if bytes_eq word (codes "usage") then usage_of words
+    else None
+
 -- ---- by its word
 
 -- the command by its own word and those behind it
@@ -140,9 +207,18 @@ command_by word words =
     else if bytes_eq word (codes "go") then go_of words
     else if bytes_eq word (codes "compile") then compile_of words
     else if bytes_eq word (codes "assemble") then assemble_of words
-    else None
+    else measure_by word words
+
+-- the same, with those that tell of texts and sizes
+abbrev pub asked_by : List ℕ → List (List ℕ) → Option Command
+asked_by word words =
+    if bytes_eq word (codes "explain") then explain_of words
+    else if bytes_eq word (codes "help") then help_of words
+    else if bytes_eq word (codes "version") then version_of words
+    else if bytes_eq word (codes "sizes") then sizes_of words
+    else command_by word words
 
 -- no command without a word
 abbrev pub command_of : List (List ℕ) → Option Command
 command_of [] = None
-command_of (word ∷ words) = command_by word words
+command_of (word ∷ words) = asked_by word words

@@ -59,6 +59,15 @@ pub struct GoWords {
     pub sleeps: u32,
 }
 
+/// What `sample` is asked to do.
+#[derive(Debug, Drop)]
+pub struct SampleWords {
+    /// How many functions the source has, from 1 to 500.
+    pub functions: u32,
+    /// The name of the file that is put.
+    pub amx: Name,
+}
+
 /// What the program is asked to do. An option that isn't given has its default.
 #[derive(Debug, Drop)]
 pub enum Command {
@@ -66,7 +75,15 @@ pub enum Command {
     Assemble(AssembleWords),
     Verify { amx: Name },
     List { amx: Name },
+    Sizes { amx: Name },
+    /// All numbers are told, or one that is printed.
+    Explain { number: Option<u8> },
+    /// All commands are told, or the one with this word.
+    Help { word: Option<Name> },
+    Version,
     Run(RunWords),
     Resume(ResumeWords),
     Go(GoWords),
+    Sample(SampleWords),
+    Usage { src: Name },
 }

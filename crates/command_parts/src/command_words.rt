@@ -9,7 +9,9 @@ ghost use Rattle.command_parts.specs.Command.{run_with, resume_with, go_with};
 ghost use Rattle.command_parts.specs.Command.{is_plain, first_plain, optional_plain};
 ghost use Rattle.command_parts.specs.Front.{AreImageWords, AreTwoNames, IsOnlyName, NoTwoNames};
 
+use super::asked_words::read_asked;
 use super::command::{AssembleWords, Command, CompileWords, GoWords, ResumeWords, RunWords};
+use super::measure_words::read_measure;
 use super::name::Name;
 use super::options::{DEFAULT_SLEEPS, DEFAULT_STEPS, MAIN, Options, read_options};
 use pawn_base::{Bytes, Memory};
@@ -53,11 +55,11 @@ pub fn read_words(alloc: Global, words: &[String]) -> Result<Command, WordsFault
     let Some((word, rest)) = words.split_first() else {
         return Err(WordsFault::Bad);
     };
-    read_command(alloc, word.as_str(), rest)
+    read_asked(alloc, word.as_str(), rest)
 }
 
 /// Reads a command by its word and the words behind it.
-fn read_command(alloc: Global, word: &str, rest: &[String]) -> Result<Command, WordsFault>
+pub fn read_command(alloc: Global, word: &str, rest: &[String]) -> Result<Command, WordsFault>
     ensures { Reads (command_by word.now (map string_bytes rest.now)) result }
 {
     if word == "verify" {
@@ -75,7 +77,7 @@ fn read_command(alloc: Global, word: &str, rest: &[String]) -> Result<Command, W
     } else if word == "assemble" {
         read_assemble(alloc, rest)
     } else {
-        Err(WordsFault::Bad)
+        read_measure(alloc, word, rest)
     }
 }
 
@@ -260,7 +262,7 @@ fn entry_or_main(alloc: Global, entry: Option<Bytes>) -> Result<Bytes, WordsFaul
 }
 
 /// Reads a plain word with nothing behind it.
-fn read_only_name(alloc: Global, words: &[String]) -> Result<Name, WordsFault>
+pub fn read_only_name(alloc: Global, words: &[String]) -> Result<Name, WordsFault>
     ensures { IsOnlyName (map string_bytes words.now) result }
 {
     let (name, rest) = read_name(alloc, words)?;
@@ -272,7 +274,10 @@ fn read_only_name(alloc: Global, words: &[String]) -> Result<Name, WordsFault>
 }
 
 /// Reads two plain words, and gives the words behind them.
-fn read_two_names(alloc: Global, words: &[String]) -> Result<(Name, Name, &[String]), WordsFault>
+pub fn read_two_names(
+    alloc: Global,
+    words: &[String],
+) -> Result<(Name, Name, &[String]), WordsFault>
     ensures plain { IfOk result (λ it. AreTwoNames (map string_bytes words.now) it.0 it.1
         (map string_bytes it.2.now)) }
     ensures bad { IfErr result (NoTwoNames (map string_bytes words.now)) }

@@ -2,8 +2,10 @@
 //! where a command stops.
 #![tactic(auto)]
 
+mod asked_words;
 mod command;
 mod command_words;
+mod measure_words;
 mod name;
 mod named_stop;
 mod options;
@@ -16,8 +18,12 @@ mod stop;
 mod telling;
 mod valid;
 
-pub use command::{AssembleWords, Command, CompileWords, GoWords, ResumeWords, RunWords};
+pub use asked_words::MOST_NUMBER;
+pub use command::{
+    AssembleWords, Command, CompileWords, GoWords, ResumeWords, RunWords, SampleWords,
+};
 pub use command_words::{WordsFault, read_words};
+pub use measure_words::MOST_FUNCTIONS;
 pub use name::Name;
 pub use named_stop::{no_entry, no_file, refused, unregistered};
 pub use options::{DEFAULT_SLEEPS, DEFAULT_STEPS, MAIN};

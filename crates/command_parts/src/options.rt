@@ -107,7 +107,7 @@ impl Options {
 }
 
 /// The number that a word is the plain decimal form of, where it isn't above a limit.
-fn number_up_to(word: &str, most: u64) -> Option<u64>
+pub fn number_up_to(word: &str, most: u64) -> Option<u64>
     ensures value { result ≡ number_up_to most word.now }
     ensures within { IfSome result (λ number. number ≤ most) }
 {

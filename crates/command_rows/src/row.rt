@@ -25,6 +25,8 @@ pub enum Row<'a> {
     Use(&'a str),
     /// `text`: what the last command wrote goes on the content.
     Wrote,
+    /// `word N`: the Nth word of what the last command wrote goes on the content.
+    Word(u32),
     /// `set PLACE HEX`: bytes of the piece are changed.
     Set(u32, &'a str),
     /// `cut N`: the piece keeps so many bytes.
@@ -93,6 +95,7 @@ fn of_number<'a>(sign: &str, rest: &'a str) -> Row<'a> {
         ("room", Ok(bytes)) => Row::Room(bytes),
         ("*", Ok(times)) => Row::Times(times),
         ("cut", Ok(length)) => Row::Cut(length),
+        ("word", Ok(number)) => Row::Word(number),
         _ => match rest.split_once(' ') {
             Some((number, rest)) => of_two(sign, number, rest),
             None => Row::Bad,

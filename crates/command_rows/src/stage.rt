@@ -1,5 +1,6 @@
 //! Files in memory, and what commands over them come to.
 
+use super::page::{PageRow, words_of};
 use super::piece::Content;
 use super::row::Row;
 use anyhow::bail;
@@ -72,6 +73,7 @@ impl Stage {
             Row::Text(text) => self.content.add(text.as_bytes()),
             Row::Hex(text) => self.content.add_hex(text),
             Row::Wrote => self.content.add(&self.last),
+            Row::Word(number) => self.add_word(number),
             Row::Times(count) => self.content.repeat(count),
             Row::End => self.content.end_piece(),
             Row::Set(place, text) => {
@@ -84,6 +86,19 @@ impl Stage {
             }
             _ => Ok(()),
         }
+    }
+
+    /// Puts a word of what the last command wrote on the content, by its number from 1.
+    fn add_word(&mut self, number: u32) -> anyhow::Result<()> {
+        let told = String::from_utf8_lossy(self.alloc, &self.last)?;
+        let mut place = 0u32;
+        for word in told.split_whitespace() {
+            place = place.saturating_add(1);
+            if place == number {
+                self.content.add(word.as_bytes())?;
+            }
+        }
+        Ok(())
     }
 
     /// Begins a case: nothing is held.
@@ -191,6 +206,42 @@ impl Stage {
             _ => false,
         };
         println!(rt; "same {names} {}", if same { "yes" } else { "no" })?;
+        Ok(())
+    }
+
+    /// Tells how many rows a page of numbers has, each that `explain` doesn't tell so, and how many
+    /// lines `explain` has.
+    pub fn compare(&mut self, rt: &impl Print, page: &str) -> anyhow::Result<()> {
+        let mut words = "";
+        let mut rows = 0u32;
+        for line in page.lines() {
+            if let Some(title) = line.strip_prefix("## ") {
+                words = words_of(title);
+            }
+            if let Some(row) = PageRow::read(line) {
+                rows = rows.saturating_add(1);
+                self.compare_row(rt, row, words)?;
+            }
+        }
+        self.serve("explain", self.room)?;
+        let lines = self.last.iter().filter(|byte| **byte == b'\n').count();
+        println!(rt; "== the page of numbers\nrows {rows} explained {lines}")?;
+        Ok(())
+    }
+
+    fn compare_row(
+        &mut self,
+        rt: &impl Print,
+        row: PageRow<'_>,
+        words: &str,
+    ) -> anyhow::Result<()> {
+        let command = format!(in self.alloc; "explain {}", row.number)?;
+        self.serve(command.as_str(), self.room)?;
+        let told = String::from_utf8_lossy(self.alloc, &self.last)?;
+        let text = row.text(self.alloc, words)?;
+        if !told.contains(text.as_str()) {
+            println!(rt; "not told: {text}")?;
+        }
         Ok(())
     }
 

@@ -12,7 +12,7 @@ use Rattle.amx_ops.specs.declared.amx.Amx.{Amx}
 use Rattle.amx_ops.specs.Trace.{Main, address_of}
 use Rattle.gen_agrees.specs.Agrees.{Agrees, IsRoom, Serves}
 use Rattle.gen_agrees.specs.Shape.{HasEntry}
-use Rattle.gen_agrees.proofs.GivesLaws.{what_agreement_gives_lem}
+use Rattle.run_laws.proofs.WholeLaws.{agreement_is_whole_lem}
 use Rattle.commands.specs.Meant.{IsMeant}
 use Rattle.commands.specs.Served.{AreServed}
 use Rattle.commands.proofs.BoundNativeLaws.{serves}
@@ -35,12 +35,5 @@ module _ (program : Program) (amx : Amx) (agrees : Agrees program amx) (f : ℕ)
   meant steps sleeps script keeps served =
       let all : Serves script program.natives =
       serves script amx.natives program.natives agrees.shape.natives served in
-      record {
-        agrees =
-            agrees.runs script amx.room Main f amx.entry steps
-            (replicate sleeps steps) keeps all within main main_address;
-        whole = λ limit end enough.
-            what_agreement_gives_lem program amx agrees script amx.room Main f amx.entry steps
-            (replicate sleeps steps) keeps all within main
-            main_address limit end enough;
-      }
+      agreement_is_whole_lem program amx agrees script amx.room Main f amx.entry steps
+      (replicate sleeps steps) keeps all within main main_address

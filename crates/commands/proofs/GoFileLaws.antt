@@ -71,7 +71,7 @@ end_no_fault (run_end.Exit value tag) = λ e. absurd (cc e)
 end_no_fault (run_end.Error code) = λ e. absurd (cc e)
 end_no_fault run_end.Stray = λ e. absurd (cc e)
 
-status_no_fault : (s : RunStop End) → status_of_stop s ≢ status.FileFault
+pub status_no_fault : (s : RunStop End) → status_of_stop s ≢ status.FileFault
 status_no_fault Steps = λ e. absurd (cc e)
 status_no_fault Asleep = λ e. absurd (cc e)
 status_no_fault (Over_by e) = end_no_fault e

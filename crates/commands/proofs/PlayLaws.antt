@@ -33,7 +33,7 @@ module _ (old : Machine) (is_first : old ≡ first old.amx)
   abbrev starts_at : Machine → Option State
   starts_at m = start_at old.amx old.amx.entry [] m.state
 
-  at_main : started old (negsuc 0) [] ≡ starts_at (first old.amx)
+  pub at_main : started old (negsuc 0) [] ≡ starts_at (first old.amx)
   at_main =
       ap (λ o. option_and_then (λ address. start_at old.amx address [] old.state) o) main
       ∙ ap starts_at is_first
@@ -55,7 +55,7 @@ module _ (old : Machine) (is_first : old ≡ first old.amx)
     fails : started old (negsuc 0) [] ≡ None → trace_of old.amx script steps sleeps ≡ by None
     fails e = ap by (sym at_main ∙ e)
 
-    no_room : (f : StartFault) (new : Machine)
+    pub no_room : (f : StartFault) (new : Machine)
         → StartsSo {T = Unit {0}} old (negsuc 0) [] (Err f) new
         → (started old (negsuc 0) [] ≡ None) × (error_of f ≡ pos 3)
     no_room fault.Index new it = absurd (cc (main, it.0))

@@ -109,12 +109,12 @@ restored_is amx digest bytes m n position e it is = record {
 module _ {S : Type 0} {writes : Writes S} {old new : S} where
   pub goes_on : (program : Program) (words : ResumeWords) (m : Machine) (position : ℕ)
       (ready : ReadySegment) (image : List ℕ) (held after : Option Held)
-      (answer : Status) → HasAll program m position ready → IsRestored program.file m
-      → image ≡ words.image
+      (answer : Status) → IsRunnable program.file → HasAll program m position ready
+      → IsRestored program.file m → image ≡ words.image
       → (let made = segment_of program.script (place_of ready) words.steps in
       Finishes writes held after image program.digest made.stop made.config old new answer)
       → ResumesState writes program words m.state position held after old new answer
-  goes_on program words m position ready image held after answer has restored named it =
+  goes_on program words m position ready image held after answer runs has restored named it =
       let P : Segmented Config End → Type 0 =
       λ made. Finishes writes held after words.image program.digest made.stop
       made.config old new answer in
@@ -122,6 +122,7 @@ module _ {S : Type 0} {writes : Writes S} {old new : S} where
       (let made = segment_of program.script (place_of ready) words.steps in
       Finishes writes held after i program.digest made.stop made.config old new answer) in
       inr (record {
+        runnable = runs;
         served = has.served;
         finishes =
             subst P (segment_is program m position ready has restored words.steps)

@@ -24,7 +24,7 @@ use Rattle.command_parts.specs.declared.program.Program.{Program}
 use Rattle.commands.specs.declared.ready_segment.ReadySegment.{ReadySegment}
 use Rattle.commands.specs.Prepared.{CanRun, IsPrepared}
 use Rattle.commands.specs.ReadySegment.{IsReadySegment}
-use Rattle.commands.proofs.SizeLaws.{segment_sized, slept}
+use Rattle.run_laws.proofs.SizeLaws.{segment_sized, slept}
 
 module _ (script : Script) (old new : Place) (bound count : ℕ)
     (stands : Stands old (segment_of script old bound) count new)
@@ -76,7 +76,7 @@ pushed_all_sized size [] s h = h
 pushed_all_sized size (v ∷ vs) s h =
     pushed_by_sized size v (pushed_all vs s) (pushed_all_sized size vs s h)
 
-started_sized : (amx : Amx) (address : ℤ) (s t : State) → start_at amx address [] s ≡ Some t
+pub started_sized : (amx : Amx) (address : ℤ) (s t : State) → start_at amx address [] s ≡ Some t
     → length t.cells ≡ length s.cells
 started_sized amx address s t e =
     subst (λ o. IfSome o (Same (length s.cells))) e

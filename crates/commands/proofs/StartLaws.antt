@@ -148,7 +148,7 @@ ready_there program ready name number prepared can script there m begins =
 
 pub finishes_there : {S : Type 0} (writes : Writes S) (program : Program) (ready : ReadySegment)
     (words : RunWords) (number : ℤ)
-    (prepared : IsPrepared program ready)
+    (can : CanRun program.file) (prepared : IsPrepared program ready)
     (there : IsEntryOf program.file words.entry (Some number)) (m : Machine)
     → StartsSo {T = Unit {0}} ready.machine number [] (Ok tt) m → (image : List ℕ)
     → image ≡ words.image → (held after : Option Held) (old new : S) (answer : Status)
@@ -157,7 +157,7 @@ pub finishes_there : {S : Type 0} (writes : Writes S) (program : Program) (ready
     words.steps in
     Finishes writes held after image program.digest made.stop made.config old new answer)
     → RunsEntry writes program words held after old new answer
-finishes_there writes program ready words number prepared there m begins image named held after old
+finishes_there writes program ready words number can prepared there m begins image named held after old
     new answer it =
     let P : Segmented Config End → Type 0 =
     λ made. Finishes writes held after words.image program.digest made.stop made.config
@@ -169,6 +169,7 @@ finishes_there writes program ready words number prepared there m begins image n
     let same =
     segment_is program ready words.entry number prepared there m begins words.steps in
     record {
+      runnable = can.runnable;
       address = there.0;
       entry = there.1;
       served = prepared.served;
@@ -181,7 +182,7 @@ finishes_there writes program ready words number prepared there m begins image n
 
 pub finishes_at_once : {S : Type 0} (writes : Writes S) (program : Program) (ready : ReadySegment)
     (words : RunWords) (number : ℤ)
-    (prepared : IsPrepared program ready)
+    (can : CanRun program.file) (prepared : IsPrepared program ready)
     (there : IsEntryOf program.file words.entry (Some number)) (f : StartFault)
     (m : Machine)
     → StartsSo {T = Unit {0}} ready.machine number [] (Err f) m → (code : ℤ) → code ≡ error_of f
@@ -189,7 +190,7 @@ pub finishes_at_once : {S : Type 0} (writes : Writes S) (program : Program) (rea
     (answer : Status) → writes old new (end_text (end.Error code)) told
     → answer ≡ status_told status.Ended told
     → RunsEntry writes program words held held old new answer
-finishes_at_once {S} writes program ready words number prepared there f m failed code e held old new
+finishes_at_once {S} writes program ready words number can prepared there f m failed code e held old new
     told answer line is =
     let none =
     no_room ready.machine number there.0
@@ -197,6 +198,7 @@ finishes_at_once {S} writes program ready words number prepared there f m failed
     (Unit {0}) f m failed in
     let P : ℤ → Type 0 = λ z. writes old new (end_text (end.Error z)) told in
     record {
+      runnable = can.runnable;
       address = there.0;
       entry = there.1;
       served = prepared.served;

@@ -2,6 +2,7 @@
 use Rattle.std.specs.Prelude.{◌≡◌, ◌⊎◌, ℕ, List, [], Option, Some}
 use Rattle.pawn_outside.specs.Held.{Held}
 use Rattle.host_script.specs.declared.event.End.{End}
+use Rattle.amx_ops.specs.Keeps.{IsRunnable}
 use Rattle.amx_ops.specs.Moves.{Config, move}
 use Rattle.amx_ops.specs.Runs.{Segmented, segment}
 use Rattle.amx_ops.specs.State.{State}
@@ -32,10 +33,11 @@ segment_from program s position steps =
 
 -- ---- from a state
 
--- the natives are served, and it ends as the segment from there does
+-- the file can be run and the natives are served, and it ends as the segment from there does
 pub record GoesOn {S : Type 0} (writes : Writes S) (program : Program) (words : ResumeWords)
     (s : State) (position : ℕ) (held after : Option Held)
     (old new : S) (answer : Status) : Type 0 where
+  pub runnable : IsRunnable program.file
   pub served : IsServed program
   pub finishes : let made = segment_from program s position words.steps in
       Finishes writes held after words.image program.digest made.stop made.config old new answer

@@ -2,6 +2,7 @@
 use Rattle.std.specs.Prelude.{◌≡◌, ◌⊎◌, ℕ, ℤ, [], Option, Some}
 use Rattle.pawn_outside.specs.Held.{Held}
 use Rattle.host_script.specs.declared.event.End.{End}
+use Rattle.amx_ops.specs.Keeps.{IsRunnable}
 use Rattle.amx_ops.specs.Moves.{Config}
 use Rattle.amx_ops.specs.Runs.{Traced}
 use Rattle.amx_ops.specs.Trace.{trace_from}
@@ -30,9 +31,11 @@ pub record IsStopped {S : Type 0} (writes : Writes S) (cause : Stop → Type 0)
   pub kept : after ≡ held
   pub tells : TellsStop stop writes old new answer
 
--- the entry is there and the natives are served, and it ends as its trace does
+-- the entry of a file that can be run is there and the natives are served, and it ends as its trace
+-- does
 pub record RunsEntry {S : Type 0} (writes : Writes S) (program : Program) (words : RunWords)
     (held after : Option Held) (old new : S) (answer : Status) : Type 0 where
+  pub runnable : IsRunnable program.file
   pub address : ℤ
   pub entry : address_named program.file words.entry ≡ Some address
   pub served : IsServed program

@@ -5,6 +5,7 @@ ghost use Rattle.commands.specs.GoodGo.{GoodIsGone};
 ghost use Rattle.commands.specs.GoodImage.{GoodImagesAreRead};
 ghost use Rattle.commands.specs.GoodSource.{GoodSourcesGo};
 ghost use Rattle.commands.specs.GoodText.{GoodIsAssembled};
+ghost use Rattle.commands.specs.PutIsResumed.{PutIsResumed};
 ghost use Rattle.pawn_outside.specs.Said.{Said};
 
 use pawn_outside::Sink;
@@ -50,6 +51,13 @@ pub fn good_is_run<S: Sink>()
 #[tactic(auto, using(crate::proofs::DoneLaws::good_is_resumed))]
 pub fn good_is_resumed<S: Sink>()
     ensures { GoodIsResumed (Said S.taken S.faults S.has_room) }
+{}
+
+/// Where files tell what they hold: an image that `run` or `resume` put is no faulty one for the next
+/// `resume`, which goes on from that sleep, but for a fault of the files or want of memory, and
+/// unless the sleep was the code's last instruction.
+pub fn put_is_resumed<S: Sink>()
+    ensures { PutIsResumed (Said S.taken S.faults S.has_room) }
 {}
 
 /// The same of `compile` with a source that has a program: the file isn't put, or is put.

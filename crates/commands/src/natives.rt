@@ -28,7 +28,7 @@ pub fn natives<F: Files>(
 }
 
 /// The plain script.
-fn plain(alloc: Global) -> Result<Script, Stop>
+pub fn plain(alloc: Global) -> Result<Script, Stop>
     ensures answer { IsPlain result }
     ensures ranges { IfOk result IsScript }
 {

@@ -26,7 +26,7 @@ pub fn compiled_source<F: Files>(
 }
 
 /// The stop at a source that isn't compiled, or want of memory for its name.
-fn stop_of(alloc: Global, src: &str, fault: CompileFault) -> Stop
+pub fn stop_of(alloc: Global, src: &str, fault: CompileFault) -> Stop
     ensures stop { IsStopOf (stop_of src.now fault) result }
     ensures files { fault ≡ CompileFault.Files → result ≡ Stop.FileFault }
 {

@@ -1,5 +1,5 @@
 -- What stops a call: its words, or the file that it reads; and what a call tells of a valid file.
-use Rattle.std.proofs.Common.{◌≡◌, ◌≢◌, inl, inr, ℕ, List as ListOf, Option, Ok, Err, refl, sym}
+use Rattle.std.proofs.Common.{◌≡◌, ◌≢◌, ◌∙◌, inl, inr, ℕ, List as ListOf, Option, Ok, Err, refl, sym}
 use Rattle.std.proofs.Common.{subst}
 use Rattle.pawn_outside.specs.Held.{Held}
 use Rattle.amx_ops.specs.declared.amx.Amx.{Amx}
@@ -15,6 +15,8 @@ use Rattle.command_parts.specs.ValidFile.{IsValidRead}
 use Rattle.command_parts.specs.Told.{Told, Writes, TellsStop, status_told}
 use Rattle.pawn_cli.specs.Answers.{Answers, NoCommand, bad_words, no_memory, words_stop}
 use Rattle.pawn_cli.specs.ReadsFile.{ReadsFile}
+use Rattle.pawn_cli.specs.Texts.{TellsText}
+use Rattle.command_parts.proofs.FaultCountLaws.{told_other}
 
 -- ---- words
 
@@ -40,6 +42,12 @@ module _ {S : Type 0} {writes : Writes S} {held : Option Held} {old new : S} whe
         kept = refl;
         tells = tells;
       })
+
+-- ---- texts
+
+pub text_no_fault : {S : Type 0} {writes : Writes S} {text : ListOf ℕ} {old new : S}
+    {answer : Status} → TellsText text writes old new answer → answer ≢ status.FileFault
+text_no_fault it = λ e. told_other status.Ok it.told (λ f. absurd (cc f)) (sym it.is ∙ e)
 
 -- ---- one file
 

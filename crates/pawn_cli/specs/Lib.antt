@@ -1,2 +1,4 @@
 pub mod Answers
 pub mod ReadsFile
+pub mod Sizes
+pub mod Texts

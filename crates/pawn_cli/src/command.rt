@@ -6,9 +6,11 @@ ghost use Rattle.command_parts.specs.Calls.{CommandCalls};
 ghost use Rattle.pawn_cli.specs.Answers.{Answers, Does, words_stop};
 
 use super::list::list;
+use super::sizes::sizes;
+use super::texts::{tell_explained, tell_help, tell_version};
 use super::verify::verify;
 use command_parts::{Command, Status, Stop, WordsFault, read_words, tell_stop};
-use commands::{assemble, compile, go, resume, run};
+use commands::{assemble, compile, go, resume, run, sample, usage};
 use pawn_outside::{Files, Sink};
 use std::alloc::Global;
 
@@ -51,8 +53,14 @@ fn serve<F: Files, S: Sink>(alloc: Global, command: Command, files: &mut F, out:
         Command::Assemble(words) => assemble(alloc, &words, files, out),
         Command::Verify { amx } => verify(alloc, amx.as_str(), files, out),
         Command::List { amx } => list(alloc, amx.as_str(), files, out),
+        Command::Sizes { amx } => sizes(alloc, amx.as_str(), files, out),
+        Command::Explain { number } => tell_explained(number, out),
+        Command::Help { word } => tell_help(&word, out),
+        Command::Version => tell_version(out),
         Command::Run(words) => run(alloc, &words, files, out),
         Command::Resume(words) => resume(alloc, &words, files, out),
         Command::Go(words) => go(alloc, &words, files, out),
+        Command::Sample(words) => sample(alloc, &words, files, out),
+        Command::Usage { src } => usage(alloc, src.as_str(), files, out),
     }
 }

@@ -3,9 +3,13 @@
 #![tactic(auto)]
 
 mod command;
+mod file_sizes;
 mod host;
 mod list;
+mod sizes;
+mod texts;
 mod verify;
+mod version;
 
 pub use command::pawn;
 pub use command_parts::Status;

@@ -8,13 +8,15 @@ use Rattle.pawn_tree.specs.Declarations.{Tree}
 use Rattle.tree_rules.specs.Brackets.{IsTooDeep}
 use Rattle.tree_rules.specs.Spells.{IsParse}
 use Rattle.pawn_parse.specs.Parses.{HasNoTree}
-use Rattle.types_rules.specs.TypedTrees.{typed}
+use Rattle.names_rules.specs.Verdict.{Stands}
+use Rattle.types_rules.specs.TypedTrees.{Checked as PlainChecked, typed}
 use Rattle.pawn_verdict.specs.declared.fault.CheckFault.{CheckFault}
 use Rattle.pawn_verdict.specs.declared.fault.CheckFault.TheVariants.{Source, Memory}
 use Rattle.pawn_verdict.specs.Answers.{Answers}
-use Rattle.pawn_check.specs.declared.checked.Checked.{Checked}
+use Rattle.pawn_check.specs.FunctionNames.{AreNames, function_names}
 use Rattle.pawn_check.specs.View.{checked_view}
-use Rattle.pawn_front.specs.Checks.{Cuts, Grows, ChecksTokens, Checks}
+use Rattle.pawn_front.specs.declared.checking.Named.{Named}
+use Rattle.pawn_front.specs.Checks.{Cuts, Grows, ChecksTree, ChecksTokens, Checks}
 use Rattle.pawn_front.specs.Faults.{too_deep, no_tree, by_tokens, by_tree, by_bytes}
 use Rattle.pawn_front.specs.Faults.{behind_bytes}
 use Rattle.pawn_front.specs.Places.{place_at}
@@ -43,12 +45,31 @@ grows_no_tree ts lent n fault same none e =
 
 -- ---- the program of tokens
 
-pub checks_tree : (ts : List Token) (tree : Tree) (dynamic : ℤ) (result : Result Checked CheckFault)
-    → IsParse ts tree
-    → Answers checked_view (typed tree dynamic) result → ChecksTokens ts dynamic result
-checks_tree ts tree dynamic (Ok it) parse e = record { tree = tree; is_tree = parse; is_typed = e }
-checks_tree ts tree dynamic (Err (Source kind place)) parse fails = by_tree tree parse fails.cause
-checks_tree ts tree dynamic (Err Memory) parse fails = tt
+pub tree_fails : (tree : Tree) (dynamic : ℤ) (fault : CheckFault)
+    → Answers checked_view (typed tree dynamic) (Err fault) → ChecksTree tree dynamic (Err fault)
+tree_fails tree dynamic (Source kind place) fails = fails.cause
+tree_fails tree dynamic Memory fails = tt
+
+pub tree_named : (tree : Tree) (dynamic : ℤ) (it : Named)
+    → Answers checked_view (typed tree dynamic) (Ok it.checked) → it.names ≡ function_names tree
+    → ((room : ℤ) (other : PlainChecked) → typed tree room ≡ Stands other
+    → AreNames other.program it.names)
+    → ChecksTree tree dynamic (Ok it)
+tree_named tree dynamic it e names named = record {
+  is = e;
+  names_are = names;
+  named = named dynamic (checked_view it.checked) e;
+}
+
+pub checks_tree : (ts : List Token) (tree : Tree) (dynamic : ℤ) (result : Result Named CheckFault)
+    → IsParse ts tree → ChecksTree tree dynamic result → ChecksTokens ts dynamic result
+checks_tree ts tree dynamic (Ok it) parse has = record {
+  is = record { tree = tree; is_tree = parse; is_typed = has.is };
+  names_are = has.names_are;
+  named = has.named;
+}
+checks_tree ts tree dynamic (Err (Source kind place)) parse fault = by_tree tree parse fault
+checks_tree ts tree dynamic (Err Memory) parse fault = tt
 
 pub no_tree_checked : (ts : List Token) (dynamic : ℤ) (fault : CheckFault) → Grows ts (Err fault)
     → ChecksTokens ts dynamic (Err fault)
@@ -62,9 +83,13 @@ pub no_tokens_checked : (lines : Lines) (fault : CheckFault) → Cuts lines.line
 no_tokens_checked lines (Source kind place) first = by_bytes first
 no_tokens_checked lines Memory first = tt
 
-pub checks_behind : (lines : Lines) (ts : List Token) (result : Result Checked CheckFault)
+pub checks_behind : (lines : Lines) (ts : List Token) (result : Result Named CheckFault)
     → AreTokens lines.lines ts
     → ChecksTokens ts lines.dynamic result → Checks lines result
-checks_behind lines ts (Ok it) are typed = record { tokens = ts; are_tokens = are; typed = typed }
+checks_behind lines ts (Ok it) are has = record {
+  is = record { tokens = ts; are_tokens = are; typed = has.is };
+  names_are = has.names_are;
+  named = has.named;
+}
 checks_behind lines ts (Err (Source kind place)) are breaks = behind_bytes ts are breaks
 checks_behind lines ts (Err Memory) are breaks = tt

@@ -1,4 +1,5 @@
--- What `compile` answers, by what the preprocessor does, and what the layers behind it do.
+-- What `program` and `compile` answer, by what the preprocessor does, and what the layers behind it
+-- do.
 use Rattle.std.proofs.Common.{◌≡◌, ◌∙◌, ℕ, List, Option, Some, Result, Ok, Err, refl, sym, ap}
 use Rattle.std.proofs.Common.{subst}
 use Rattle.pawn_cells.specs.declared.place.Place.{Place}
@@ -10,13 +11,18 @@ use Rattle.pawn_pre.specs.declared.line.Lines.{Lines}
 use Rattle.pawn_pre.specs.Answers.{Answers}
 use Rattle.pawn_pre.specs.Outcome.{Whole}
 use Rattle.amx_format.specs.declared.encoding.Encoding.{Encoding}
+use Rattle.pawn_meaning.specs.Program.{Program}
+use Rattle.pawn_meaning.specs.View.{program_view}
 use Rattle.pawn_front.specs.declared.compiled.Compiled.{Compiled}
+use Rattle.pawn_front.specs.declared.compiled.Warning.{Warning}
+use Rattle.pawn_front.specs.declared.sourced.Sourced.{Sourced}
 use Rattle.pawn_front.specs.declared.fault.CompileFault.{CompileFault}
 use Rattle.pawn_front.specs.declared.fault.CompileFault.TheVariants as compile
 use Rattle.pawn_front.specs.Checks.{fault_of, Refuses, RefusesLines}
-use Rattle.pawn_front.specs.Compiled.{Compiles, CompilesLines}
+use Rattle.pawn_front.specs.Compiled.{Compiles, MakesFile}
 use Rattle.pawn_front.specs.Faults.{Breaks, by_lines, behind_lines, NotCompiled}
-use Rattle.pawn_front.specs.Means.{ComesTo}
+use Rattle.pawn_front.specs.Means.{ComesTo, Means}
+use Rattle.pawn_front.specs.Sourced.{IsSourced, Sources, SourcesLines}
 
 -- ---- of lines
 
@@ -33,21 +39,32 @@ refuses_lines lines kind place compile.Memory breaks it = tt
 
 -- ---- of a source
 
-pub compiles : (held : Option Held) (name : List ℕ) (lines : Lines) (encoding : Encoding)
-    (result : Result Compiled CompileFault)
-    → ComesTo held name (Whole lines) → CompilesLines lines encoding result
-    → Compiles held name encoding result
-compiles held name lines encoding (Ok it) comes is = record {
-  program = is.program;
-  means = record { lines = lines; comes = comes; has = is.is };
-  has = is.has;
+pub sources : (held : Option Held) (name : List ℕ) (lines : Lines)
+    (result : Result Sourced CompileFault)
+    → ComesTo held name (Whole lines) → SourcesLines lines result → Sources held name result
+sources held name lines (Ok it) comes is = record {
+  means = record { lines = lines; comes = comes; has = is.has };
+  names_are = is.names_are;
+  whole = is.whole;
 }
-compiles held name lines encoding (Err (compile.Refused kind file line)) comes is =
+sources held name lines (Err (compile.Refused kind file line)) comes is =
     behind_lines lines is.place comes is.breaks is.file_is is.line_is
-compiles held name lines encoding (Err compile.NoSource) comes is = absurd is
-compiles held name lines encoding (Err (compile.TooLarge file)) comes is = absurd is
-compiles held name lines encoding (Err compile.Files) comes is = tt
-compiles held name lines encoding (Err compile.Memory) comes is = tt
+sources held name lines (Err compile.NoSource) comes is = absurd is
+sources held name lines (Err (compile.TooLarge file)) comes is = absurd is
+sources held name lines (Err compile.Files) comes is = tt
+sources held name lines (Err compile.Memory) comes is = tt
+
+pub compiles : (held : Option Held) (name : List ℕ) (encoding : Encoding) (it : Sourced)
+    (result : Result Compiled CompileFault) → IsSourced held name it
+    → MakesFile (program_view it.program) it.warnings encoding result
+    → Compiles held name encoding result
+compiles held name encoding it (Ok made) is has = record {
+  program = program_view it.program;
+  means =
+      subst (Means held name (program_view it.program)) (sym has.warnings_are) is.means;
+  has = has.has;
+}
+compiles held name encoding it (Err fault) is e = subst (NotCompiled held name) (sym e) tt
 
 not_by_lines : (held : Option Held) (name : List ℕ) (fault : PreFault)
     → ((files : Held) → held ≡ Some files → Answers files name (Err fault))
@@ -67,10 +84,17 @@ not_compiled held name fault given comes e =
 
 -- ---- of the files
 
-no_files : (lines : Lines) (encoding : Encoding) (result : Result Compiled CompileFault)
-    → CompilesLines lines encoding result
+no_files : (lines : Lines) (result : Result Sourced CompileFault) → SourcesLines lines result
     → result ≡ Err compile.Files → ⊥
-no_files lines encoding result is e = subst (CompilesLines lines encoding) e is
+no_files lines result is e = subst (SourcesLines lines) e is
+
+-- making the file of a program reads none
+pub makes_no_fault : (program : Program) (warnings : List Warning) (encoding : Encoding)
+    (result : Result Compiled CompileFault) → MakesFile program warnings encoding result
+    → result ≡ Err compile.Files → ⊥
+makes_no_fault program warnings encoding result is e =
+    let none : compile.Files ≡ compile.Memory = subst (MakesFile program warnings encoding) e is in
+    absurd (cc none)
 
 files_only : (fault : PreFault) → fault_of fault ≡ compile.Files → fault ≡ pre.Files
 files_only (pre.Source kind place file) e = absurd (cc e)
@@ -82,21 +106,21 @@ files_only pre.Memory e = absurd (cc e)
 module _ {F : Type 0} {held : F → Option Held} {faults : F → ℕ} {never_fails : F → Type 0}
     {old new : F} where
   -- they were read before
-  pub read_before : (lines : Lines) (encoding : Encoding) (result : Result Compiled CompileFault)
-      → CompilesLines lines encoding result
+  pub read_before : (lines : Lines) (result : Result Sourced CompileFault)
+      → SourcesLines lines result
       → {made : Result Lines PreFault} → made ≡ Ok lines
       → OnlyRead held faults never_fails old new (made ≡ Err pre.Files)
       → OnlyRead held faults never_fails old new (result ≡ Err compile.Files)
-  read_before lines encoding result is good it = record {
+  read_before lines result is good it = record {
     same = it.same;
     steady = λ none. it.steady (λ e. absurd (cc (good, e)));
-    cause = λ fails. absurd (no_files lines encoding result is fails);
-    unfailing = λ never. ((it.unfailing never).0, no_files lines encoding result is);
+    cause = λ fails. absurd (no_files lines result is fails);
+    unfailing = λ never. ((it.unfailing never).0, no_files lines result is);
   }
 
   -- their fault is told as one
   pub read_fault : (fault : PreFault) (given : CompileFault) {made : Result Lines PreFault}
-      {result : Result Compiled CompileFault}
+      {result : Result Sourced CompileFault}
       → given ≡ fault_of fault → made ≡ Err fault → result ≡ Err given
       → OnlyRead held faults never_fails old new (made ≡ Err pre.Files)
       → OnlyRead held faults never_fails old new (result ≡ Err compile.Files)

@@ -3,3 +3,5 @@ pub mod CompileLaws
 pub mod MakingLaws
 pub mod SizeLaws
 pub mod SourceLaws
+pub mod SourcedLaws
+pub mod StartLaws

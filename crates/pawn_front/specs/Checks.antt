@@ -10,12 +10,15 @@ use Rattle.pawn_lex.specs.declared.token.Token.{Token}
 use Rattle.pawn_lex.specs.declared.token.Tokens.{Tokens}
 use Rattle.pawn_lex.specs.Lines.{AreTokens, IsFirstFault}
 use Rattle.pawn_tree.specs.declared.declaration.Tree.{Tree}
+use Rattle.pawn_tree.specs.Declarations.{Tree as PlainTree}
 use Rattle.pawn_tree.specs.View.{tree_view}
 use Rattle.tree_rules.specs.Spells.{IsParse}
 use Rattle.pawn_meaning.specs.View.{program_view}
+use Rattle.types_rules.specs.IsTyped.{IsFault, IsTyped}
 use Rattle.pawn_verdict.specs.declared.fault.CheckFault.{CheckFault}
 use Rattle.pawn_verdict.specs.declared.fault.CheckFault.TheVariants as check
-use Rattle.pawn_check.specs.declared.checked.Checked.{Checked}
+use Rattle.pawn_check.specs.FunctionNames.{AreNames, function_names}
+use Rattle.pawn_front.specs.declared.checking.Named.{Named}
 use Rattle.pawn_front.specs.declared.fault.CompileFault.{CompileFault}
 use Rattle.pawn_front.specs.declared.fault.CompileFault.TheVariants as compile
 use Rattle.pawn_front.specs.Faults.{Breaks, BreaksTokens, BreaksTree}
@@ -33,16 +36,37 @@ Grows ts (Ok tree) = IsParse ts (tree_view tree)
 Grows ts (Err (check.Source kind place)) = BreaksTree ts kind place
 Grows ts (Err check.Memory) = Unit {0}
 
--- the program of tokens
-abbrev pub ChecksTokens : List Token → ℤ → Result Checked CheckFault → Type 0
-ChecksTokens ts dynamic (Ok it) =
-    IsProgramOfTokens ts dynamic (program_view it.program) it.warnings
+-- the program of a tree, with the names of its functions
+pub record IsNamedOfTree (tree : PlainTree) (dynamic : ℤ) (it : Named) : Type 0 where
+  pub is : IsTyped tree dynamic (program_view it.checked.program) it.checked.warnings
+  pub names_are : it.names ≡ function_names tree
+  pub named : AreNames (program_view it.checked.program) it.names
+
+abbrev pub ChecksTree : PlainTree → ℤ → Result Named CheckFault → Type 0
+ChecksTree tree dynamic (Ok it) = IsNamedOfTree tree dynamic it
+ChecksTree tree dynamic (Err (check.Source kind place)) =
+    IsFault tree dynamic (record { kind = kind; place = place })
+ChecksTree tree dynamic (Err check.Memory) = Unit {0}
+
+-- the program of tokens, with the names of its functions
+pub record IsNamedOfTokens (ts : List Token) (dynamic : ℤ) (it : Named) : Type 0 where
+  pub is : IsProgramOfTokens ts dynamic (program_view it.checked.program) it.checked.warnings
+  pub names_are : it.names ≡ function_names is.tree
+  pub named : AreNames (program_view it.checked.program) it.names
+
+abbrev pub ChecksTokens : List Token → ℤ → Result Named CheckFault → Type 0
+ChecksTokens ts dynamic (Ok it) = IsNamedOfTokens ts dynamic it
 ChecksTokens ts dynamic (Err (check.Source kind place)) = BreaksTokens ts dynamic kind place
 ChecksTokens ts dynamic (Err check.Memory) = Unit {0}
 
--- the program of lines
-abbrev pub Checks : Lines → Result Checked CheckFault → Type 0
-Checks lines (Ok it) = IsProgramOf lines (program_view it.program) it.warnings
+-- the program of lines, with the names of its functions
+pub record IsNamedOf (lines : Lines) (it : Named) : Type 0 where
+  pub is : IsProgramOf lines (program_view it.checked.program) it.checked.warnings
+  pub names_are : it.names ≡ function_names is.typed.tree
+  pub named : AreNames (program_view it.checked.program) it.names
+
+abbrev pub Checks : Lines → Result Named CheckFault → Type 0
+Checks lines (Ok it) = IsNamedOf lines it
 Checks lines (Err (check.Source kind place)) = Breaks lines kind place
 Checks lines (Err check.Memory) = Unit {0}
 

@@ -1,7 +1,6 @@
 -- What `compile` answers: the file of the program that the source means, or why there is none.
-use Rattle.std.specs.Prelude.{◌≤◌, ℕ, List, Option, Result, Ok, Err, length}
+use Rattle.std.specs.Prelude.{◌≡◌, ◌≤◌, ℕ, List, Option, Result, Ok, Err, length}
 use Rattle.pawn_outside.specs.Held.{Held}
-use Rattle.pawn_pre.specs.declared.line.Lines.{Lines}
 use Rattle.pawn_meaning.specs.Program.{Program}
 use Rattle.amx_ops.specs.declared.amx.Amx.{Amx}
 use Rattle.amx_format.specs.File.{IsFile}
@@ -10,10 +9,11 @@ use Rattle.amx_format.specs.declared.encoding.Encoding.{Encoding}
 use Rattle.amx_format.specs.declared.header.TheConstants.{FILE_LIMIT}
 use Rattle.gen_agrees.specs.Agrees.{Agrees}
 use Rattle.pawn_front.specs.declared.compiled.Compiled.{Compiled}
+use Rattle.pawn_front.specs.declared.compiled.Warning.{Warning}
 use Rattle.pawn_front.specs.declared.fault.CompileFault.{CompileFault}
-use Rattle.pawn_front.specs.Checks.{RefusesLines}
+use Rattle.pawn_front.specs.declared.fault.CompileFault.TheVariants.{Memory}
 use Rattle.pawn_front.specs.Faults.{NotCompiled}
-use Rattle.pawn_front.specs.Means.{HasProgram, Means}
+use Rattle.pawn_front.specs.Means.{Means}
 
 -- bytes of a file that does what a program means, in the writer's layout; there are no more than a
 -- file may have
@@ -36,15 +36,15 @@ abbrev pub Compiles : Option Held → List ℕ → Encoding → Result Compiled 
 Compiles held name encoding (Ok it) = IsCompiled held name encoding it
 Compiles held name encoding (Err fault) = NotCompiled held name fault
 
--- ---- of lines
+-- ---- of a program
 
--- the file of lines, and their warnings
-pub record IsOfLines (lines : Lines) (encoding : Encoding) (it : Compiled) : Type 0 where
-  pub program : Program
-  pub is : HasProgram lines program it.warnings
+-- the file of a source's program, and the source's warnings
+pub record IsFileOf (program : Program) (warnings : List Warning) (encoding : Encoding)
+    (it : Compiled) : Type 0 where
   pub has : HasFile program encoding it.bytes
+  pub warnings_are : it.warnings ≡ warnings
 
--- what compiling lines answers
-abbrev pub CompilesLines : Lines → Encoding → Result Compiled CompileFault → Type 0
-CompilesLines lines encoding (Ok it) = IsOfLines lines encoding it
-CompilesLines lines encoding (Err fault) = RefusesLines lines fault
+-- what making it answers
+abbrev pub MakesFile : Program → List Warning → Encoding → Result Compiled CompileFault → Type 0
+MakesFile program warnings encoding (Ok it) = IsFileOf program warnings encoding it
+MakesFile program warnings encoding (Err fault) = fault ≡ Memory

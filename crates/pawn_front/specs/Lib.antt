@@ -5,3 +5,4 @@ pub mod Good
 pub mod Means
 pub mod OneProgram
 pub mod Places
+pub mod Sourced

@@ -1,11 +1,13 @@
 ghost use Rattle.std.specs.Prelude.{◌≡◌, ◌<◌, ◌≤◌, ◌-◌, ◌^◌, length, slice_get, IfOk};
 ghost use Rattle.pawn_pre.specs.Bounds.{IsBounded, bytes_of};
-ghost use Rattle.pawn_front.specs.Checks.{Checks, ChecksTokens, Cuts, Grows};
+ghost use Rattle.pawn_tree.specs.View.{tree_view};
+ghost use Rattle.pawn_front.specs.Checks.{Checks, ChecksTokens, ChecksTree, Cuts, Grows};
 ghost use Rattle.types_rules.specs.TypedTrees.{first_line};
 ghost use Rattle.pawn_front.specs.Places.{place_at, place_by};
 
+use pawn_base::{Bytes, List, Memory};
 use pawn_cells::Place;
-use pawn_check::{CheckFault, Checked, check};
+use pawn_check::{CheckFault, Checked, check, function_names};
 use pawn_lex::{LexFault, Token, Tokens, tokens};
 use pawn_parse::{ParseFault, parse};
 use pawn_pre::Lines;
@@ -18,9 +20,16 @@ const TOO_DEEP: u8 = 31;
 /// The rule that the tokens are those of a tree of at most 1,024 levels.
 const NO_TREE: u8 = 30;
 
+/// A program with its warnings, and the names of its functions.
+#[derive(Drop)]
+pub struct Named {
+    pub checked: Checked,
+    pub names: List<Bytes>,
+}
+
 /// The program of lines, or a fault of the first layer that refuses them: their bytes, their
 /// tokens, or their tree.
-pub fn check_lines(alloc: Global, lines: &Lines) -> Result<Checked, CheckFault>
+pub fn check_lines(alloc: Global, lines: &Lines) -> Result<Named, CheckFault>
     requires { IsBounded lines.now }
     ensures { Checks lines.now result }
 {
@@ -41,12 +50,23 @@ fn cut(alloc: Global, lines: &Lines) -> Result<Tokens, CheckFault>
 }
 
 /// The program of tokens, for a room of so many cells for heap and stack.
-fn check_tokens(alloc: Global, tokens: &Tokens, dynamic: i32) -> Result<Checked, CheckFault>
+fn check_tokens(alloc: Global, tokens: &Tokens, dynamic: i32) -> Result<Named, CheckFault>
     requires { length tokens.now.list < 2 ^ 32 - 1 }
     ensures { ChecksTokens tokens.now.list dynamic result }
 {
     let tree = tree_of(alloc, tokens)?;
-    check(alloc, &tree, dynamic)
+    check_tree(alloc, &tree, dynamic)
+}
+
+/// The program of a tree, with the names of its functions.
+fn check_tree(alloc: Global, tree: &Tree, dynamic: i32) -> Result<Named, CheckFault>
+    ensures { ChecksTree (tree_view tree.now) dynamic result }
+{
+    let checked = check(alloc, tree, dynamic)?;
+    match function_names(alloc, tree) {
+        Ok(names) => Ok(Named { checked, names }),
+        Err(Memory) => Err(CheckFault::Memory),
+    }
 }
 
 /// The tree of tokens.

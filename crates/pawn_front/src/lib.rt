@@ -10,9 +10,11 @@ mod good;
 mod making;
 mod one_program;
 mod source;
+mod sourced;
 
 pub use amx_format::Encoding;
 pub use compiled::{Compiled, Warning};
 pub use fault::CompileFault;
 pub use one_program::{a_source_has_one_program, what_means_is_not_refused};
-pub use source::compile;
+pub use source::{compile, program};
+pub use sourced::Sourced;

@@ -1,5 +1,5 @@
 use Rattle.command_parts.proofs.WordLaws.{by_verify, by_list, by_run, by_resume, by_go, by_compile}
-use Rattle.command_parts.proofs.WordLaws.{by_assemble, by_none}
+use Rattle.command_parts.proofs.WordLaws.{by_assemble, by_measure}
 use Rattle.command_parts.proofs.command_words.read_command.Goals as goal
 
 pub returns-then-eq : goal.returns-then-eq
@@ -40,5 +40,6 @@ returns-then-eq-7 c =
 
 pub returns-else-eq-7 : goal.returns-else-eq-7
 returns-else-eq-7 c =
-    by_none c.args.word.now _ c.if-eq.ensures c.if-eq-2.ensures c.if-eq-3.ensures c.if-eq-4.ensures
-    c.if-eq-5.ensures c.if-eq-6.ensures c.if-eq-7.ensures
+    by_measure c.args.word.now _ c.read_measure.result c.if-eq.ensures c.if-eq-2.ensures
+    c.if-eq-3.ensures c.if-eq-4.ensures c.if-eq-5.ensures c.if-eq-6.ensures c.if-eq-7.ensures
+    c.read_measure.ensures

@@ -8,5 +8,5 @@ returns-in_default c = command_none string_bytes c.args.words.now c.in_default.e
 pub returns : goal.returns
 returns c =
     command_is string_bytes c.args.words.now c.in-Some.rest.now c.in-Some.word.now
-    c.as_str.result.now c.read_command.result c.in-Some.ensures.cases.0
-    c.as_str.ensures.value c.read_command.ensures
+    c.as_str.result.now c.read_asked.result c.in-Some.ensures.cases.0
+    c.as_str.ensures.value c.read_asked.ensures

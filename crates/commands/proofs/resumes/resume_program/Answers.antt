@@ -35,7 +35,8 @@ returns-in-Ok-wake-clause-answer g c =
       image = it.image;
       resumes =
           goes_on c.args.program.now c.args.words.now it.machine it.position c.in-Ok-wake.ready
-          c.as_str-name.result.now _ _ c.run_on.result it.has it.restored c.as_str-name.ensures
+          c.as_str-name.result.now _ _ c.run_on.result c.runnable.ensures.can.runnable it.has
+          it.restored c.as_str-name.ensures
           c.run_on.ensures.answer;
     })))
 

@@ -24,7 +24,7 @@ returns-in-Ok-clause-answer g c =
     let fits : FitsSigned w32 c.args.entry = search rules in
     let started = rw (to_z-of_z w32 c.args.entry fits) at c.in-Ok.ensures in
     finishes_there _ c.args.program.now c.args.ready c.args.words.now c.args.entry
-    c.requires.prepared c.requires.there c.start.new.self started
+    c.requires.can c.requires.prepared c.requires.there c.start.new.self started
     c.as_str-image.result.now c.as_str-image.ensures _ _ c.args.out.now c.run_on.new.out
     c.run_on.result c.run_on.ensures.answer
 
@@ -40,7 +40,7 @@ returns-in-Err-clause-answer g c =
     let failed = subst P (to_z-of_z w32 c.args.entry fits) c.in-Err.ensures in
     let code_fits : FitsSigned w32 c.code.result = search rules in
     finishes_at_once _ c.args.program.now c.args.ready c.args.words.now c.args.entry
-    c.requires.prepared c.requires.there c.in-Err.fault
+    c.requires.can c.requires.prepared c.requires.there c.in-Err.fault
     c.start.new.self failed c.code.result c.code.ensures _ c.args.out.now c.say_end.new.out
     c.say_end.result c.told.result
     (rw (to_z-of_z w32 c.code.result code_fits) at c.say_end.ensures) c.told.ensures

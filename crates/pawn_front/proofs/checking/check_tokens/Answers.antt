@@ -15,6 +15,6 @@ returns-in_err-tree c =
 pub returns : goal.returns
 returns c =
     let fits : FitsSigned w32 c.args.dynamic = search rules in
-    checks_tree c.args.tokens.now.list (tree_view c.in_ok-tree.tree) c.args.dynamic c.check.result
-    c.in_ok-tree.ensures
-    (rw (to_z-of_z w32 c.args.dynamic fits) at c.check.ensures)
+    checks_tree c.args.tokens.now.list (tree_view c.in_ok-tree.tree) c.args.dynamic
+    c.check_tree.result c.in_ok-tree.ensures
+    (rw (to_z-of_z w32 c.args.dynamic fits) at c.check_tree.ensures)

@@ -1,27 +1,25 @@
-use Rattle.std.proofs.Common.{refl}
-use Rattle.std.proofs.lemmas.Result.{err_from_is_err_and}
-use Rattle.pawn_front.proofs.CompileLaws.{compiles, not_compiled, read_before, read_fault}
+use Rattle.std.proofs.Common.{◌≡◌, Err, ap}
+use Rattle.pawn_meaning.specs.View.{program_view}
+use Rattle.pawn_outside.proofs.OnlyReadLaws.{read_as}
+use Rattle.pawn_front.specs.declared.fault.CompileFault.TheVariants.{Files}
+use Rattle.pawn_front.proofs.CompileLaws.{compiles, makes_no_fault}
 use Rattle.pawn_front.proofs.source.compile.Goals as goal
 
-pub returns-in_err-lines-clause-answer : goal.returns-in_err-lines-clause-answer
-returns-in_err-lines-clause-answer g c =
-    let p = err_from_is_err_and c.from_residual.result c.from_residual.ensures.1 in
-    rw p.1
-    (not_compiled (g.F.Files.held c.args.files.now) c.args.name.now c.in_err-lines.field-0.0 p.0
-    c.in_err-lines.ensures.answers p.2)
+pub returns-in-Ok-clause-answer : goal.returns-in-Ok-clause-answer
+returns-in-Ok-clause-answer g c =
+    compiles (g.F.Files.held c.args.files.now) c.args.name.now c.args.encoding c.in-Ok.sourced
+    c.compile_program.result c.in-Ok.ensures.answer c.compile_program.ensures
 
-pub returns-in_err-lines-clause-files : goal.returns-in_err-lines-clause-files
-returns-in_err-lines-clause-files g c =
-    let p = err_from_is_err_and c.from_residual.result c.from_residual.ensures.1 in
-    read_fault c.in_err-lines.field-0.0 p.0 p.2 refl p.1 c.in_err-lines.ensures.files
+pub returns-in-Ok-clause-files : goal.returns-in-Ok-clause-files
+returns-in-Ok-clause-files g c =
+    read_as (λ e. absurd (makes_no_fault (program_view c.in-Ok.sourced.program)
+    c.in-Ok.sourced.warnings c.args.encoding c.compile_program.result c.compile_program.ensures e))
+    (λ e. absurd (cc e)) c.in-Ok.ensures.files
 
-pub returns-clause-answer : goal.returns-clause-answer
-returns-clause-answer g c =
-    compiles (g.F.Files.held c.args.files.now) c.args.name.now c.in_ok-lines.lines c.args.encoding
-    c.compile_lines.result c.in_ok-lines.ensures.answers
-    c.compile_lines.ensures
+pub compile_program-requires : goal.compile_program-requires
+compile_program-requires g c = c.in-Ok.ensures.answer.whole.good
 
-pub returns-clause-files : goal.returns-clause-files
-returns-clause-files g c =
-    read_before c.in_ok-lines.lines c.args.encoding c.compile_lines.result c.compile_lines.ensures
-    refl c.in_ok-lines.ensures.files
+pub returns-in-Err-clause-files : goal.returns-in-Err-clause-files
+returns-in-Err-clause-files g c =
+    read_as (λ e. let same : c.in-Err.fault ≡ Files = cc e in ap Err same)
+    (λ e. let same : c.in-Err.fault ≡ Files = cc e in ap Err same) c.in-Err.ensures.files

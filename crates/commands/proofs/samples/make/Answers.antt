@@ -1,0 +1,21 @@
+use Rattle.std.proofs.Common.{refl}
+use Rattle.command_parts.proofs.FaultCountLaws.{calls_other, calls_stopped}
+use Rattle.commands.proofs.SampleLaws.{sample_put, sample_unput}
+use Rattle.commands.proofs.samples.make.Goals as goal
+
+pub returns-in-Ok-clause-answer : goal.returns-in-Ok-clause-answer
+returns-in-Ok-clause-answer g c =
+    sample_put c.args.amx.now c.args.compiled.now.bytes c.as_slice-bytes.result.now _ _
+    c.run_bytes.result c.as_slice-bytes.ensures c.in-Ok.ensures.answer c.run_bytes.ensures.answer
+
+pub returns-in-Ok-clause-calls : goal.returns-in-Ok-clause-calls
+returns-in-Ok-clause-calls g c = calls_other c.run_bytes.ensures.fault c.in-Ok.ensures.calls
+
+pub returns-in-Err-clause-answer : goal.returns-in-Err-clause-answer
+returns-in-Err-clause-answer g c =
+    sample_unput c.args.amx.now c.args.compiled.now.bytes _ _ c.in-Err.stop c.tell_stop.result
+    c.in-Err.ensures.answer c.tell_stop.ensures
+
+pub returns-in-Err-clause-calls : goal.returns-in-Err-clause-calls
+returns-in-Err-clause-calls g c =
+    calls_stopped c.in-Err.stop c.tell_stop.result c.in-Err.ensures.calls refl c.tell_stop.ensures

@@ -1,0 +1,4 @@
+pub mod Calls
+pub mod EntryFunction
+pub mod OneLaw
+pub mod OneRun

@@ -1,0 +1,12 @@
+pub mod AddLaws
+pub mod ChainLaws
+pub mod EnoughLaws
+pub mod FrameLaws
+pub mod GraphLaws
+pub mod KeepLaws
+pub mod LiveCalls
+pub mod MarkLaws
+pub mod NodeLaws
+pub mod NodesKeep
+pub mod SearchLaws
+pub mod StepLaws

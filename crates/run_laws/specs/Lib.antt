@@ -1,0 +1,3 @@
+pub mod RestorableSleeps
+pub mod TraceOf
+pub mod WholeAgreement

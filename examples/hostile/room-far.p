@@ -1,0 +1,2 @@
+#pragma dynamic 0x7fffffff
+main() { }
