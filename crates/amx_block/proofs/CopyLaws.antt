@@ -4,15 +4,15 @@ use Rattle.std.proofs.Common.{suc, ℤ, pos, false, List, length, get_or, refl, 
 use Rattle.std.proofs.Common.{get_or-set_same, get_or-set_other, length-set, take, subst, w32}
 use Rattle.std.proofs.Common.{FitsSigned}
 use Rattle.std.specs.Prelude.{nat_le, slice_set}
-use Rattle.std.proofs.lemmas.List.{get_or-take, take-set-le}
+use Rattle.std.proofs.lemmas.List.{get_or-take, take-set-le, take-take}
 use Rattle.std.proofs.lemmas.Bool.{le-leb, lt-ltb}
 use Rattle.std.proofs.lemmas.Bool.Decides.{leb_tells}
 use Rattle.pawn_cells.specs.Cells.{char_at}
 use Rattle.amx_block.specs.Contents.{Contents, cell_at, with_cell, with_byte}
 use Rattle.amx_ops.specs.Access.{byte_at}
-use Rattle.amx_block.specs.Copied.{copied_byte, IsCopied, IsRun}
+use Rattle.amx_block.specs.Copied.{copied_byte, IsCopied, IsRun, IsRunFrom}
 
-same_or_not : (a b : ℕ) → (a ≡ b) ⊎ (a ≢ b)
+pub same_or_not : (a b : ℕ) → (a ≡ b) ⊎ (a ≢ b)
 same_or_not zero zero = inl refl
 same_or_not zero (suc b) = inr (λ e. omega (arith, e))
 same_or_not (suc a) zero = inr (λ e. omega (arith, e))
@@ -254,5 +254,70 @@ module _ (from to count i : ℕ) (old now : List ℤ) (v : ℤ) (is : v ≡ get_
         λ j h. get_or-set_other now (to + i) j v (pos 0) (λ e. omega (arith, e, h))
         ∙ r.behind j (omega (arith, h));
     front = take-set-le to now (to + i) v (omega arith) ∙ r.front;
+    size = length-set now (to + i) v ∙ r.size;
+  }
+
+-- ---- from the last cell on
+
+pub none_down : (low from to count : ℕ) (old : List ℤ) → count ≤ low
+    → IsRunFrom low from to count old old
+none_down low from to count old none = record {
+  copied = λ j l h. absurd (omega (arith, l, h, none));
+  fits = λ j l h. absurd (omega (arith, l, h, none));
+  behind = λ j h. refl;
+  front = refl;
+  size = refl;
+}
+
+pub all_down : (low from to count : ℕ) (old new : List ℤ) → low ≤ 0
+    → IsRunFrom low from to count old new → IsRunFrom 0 from to count old new
+all_down low from to count old new h r =
+    let none : low ≡ 0 = omega (arith, h) in
+    subst (λ n. IsRunFrom n from to count old new) none r
+
+module _ (from to count low i : ℕ) (old now : List ℤ) (v : ℤ)
+    (is : v ≡ get_or now (from + i) (pos 0)) (fit : FitsSigned w32 v) (above : from ≤ to)
+    (next : low ≡ i + 1) (less : i < count) (within : to + count ≤ length old)
+    (r : IsRunFrom low from to count old now) where
+  abbrev put : List ℤ
+  put = slice_set now (to + i) v
+
+  abbrev held : to + i < length now
+  held = omega (arith, less, within, r.size)
+
+  front_low : take (to + i) put ≡ take (to + i) old
+  front_low =
+      take-set-le (to + i) now (to + i) v (omega arith)
+      ∙ sym (take-take (to + i) (to + low) now (omega (arith, next))) ∙ ap (take (to + i)) r.front
+      ∙ take-take (to + i) (to + low) old (omega (arith, next))
+
+  copied_down : (j : ℕ) → to + i ≤ j → j < to + count
+      → get_or put j (pos 0) ≡ get_or old (from + (j - to)) (pos 0)
+  copied_down j l h = elim (same_or_not j (to + i)) [
+    | inl e ↦
+        let place : from + i ≡ from + (j - to) = omega (arith, e) in
+        ap (λ k. get_or put k (pos 0)) e ∙ get_or-set_same now (to + i) v (pos 0) held ∙ is
+        ∙ in_front (to + low) (from + i) old now r.front (omega (arith, above, next))
+        ∙ ap (λ k. get_or old k (pos 0)) place
+    | inr ne ↦ get_or-set_other now (to + i) j v (pos 0) ne
+        ∙ r.copied j (omega (arith, l, ne, next)) h
+  ]
+
+  fits_down : (j : ℕ) → to + i ≤ j → j < to + count → FitsSigned w32 (get_or put j (pos 0))
+  fits_down j l h = elim (same_or_not j (to + i)) [
+    | inl e ↦ subst (FitsSigned w32) (sym (ap (λ k. get_or put k (pos 0)) e
+        ∙ get_or-set_same now (to + i) v (pos 0) held)) fit
+    | inr ne ↦ subst (FitsSigned w32) (sym (get_or-set_other now (to + i) j v (pos 0) ne))
+        (r.fits j (omega (arith, l, ne, next)) h)
+  ]
+
+  pub run_down : IsRunFrom i from to count old put
+  run_down = record {
+    copied = copied_down;
+    fits = fits_down;
+    behind =
+        λ j h. get_or-set_other now (to + i) j v (pos 0) (λ e. omega (arith, e, h, less))
+        ∙ r.behind j h;
+    front = front_low;
     size = length-set now (to + i) v ∙ r.size;
   }

@@ -3,7 +3,7 @@
 use Rattle.std.specs.Prelude.{◌++◌, ◌+◌, ◌/◌, ◌%◌, ◌-◌, ◌≤◌, ℕ, ℤ, pos, List, length, take, drop}
 use Rattle.std.specs.Prelude.{replicate, slice_set}
 use Rattle.std.specs.List.{slice_index_or}
-use Rattle.pawn_cells.specs.Cells.{char_at, with_char}
+use Rattle.pawn_cells.specs.Cells.{with_char}
 use Rattle.amx_ops.specs.Writable.{cells_limit}
 
 -- all cells of a block
@@ -13,6 +13,10 @@ pub record Contents : Type 0 where
   pub memory : List ℤ
   -- how many of its cells are the data
   pub store : ℕ
+
+-- its cells in order, the code first
+abbrev pub all_cells : Contents → List ℤ
+all_cells block = block.code ++ block.memory
 
 -- the cell that an address lies in
 abbrev pub cell_at : List ℤ → ℕ → ℤ

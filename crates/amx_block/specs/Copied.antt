@@ -32,3 +32,13 @@ pub record IsRun (from to count : ℕ) (old new : List ℤ) : Type 0 where
       → slice_index_or new i (pos 0) ≡ slice_index_or old i (pos 0)
   pub front : take to new ≡ take to old
   pub size : length new ≡ length old
+
+-- those from number `low` on do, and all others are as they were
+pub record IsRunFrom (low from to count : ℕ) (old new : List ℤ) : Type 0 where
+  pub copied : (i : ℕ) → to + low ≤ i → i < to + count
+      → slice_index_or new i (pos 0) ≡ slice_index_or old (from + (i - to)) (pos 0)
+  pub fits : (i : ℕ) → to + low ≤ i → i < to + count → FitsSigned w32 (slice_index_or new i (pos 0))
+  pub behind : (i : ℕ) → to + count ≤ i
+      → slice_index_or new i (pos 0) ≡ slice_index_or old i (pos 0)
+  pub front : take (to + low) new ≡ take (to + low) old
+  pub size : length new ≡ length old

@@ -24,7 +24,7 @@ pub struct Block {
     pub(crate) cells: Vec<i32>,
     /// The cells of the code, and those of the data behind it.
     pub(crate) code: u32,
-    store: u32,
+    pub(crate) store: u32,
 }
 
 impl Model for Block {

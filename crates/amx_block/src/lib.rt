@@ -2,6 +2,9 @@
 #![tactic(auto)]
 
 mod block;
+mod compare;
 mod copy;
+mod expand;
+mod load;
 
 pub use block::Block;

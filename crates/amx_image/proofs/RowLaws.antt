@@ -1,22 +1,25 @@
 -- Rows of cells in bytes and in a memory.
-use Rattle.std.proofs.Common.{◌≡◌, ◌+◌, ◌-◌, ◌*◌, ◌/◌, ◌%◌, ◌<◌, ◌≤◌, ◌++◌, ◌&&◌, ℕ, zero, suc, ℤ}
-use Rattle.std.proofs.Common.{pos, List, [], ◌∷◌, Bool, true, false, All, length, take, drop}
-use Rattle.std.proofs.Common.{replicate, set, refl, sym, ap, ◌∙◌, arith}
+use Rattle.std.proofs.Common.{◌≡◌, ◌+◌, ◌-◌, ◌*◌, ◌/◌, ◌%◌, ◌<◌, ◌≤◌, ◌++◌, ◌&&◌, ℕ, zero}
+use Rattle.std.proofs.Common.{suc, ℤ, pos, List, [], ◌∷◌, inl, inr, Bool, true, false, cond, All}
+use Rattle.std.proofs.Common.{length, take, drop, replicate, set, nat_le, nat_lt, refl, sym, ap}
+use Rattle.std.proofs.Common.{◌∙◌, arith, ltb-true}
 use Rattle.std.specs.Cmp.{signed_Decides}
-use Rattle.std.proofs.lemmas.Bool.{false≢true}
+use Rattle.std.proofs.lemmas.Bool.{eq-eqb, false≢true, leb-false, ltb-false}
 use Rattle.std.proofs.lemmas.List.{append_assoc, append-nil, drop-replicate, drop-set, drop-set-add}
-use Rattle.std.proofs.lemmas.List.{drop_all, drop_at, length-append, length-replicate}
-use Rattle.std.proofs.lemmas.List.{length-take-le, set-append_right, take-replicate, take_at}
+use Rattle.std.proofs.lemmas.List.{drop_all, drop_at, length-append, length-drop, length-replicate}
+use Rattle.std.proofs.lemmas.List.{length-take, set-append_right, take-replicate, take_at}
 use Rattle.std.proofs.lemmas.List.Elements.{All-nil, All-cons}
 use Rattle.std.proofs.Math.Seq.{take-append-add}
 use Rattle.pawn_cells.specs.Cells.{IsCell, equal}
-use Rattle.amx_ops.specs.Access.{with_cell}
-use Rattle.amx_ops.specs.State.{State, stp}
 use Rattle.pawn_cells.proofs.CellLaws.{cell_of_cell}
+use Rattle.amx_ops.specs.State.{State}
+use Rattle.amx_ops.specs.Moves.{live_from}
+use Rattle.amx_step.specs.Hosting.{with_live}
 use Rattle.amx_format.specs.Numbers.{word_at, cell_at, cells_at}
-use Rattle.amx_machine.specs.Machine.{Machine}
+use Rattle.amx_machine.specs.Machine.{Machine, IsKept, resting}
+use Rattle.amx_machine.proofs.PutLaws.{put_kept}
 use Rattle.amx_image.specs.Faults.{are_zero}
-use Rattle.amx_image.specs.Rows.{with_row}
+use Rattle.amx_image.specs.Rows.{IsLiveRow, with_row}
 
 -- ---- in bytes
 
@@ -192,28 +195,20 @@ pub next_cell : (bytes : List ℕ) (place i : ℕ)
     → cells_at bytes place (i + 1) ≡ cells_at bytes place i ++ cell_at bytes (place + 4 * i) ∷ []
 next_cell bytes place i = cells_at-split bytes place i 1
 
--- a memory with a row from number h on, and the next cell written
-pub row_more : (xs row : List ℤ) (h i : ℕ) (v : ℤ) → length row ≡ i → h + i < length xs
-    → set (take h xs ++ (row ++ drop (h + i) xs)) (h + i) v
-    ≡ take h xs ++ ((row ++ v ∷ []) ++ drop (h + (i + 1)) xs)
-row_more xs row h i v e l =
-    let front : length (take h xs ++ row) ≡ h + i =
-    omega (
-      arith,
-      l,
-      e,
-      length-append (take h xs) row,
-      length-take-le h xs (omega (arith, l)),
-    ) in
-    let none : h + i - (h + i) ≡ 0 = omega arith in
-    let more : h + i + 1 ≡ h + (i + 1) = omega arith in
-    ap (λ zs. set zs (h + i) v) (sym (append_assoc (take h xs) row (drop (h + i) xs)))
-    ∙ set-append_right (take h xs ++ row) (drop (h + i) xs) (h + i) (h + i) v front (omega arith)
-    ∙ ap (λ j. (take h xs ++ row) ++ set (drop (h + i) xs) j v) none
-    ∙ ap (λ zs. (take h xs ++ row) ++ zs) (first_set (h + i) xs v l)
-    ∙ ap (λ j. (take h xs ++ row) ++ v ∷ drop j xs) more
-    ∙ append_assoc (take h xs) row (v ∷ drop (h + (i + 1)) xs)
-    ∙ ap (λ zs. take h xs ++ zs) (sym (append_assoc row (v ∷ []) (drop (h + (i + 1)) xs)))
+-- a row that begins with cells of bytes, and the next cell written
+pub row_more : (row : List ℤ) (bytes : List ℕ) (place i : ℕ) (v : ℤ)
+    → v ≡ cell_at bytes (place + 4 * i) → i < length row
+    → set (cells_at bytes place i ++ drop i row) i v
+    ≡ cells_at bytes place (i + 1) ++ drop (i + 1) row
+row_more row bytes place i v e l =
+    let read = cells_at bytes place i in
+    let none : i - i ≡ 0 = omega arith in
+    set-append_right read (drop i row) i i v (length-cells_at bytes place i) (omega arith)
+    ∙ ap (λ j. read ++ set (drop i row) j v) none
+    ∙ ap (λ zs. read ++ zs) (first_set i row v l)
+    ∙ ap (λ z. read ++ z ∷ drop (i + 1) row) e
+    ∙ sym (append_assoc read (cell_at bytes (place + 4 * i) ∷ []) (drop (i + 1) row))
+    ∙ ap (λ zs. zs ++ drop (i + 1) row) (sym (next_cell bytes place i))
   where
     first_set : (j : ℕ) (ys : List ℤ) (z : ℤ) → j < length ys
         → set (drop j ys) 0 z ≡ z ∷ drop (j + 1) ys
@@ -223,35 +218,45 @@ row_more xs row h i v e l =
 
 -- ---- a row in a state
 
-pub row_step : (s : State) (at : ℕ) (bytes : List ℕ) (place i : ℕ) → at % 4 ≡ 0
-    → at + 4 * (i + 1) ≤ stp s
-    → with_cell (with_row s at (cells_at bytes place i)) (at + 4 * i)
-    (cell_at bytes (place + 4 * i)) ≡ with_row s at (cells_at bytes place (i + 1))
-row_step s at bytes place i a l =
-    let xs = s.cells in
-    let h = at / 4 in
-    let row = cells_at bytes place i in
-    let v = cell_at bytes (place + 4 * i) in
-    let index : (at + 4 * i) / 4 ≡ h + i = omega (arith, a) in
-    ap (λ (cells : List ℤ). record s { cells = cells })
-    (ap (λ j. set (take h xs ++ (row ++ drop (h + length row) xs)) j v) index
-    ∙ ap (λ j. set (take h xs ++ (row ++ drop (h + j) xs)) (h + i) v)
-    (length-cells_at bytes place i)
-    ∙ row_more xs row h i v (length-cells_at bytes place i) (omega (arith, a, l))
-    ∙ ap (λ zs. take h xs ++ (zs ++ drop (h + (i + 1)) xs)) (sym (next_cell bytes place i))
-    ∙ ap (λ j. take h xs ++ (cells_at bytes place (i + 1) ++ drop (h + j) xs))
-    (sym (length-cells_at bytes place (i + 1))))
+live_by : (s : State) (at count : ℕ) (below from : Bool) → nat_lt at s.hea ≡ below
+    → nat_le s.stk at ≡ from → IsLiveRow s at count → s.hea ≤ s.stk
+    → count ≤ length (cond below (drop (at / 4) (take (s.hea / 4) s.cells))
+    (cond from (drop (at / 4) s.cells) []))
+live_by s at count true from b f row o = elim row.within [
+  | inl l ↦
+      omega (
+        arith,
+        l,
+        row.below,
+        row.aligned,
+        length-drop (at / 4) (take (s.hea / 4) s.cells),
+        length-take (s.hea / 4) s.cells,
+      )
+  | inr l ↦ absurd (omega (arith, l, o, ltb-true at s.hea b))
+]
+live_by s at count false true b f row o =
+    omega (arith, row.below, row.aligned, length-drop (at / 4) s.cells)
+live_by s at count false false b f row o = elim row.within [
+  | inl l ↦ omega (arith, l, ltb-false at s.hea b)
+  | inr l ↦ absurd (omega (arith, l, leb-false s.stk at f))
+]
 
-abbrev put_in : Machine → State → Machine
-put_in m s = record m { state = s }
+-- it lies within the live part there
+pub live_row : (s : State) (at count : ℕ) → IsLiveRow s at count → s.hea ≤ s.stk
+    → count ≤ length (live_from s at)
+live_row s at count row o =
+    rw (eq-eqb (at % 4) 0 row.aligned)
+    (live_by s at count (nat_lt at s.hea) (nat_le s.stk at) refl refl row o)
 
-pub put_step : (m before after : Machine) (at : ℕ) (bytes : List ℕ) (place i : ℕ) (value : ℤ)
-    → at % 4 ≡ 0 → at + 4 * (i + 1) ≤ stp m.state
-    → before ≡ record m { state = with_row m.state at (cells_at bytes place i) }
-    → after ≡ record before { state = with_cell before.state (at + 4 * i) value }
-    → value ≡ cell_at bytes (place + 4 * i)
-    → after ≡ record m { state = with_row m.state at (cells_at bytes place (i + 1)) }
-put_step m before after at bytes place i value a l b e v =
-    e ∙ ap (λ (q : Machine). put_in q (with_cell q.state (at + 4 * i) value)) b
-    ∙ ap (λ z. put_in m (with_cell (with_row m.state at (cells_at bytes place i)) (at + 4 * i) z)) v
-    ∙ ap (put_in m) (row_step m.state at bytes place i a l)
+-- cells put at the front of that part are the row
+pub row_put : (m : Machine) (at count : ℕ) (row part : List ℤ) → IsKept m
+    → IsLiveRow m.state at count → length row ≡ count
+    → part ≡ row ++ drop count (live_from m.state at)
+    → record m { state = resting m.mode (with_live m.state at part) }
+    ≡ record m { state = with_row m.state at row }
+row_put m at count row part k live size is =
+    let fits : length row ≤ length (live_from m.state at) =
+    omega (arith, size, live_row m.state at count live k.in_order.order.1) in
+    ap (λ (cells : List ℤ). record m { state = resting m.mode (with_live m.state at cells) })
+    (is ∙ ap (λ n. row ++ drop n (live_from m.state at)) (sym size))
+    ∙ put_kept m at row k fits

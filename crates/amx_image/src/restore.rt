@@ -1,4 +1,4 @@
-ghost use Rattle.std.specs.Prelude.{◌≡◌, ◌+◌, ◌*◌, ◌^◌, ◌<◌, ◌≤◌, length};
+ghost use Rattle.std.specs.Prelude.{◌≡◌, ◌+◌, ◌*◌, ◌≤◌, ◌++◌, drop, length};
 ghost use Rattle.amx_format.specs.Numbers.{cells_at};
 ghost use Rattle.amx_image.specs.Examined as examined;
 ghost use Rattle.amx_image.specs.Restored.{Restores};
@@ -11,22 +11,19 @@ use super::number::{read_cell, read_registers, read_word};
 use super::place::{CELLS, POSITION};
 use super::version::Version;
 use amx_machine::Machine;
-use amx_verify::Verified;
 
 /// Sets a machine to the state of an image of its file, at a sleep, and tells the script's position
 /// there; or tells why the bytes are no such image, and changes nothing. Images with all cells and
 /// those with the live ones are read, the digest is that of the file, and no memory is taken.
 pub fn restore_into(
     machine: &mut Machine,
-    verified: &Verified,
     digest: &[u8; 32],
     bytes: &[u8],
 ) -> Result<u32, ImageFault>
-    requires { machine.old.amx ≡ verified.now }
     ensures { Restores machine.old digest.now bytes.now result machine.new }
 {
     let count = cells_of(machine);
-    let version = examine(verified, count, digest, bytes)?;
+    let version = examine(machine.verified(), count, digest, bytes)?;
     let registers = read_registers(bytes);
     let hea = registers.hea.cast_unsigned();
     let stk = registers.stk.cast_unsigned();
@@ -50,14 +47,28 @@ fn stack_place(version: Version, hea: u32, stk: u32) -> usize
 /// Writes so many live cells from an address on, as they stand in an image from a place on.
 fn put_row(machine: &mut Machine, at: u32, bytes: &[u8], place: usize, count: u32)
     requires live { IsLiveRow machine.old.state at count }
-    requires small { at + 4 * count < 2 ^ 32 }
     requires long { place + 4 * count ≤ length bytes.now }
     ensures { machine.new ≡ record machine.old {
       state = with_row machine.old.state at (cells_at bytes.now place count);
     } }
 {
+    // For the prover alone: by its clauses the registers are in order.
+    let _ = machine.registers();
+    put_cells(
+        machine.live_from_mut(at.cast_signed()),
+        bytes,
+        place,
+        count as usize,
+    );
+}
+
+/// Puts so many cells, as they stand in an image from a place on, in the place of a row's first.
+fn put_cells(row: &mut [i32], bytes: &[u8], place: usize, count: usize)
+    requires room { count ≤ length row.old }
+    requires long { place + 4 * count ≤ length bytes.now }
+    ensures { row.new ≡ cells_at bytes.now place count ++ drop count row.old }
+{
     for index in 0..count {
-        let cell = read_cell(bytes, place + 4 * index as usize);
-        machine.set_cell(at + 4 * index, cell);
+        row[index] = read_cell(bytes, place + 4 * index);
     }
 }

@@ -62,7 +62,7 @@ fn put_front(out: &mut ImageBuffer, at: u32, registers: Registers, count: u32, d
 }
 
 /// The cells below HEA.
-fn heap_of<'m, 'v>(machine: &'m Machine<'v>) -> &'m [i32]
+fn heap_of(machine: &Machine) -> &[i32]
     ensures { result.now ≡ take (machine.now.state.hea / 4) machine.now.state.cells }
 {
     let count = machine.registers().hea.cast_unsigned() / 4;

@@ -1,7 +1,8 @@
+mod BoundedLaws
 pub mod CleanLaws
 pub mod HaltLaws
+mod LendLaws
 pub mod PutLaws
 pub mod RestLaws
-pub mod RestoreLaws
 pub mod RunLaws
 pub mod SleepLaws

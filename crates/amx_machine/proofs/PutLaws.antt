@@ -18,7 +18,7 @@ use Rattle.amx_step.specs.Hosting.{AreInOrder, with_live}
 use Rattle.amx_step.proofs.HostLaws.{no_part}
 use Rattle.amx_machine.specs.declared.mode.Mode.{Mode}
 use Rattle.amx_machine.specs.declared.mode.Mode.TheVariants as mode
-use Rattle.amx_machine.specs.Machine.{resting}
+use Rattle.amx_machine.specs.Machine.{Machine, IsClean, IsKept, resting}
 
 -- ---- cells over others
 
@@ -274,3 +274,32 @@ module _ (amx : Amx) (s : State) (o : AreInOrder amx s) (at : ℕ) (new : List �
   put_in mode.Waiting h = put_live s at new h
   put_in (mode.Halted code) h = put_live s at new h
   put_in (mode.Failed code) h = put_live s at new h
+
+-- ---- in a machine
+
+clean_rests : (m : Mode) (s : State) → IsClean m s → resting m s ≡ s
+clean_rests mode.Loaded s h = refl
+clean_rests mode.Running s h = refl
+clean_rests mode.Asleep s h = h
+clean_rests mode.Waiting s h = refl
+clean_rests (mode.Halted code) s h = refl
+clean_rests (mode.Failed code) s h = refl
+
+-- a live part that comes back with other cells in front is a write of these
+pub put_kept : (m : Machine) (at : ℕ) (new : List ℤ) → IsKept m
+    → length new ≤ length (live_from m.state at)
+    → record m {
+      state = resting m.mode
+          (with_live m.state at (new ++ drop (length new) (live_from m.state at)));
+    }
+    ≡ record m {
+      state = record m.state {
+        cells = with_write (record { to = at; values = new }) m.state.cells;
+      };
+    }
+put_kept m at new k h =
+    ap (λ (s : State). record m { state = s })
+    (put_in m.amx m.state k.in_order at new m.mode h
+    ∙ ap (λ (s : State). record s {
+      cells = with_write (record { to = at; values = new }) s.cells;
+    }) (clean_rests m.mode m.state k.clean))

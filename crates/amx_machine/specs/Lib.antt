@@ -1,3 +1,5 @@
+pub mod Bounded
+pub mod Lending
 pub mod Machine
 pub mod Runs
 pub mod Starts

@@ -2,13 +2,16 @@
 #![tactic(auto)]
 
 mod event;
+mod laws;
+mod load_file;
 mod machine;
 mod memory;
 mod mode;
-mod restore;
 mod start;
 
 pub use amx_step::Registers;
 pub use event::Event;
+pub use laws::runs_are_bounded;
 pub use machine::Machine;
+pub use mode::Mode;
 pub use start::StartFault;

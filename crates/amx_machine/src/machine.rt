@@ -20,14 +20,14 @@ use std::marker::Model;
 /// Contracts see the file, the state, and the mode: loaded; running; at a sleep, which is behind
 /// HALT 12 or as [`Machine::set_asleep`] leaves it; waiting for a native; or ended by a halt or an
 /// error. It is started in each mode but the first, and idle where it was loaded or ended by
-/// HALT 0. Addresses are in bytes from the data's first cell. Only [`Machine::load`] takes memory.
+/// HALT 0. Addresses are in bytes from the data's first cell. Only loading takes memory.
 #[derive(Drop)]
-pub struct Machine<'v> {
-    pub(crate) core: Core<'v>,
+pub struct Machine {
+    pub(crate) core: Core,
     pub(crate) mode: Mode,
 }
 
-impl<'v> Model for Machine<'v> {
+impl Model for Machine {
     ghost use Rattle.amx_machine.specs.Machine.{Machine, in_mode};
 
     ghost Value = { Machine };
@@ -35,17 +35,31 @@ impl<'v> Model for Machine<'v> {
     ghost view = { λ m. in_mode m.mode m.core };
 }
 
-impl<'v> Machine<'v> {
+impl Machine {
     /// A file's machine in its first state: the data and then zeros, HEA at the data's end, STK at
     /// the top, and all other registers 0.
-    pub fn load(alloc: Global, verified: &'v Verified) -> Result<Machine<'v>, Memory>
-        ensures { IfOk result (λ machine. machine ≡ first verified.now) }
+    pub fn load(alloc: Global, verified: Verified) -> Result<Machine, Memory>
+        ensures { IfOk result (λ machine. machine ≡ first verified) }
     {
         let core = Core::load(alloc, verified)?;
         Ok(Machine {
             core,
             mode: Mode::Loaded,
         })
+    }
+
+    /// The file.
+    pub fn verified(&self) -> &Verified
+        ensures { result.now ≡ self.now.amx }
+    {
+        self.core.verified()
+    }
+
+    /// The mode, which says which calls may come next.
+    pub fn mode(&self) -> Mode
+        ensures { result ≡ self.now.mode }
+    {
+        self.mode
     }
 
     /// Starts an idle machine at main, as -1, or at a public by its number: HEA and STK are as at

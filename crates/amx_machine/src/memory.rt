@@ -1,6 +1,6 @@
-ghost use Rattle.std.specs.Prelude.{[], ◌≡◌, ◌<◌, ◌≤◌, ◌++◌};
-ghost use Rattle.std.specs.Prelude.{drop, length, option_map, pos, unwrap_or};
+ghost use Rattle.std.specs.Prelude.{[], ◌≡◌, ◌<◌, length, option_map, pos, unwrap_or};
 ghost use Rattle.std.specs.List.{slice_index_or};
+ghost use Rattle.std.specs.Borrow.{sem};
 ghost use Rattle.pawn_cells.specs.Cells.{bits_of};
 ghost use Rattle.amx_ops.specs.Moves as moves;
 ghost use Rattle.amx_step.specs.Hosting.{AreInOrder, registers_of, cleared};
@@ -12,7 +12,9 @@ use super::mode::Mode;
 use amx_step::Registers;
 
 // Registers, arguments and memory.
-impl<'v> Machine<'v> {
+impl Machine {
+    ghost use Rattle.amx_machine.specs.Lending.{LendsLive};
+
     /// How many arguments a native has: they lie above the count of their bytes at STK. None where
     /// the count or one of them isn't live, or the count is no multiple of 4.
     pub fn native_args(&self) -> Option<u32>
@@ -40,17 +42,12 @@ impl<'v> Machine<'v> {
         self.core.live_from(at)
     }
 
-    /// Writes cells from an address on, where so many lie within its live part.
-    pub fn write(&mut self, at: i32, cells: &[i32])
-        requires { length cells.now ≤ length (moves.live_from self.old.state (bits_of at)) }
-        ensures { self.new ≡ record self.old {
-          state = record self.old.state {
-            cells = moves.with_write (record { to = bits_of at; values = cells.now })
-                self.old.state.cells;
-          };
-        } }
+    /// The same, lent to be written in place.
+    pub fn live_from_mut(&mut self, at: i32) -> &mut [i32]
+        ensures* writes_back { sem 𝓛 (LendsLive self.entry (bits_of at) result) }
+        ensures value { result.now ≡ moves.live_from self.old.state (bits_of at) }
     {
-        put_first(self.core.live_from_mut(at), cells);
+        self.core.live_from_mut(at)
     }
 
     /// The registers. HEA and STK are multiples of 4 between the data's end and the top, HEA not
@@ -77,12 +74,4 @@ impl<'v> Machine<'v> {
         self.core.clear(registers);
         self.mode = Mode::Asleep;
     }
-}
-
-/// Puts cells in the place of a part's first.
-fn put_first(part: &mut [i32], cells: &[i32])
-    requires { length cells.now ≤ length part.old }
-    ensures { part.new ≡ cells.now ++ drop (length cells.now) part.old }
-{
-    part[..cells.len()].copy_from_slice(cells);
 }

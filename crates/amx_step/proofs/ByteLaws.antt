@@ -1,53 +1,23 @@
 -- Bytes that are copied and compared, as the step's definition has them.
-use Rattle.std.proofs.Common.{◌≡◌, ◌≢◌, ◌+◌, ◌-◌, ◌*◌, ◌/◌, ◌%◌, ◌^◌, ◌<◌, ◌≤◌, ℕ, inl, inr, suc, ℤ}
-use Rattle.std.proofs.Common.{pos, negsuc, List, [], Bool, true, false, ◌&&◌, ◌||◌, cond}
+use Rattle.std.proofs.Common.{◌≡◌, ◌≢◌, ◌+◌, ◌-◌, ◌*◌, ◌/◌, ◌<◌, ◌≤◌, ℕ, inl, inr, zero, suc}
+use Rattle.std.proofs.Common.{ℤ, pos, negsuc, List, Bool, true, false, ◌&&◌, ◌||◌, cond}
 use Rattle.std.proofs.Common.{length, get_or, refl, sym, ap, ◌∙◌, arith, subst, w32, FitsSigned}
 use Rattle.std.proofs.Common.{nat_lt, nat_le}
 use Rattle.std.proofs.lemmas.Bool.{and_parts, and_from, or_cases, cases_eq, cases_Bool, leb-true}
 use Rattle.std.proofs.lemmas.Bool.{ltb-true, le-leb, lt-ltb, le-ltb, both_ways, false≢true}
-use Rattle.std.proofs.Math.Facts.{Fits-of_z}
-use Rattle.std.proofs.lemmas.Int.{to_z-of_z}
 use Rattle.std.proofs.lemmas.List.FromFn.{length-map-range_with_len, get_or-map-range_with_len}
-use Rattle.pawn_cells.specs.Cells.{bits_of, cell_of, char_at}
+use Rattle.pawn_cells.specs.Cells.{cell_of}
 use Rattle.amx_block.specs.Contents.{Contents}
 use Rattle.amx_block.specs.Copied.{IsCopied}
+use Rattle.amx_block.proofs.ForCallers.{cell_of_bytes}
 use Rattle.amx_ops.specs.Access.{byte_at, bytes_at, is_among, byte_moved, cell_moved, cells_moved}
 use Rattle.amx_ops.specs.Access.{order_of}
-use Rattle.amx_ops.proofs.ByteLaws.{same_cells, byte_is}
+use Rattle.amx_ops.proofs.ByteLaws.{same_cells}
 use Rattle.amx_step.specs.Machine.{Machine}
 
--- ---- a cell is made of its bytes
-
-four_bytes : (n : ℕ) → n < 2 ^ 32
-    → n / 1 % 256 + 256 * (n / 256 % 256) + 65536 * (n / 65536 % 256) + 16777216
-    * (n / 16777216 % 256) ≡ n
-four_bytes n h = omega arith
-
+-- a cell that is made of four bytes
 abbrev made : (a b c d : ℕ) → ℤ
 made a b c d = cell_of (a + 256 * b + 65536 * c + 16777216 * d)
-
-of_bytes : (cell : ℤ) → FitsSigned w32 cell
-    → made (char_at cell 3) (char_at cell 2) (char_at cell 1) (char_at cell 0) ≡ cell
-of_bytes cell fits =
-    ap cell_of (four_bytes (bits_of cell) (Fits-of_z {w = w32} {z = cell} fits).fits)
-    ∙ to_z-of_z w32 cell fits
-
--- by the bytes at its addresses
-of_bytes_at : (cells : List ℤ) (i : ℕ) → FitsSigned w32 (get_or cells i (pos 0))
-    → made (byte_at cells (4 * i)) (byte_at cells (4 * i + 1)) (byte_at cells (4 * i + 2))
-    (byte_at cells (4 * i + 3)) ≡ get_or cells i (pos 0)
-of_bytes_at cells i fits =
-    let zero_more : 4 * i ≡ 4 * i + 0 = omega arith in
-    ap (λ b. made b (byte_at cells (4 * i + 1)) (byte_at cells (4 * i + 2))
-    (byte_at cells (4 * i + 3))) (ap (byte_at cells) zero_more
-    ∙ byte_is cells i 0 (omega arith))
-    ∙ ap (λ b. made (char_at (get_or cells i (pos 0)) 3) b (byte_at cells (4 * i + 2))
-    (byte_at cells (4 * i + 3))) (byte_is cells i 1 (omega arith))
-    ∙ ap (λ b. made (char_at (get_or cells i (pos 0)) 3) (char_at (get_or cells i (pos 0)) 2) b
-    (byte_at cells (4 * i + 3))) (byte_is cells i 2 (omega arith))
-    ∙ ap (λ b. made (char_at (get_or cells i (pos 0)) 3) (char_at (get_or cells i (pos 0)) 2)
-    (char_at (get_or cells i (pos 0)) 1) b) (byte_is cells i 3 (omega arith))
-    ∙ of_bytes (get_or cells i (pos 0)) fits
 
 -- ---- bytes that are moved
 
@@ -136,7 +106,7 @@ module _ (from to n : ℕ) (old new : Contents) (c : IsCopied from to 0 n old ne
       (byte_moved old.memory from to n (4 * i + 3))) (byte_new (4 * i + 2))
       ∙ ap (λ b. made (byte_at new.memory (4 * i)) (byte_at new.memory (4 * i + 1))
       (byte_at new.memory (4 * i + 2)) b) (byte_new (4 * i + 3))
-      ∙ of_bytes_at new.memory i fits)
+      ∙ cell_of_bytes new.memory i fits)
   cell_by i false e = c.others i (λ k low high. untouched to n i e k (omega (arith, low)) high)
 
   -- what was copied byte by byte is what the definition of a move makes
@@ -231,6 +201,29 @@ module _ (cells : List ℤ) (at to count done : ℕ) (whole : ℤ) (less : done 
         le-ltb (byte_at cells (at + done)) (byte_at cells (to + done)) low,
         le-ltb (byte_at cells (to + done)) (byte_at cells (at + done)) high,
       ) at first_bytes
+
+-- bytes in front that are the same
+pub order_from : (cells : List ℤ) (at to count start : ℕ) → start ≤ count
+    → ((k : ℕ) → k < start → byte_at cells (at + k) ≡ byte_at cells (to + k))
+    → order_of (bytes_at cells (at + start) (count - start))
+    (bytes_at cells (to + start) (count - start))
+    ≡ order_of (bytes_at cells at count) (bytes_at cells to count)
+order_from cells at to count zero h same =
+    let first : at + 0 ≡ at = omega arith in
+    let second : to + 0 ≡ to = omega arith in
+    let all : count - 0 ≡ count = omega arith in
+    ap (λ n. order_of (bytes_at cells (at + 0) n) (bytes_at cells (to + 0) n)) all
+    ∙ ap (λ a. order_of (bytes_at cells a count) (bytes_at cells (to + 0) count)) first
+    ∙ ap (λ b. order_of (bytes_at cells at count) (bytes_at cells b count)) second
+order_from cells at to count (suc start) h same =
+    let one : suc start ≡ start + 1 = omega arith in
+    let here = same start (omega arith) in
+    ap (λ n. order_of (bytes_at cells (at + n) (count - n))
+    (bytes_at cells (to + n) (count - n))) one ∙ order_next cells at to count start (order_of (bytes_at cells at count)
+    (bytes_at cells to count)) (omega (arith, h))
+    (order_from cells at to count start (omega (arith, h)) (λ k l. same k (omega (arith, l))))
+    (byte_at cells (at + start)) (byte_at cells (to + start)) refl refl (omega (arith, here))
+    (omega (arith, here))
 
 pub order_over : (cells : List ℤ) (at to count done : ℕ) (whole : ℤ) → count ≤ done
     → order_of (bytes_at cells (at + done) (count - done))

@@ -2,7 +2,6 @@ pub mod ByteLaws
 pub mod CaseLaws
 pub mod Firsts
 pub mod HostLaws
-pub mod LoadLaws
 pub mod PartLaws
 pub mod RowLaws
 pub mod RunLaws

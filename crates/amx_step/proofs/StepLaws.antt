@@ -20,6 +20,8 @@ use Rattle.amx_ops.specs.Valid.{Fault, or_else, unless, first_of, proper, operan
 use Rattle.amx_ops.specs.Valid.{is_cases_kind, IsValid}
 use Rattle.amx_ops.specs.State.{State, Errs}
 use Rattle.amx_ops.specs.Step.{act, act_by, act_on, step}
+use Rattle.amx_verify.specs.Kinds.{StartsAs}
+use Rattle.amx_verify.proofs.KindLaws.{number_of_read}
 use Rattle.amx_step.specs.Machine.{Machine}
 use Rattle.amx_step.specs.Groups.{row}
 use Rattle.amx_step.specs.Done.{next_cell, operand_by as operand_in, size_by, acts, IsAt, HasNext}
@@ -196,44 +198,6 @@ module _ (m : Machine) (cells : List ℤ)
   does_kind operand.Cases n o again refused e =
       does_table n o again (refused refl) cells e ∙ sym (refused refl _ _)
 
--- an instruction that was read has its row's number
-operand_number : (n : ℕ) (xs : List ℤ) (i : Instr) → with_operand n xs ≡ Some i → i.op ≡ n
-operand_number n [] i e = absurd (none-some i e)
-operand_number n (x ∷ xs) i e =
-    ap (λ (i : Instr). i.op) (sym (some_instr (record { op = n; operand = x; cells = 2 }) i e))
-
-abbrev op_number_in : Option Instr → ℕ → ℕ
-op_number_in None n = n
-op_number_in (Some i) n = i.op
-
-table_number : (n : ℕ) (xs : List ℤ) → op_number_in (with_cases n xs) n ≡ n
-table_number n [] = refl
-table_number n (count ∷ []) = refl
-table_number n (negsuc count ∷ default ∷ pairs) = refl
-table_number n (pos count ∷ default ∷ pairs) = by_size (nat_le (2 * count) (length pairs))
-  where
-    by_size : (b : Bool) → op_number_in
-        (cond b (Some (record { op = n; operand = pos count; cells = 3 + 2 * count })) None) n ≡ n
-    by_size true = refl
-    by_size false = refl
-
-number_of_read : (kind : Operand) (n : ℕ) (xs : List ℤ) (i : Instr) → read_by n kind xs ≡ Some i
-    → i.op ≡ n
-number_of_read operand.Nothing n xs i e =
-    ap (λ (i : Instr). i.op) (sym (some_instr (record { op = n; operand = pos 0; cells = 1 }) i e))
-number_of_read operand.AnyCell n xs i e = operand_number n xs i e
-number_of_read operand.ByteCount n xs i e = operand_number n xs i e
-number_of_read operand.Register n xs i e = operand_number n xs i e
-number_of_read operand.SetRegister n xs i e = operand_number n xs i e
-number_of_read operand.Multiple n xs i e = operand_number n xs i e
-number_of_read operand.Length n xs i e = operand_number n xs i e
-number_of_read operand.CellsLength n xs i e = operand_number n xs i e
-number_of_read operand.Target n xs i e = operand_number n xs i e
-number_of_read operand.Relative n xs i e = operand_number n xs i e
-number_of_read operand.NativeNumber n xs i e = operand_number n xs i e
-number_of_read operand.CaseTable n xs i e = operand_number n xs i e
-number_of_read operand.Cases n xs i e = sym (ap (λ o. op_number_in o n) e) ∙ table_number n xs
-
 -- ---- as the machine meets it
 
 not_there : (amx : Amx) (s : State) (o : Option Instr) → is_some o ≡ false
@@ -314,26 +278,16 @@ module _ (m : Machine) (number entry : ℤ) (publics : List ℤ)
       ap (λ o. act_on m.amx o m.state) read ∙ (row_there (row_at number) refl).1
       ∙ ap (acts m) (row_is number)
 
-module _ (m : Machine) (number entry : ℤ) (publics : List ℤ) (cip : ℕ) (e : cip ≡ m.state.cip)
+module _ (m : Machine) (number : ℕ) (entry : ℤ) (publics : List ℤ)
     (valid : IsValid m.amx.code (length m.amx.natives) entry publics)
-    (within : (cip % 4 ≡ 0) × (cip < 4 * length m.amx.code))
-    (start : is_start m.amx.code cip ≡ true)
-    (here : fetched m.amx.code cip ≡ front (drop (cip / 4) m.amx.code))
-    (number_is : number ≡ get_or m.amx.code (cip / 4) (pos 0)) where
-  at_cip : IsAt m
-  at_cip = subst (λ (c : ℕ). (c % 4 ≡ 0) × (c < 4 * length m.amx.code)) e within
+    (starts : StartsAs m.amx.code m.state.cip number) where
+  pub at_met : IsAt m
+  at_met = (starts.within.0, omega (arith, starts.within.0, starts.within.1))
 
-  start_cip : is_start m.amx.code m.state.cip ≡ true
-  start_cip = subst (λ (c : ℕ). is_start m.amx.code c ≡ true) e start
+  pub ready_met : IsReady m (row (pos number))
+  ready_met =
+      ready m (pos number) entry publics valid at_met starts.start starts.here starts.cell
 
-  here_cip : fetched m.amx.code m.state.cip ≡ front (drop (m.state.cip / 4) m.amx.code)
-  here_cip = subst (λ (c : ℕ). fetched m.amx.code c ≡ front (drop (c / 4) m.amx.code)) e here
-
-  number_cip : number ≡ get_or m.amx.code (m.state.cip / 4) (pos 0)
-  number_cip = subst (λ (c : ℕ). number ≡ get_or m.amx.code (c / 4) (pos 0)) e number_is
-
-  pub ready_met : IsReady m (row number)
-  ready_met = ready m number entry publics valid at_cip start_cip here_cip number_cip
-
-  pub step_met : step m.amx m.state ≡ acts m (row number)
-  step_met = step_is m number entry publics valid at_cip start_cip here_cip number_cip
+  pub step_met : step m.amx m.state ≡ acts m (row (pos number))
+  step_met =
+      step_is m (pos number) entry publics valid at_met starts.start starts.here starts.cell

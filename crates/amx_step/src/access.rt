@@ -12,7 +12,7 @@ use super::turn::Turn;
 use pawn_cells::Cell;
 
 // Loads and stores of cells.
-impl<'v> Core<'v> {
+impl Core {
     ghost use Rattle.amx_step.specs.Turns.{IsTurn};
 
     /// Whether a live cell begins at an address.

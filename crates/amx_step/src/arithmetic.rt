@@ -9,7 +9,7 @@ use pawn_cells::Cell;
 /// Shifts, products and sums.
 #[inline(always)]
 #[tactic(auto, using(crate::proofs::Firsts::first_some))]
-pub fn shift_or_sum(machine: &mut Core<'_>, number: i32) -> Option<Turn>
+pub fn shift_or_sum(machine: &mut Core, number: i32) -> Option<Turn>
     requires at { IsAt machine.old }
     requires ready { IsReady machine.old (sum_row number) }
     ensures { IsDone (sum_row number) machine.old result machine.new }
@@ -22,7 +22,7 @@ pub fn shift_or_sum(machine: &mut Core<'_>, number: i32) -> Option<Turn>
 
 /// Jumps by sign, shifts and products.
 #[inline(always)]
-fn shift_group(machine: &mut Core<'_>, number: i32) -> Option<Turn>
+fn shift_group(machine: &mut Core, number: i32) -> Option<Turn>
     requires at { IsAt machine.old }
     requires ready { IsReady machine.old (group 59 15 number) }
     ensures { IsDone (group 59 15 number) machine.old result machine.new }
@@ -109,7 +109,7 @@ fn shift_group(machine: &mut Core<'_>, number: i32) -> Option<Turn>
 
 /// Sums and bits.
 #[inline(always)]
-fn sum_group(machine: &mut Core<'_>, number: i32) -> Option<Turn>
+fn sum_group(machine: &mut Core, number: i32) -> Option<Turn>
     requires at { IsAt machine.old }
     requires ready { IsReady machine.old (group 74 15 number) }
     ensures { IsDone (group 74 15 number) machine.old result machine.new }

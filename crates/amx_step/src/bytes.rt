@@ -1,4 +1,4 @@
-ghost use Rattle.std.specs.Prelude.{◌≡◌, ◌⊎◌, ◌+◌, ◌*◌, ◌≤◌, length, IsTrue};
+ghost use Rattle.std.specs.Prelude.{◌≡◌, ◌⊎◌, ◌+◌, ◌*◌, ◌%◌, ◌<◌, ◌≤◌, ℕ, length, IsTrue};
 ghost use Rattle.amx_ops.specs.Access as access;
 ghost use Rattle.amx_ops.specs.Effects.{at_next};
 
@@ -7,7 +7,7 @@ use super::registers::Core;
 use super::turn::Turn;
 
 // Blocks of bytes.
-impl<'v> Core<'v> {
+impl Core {
     ghost use Rattle.amx_step.specs.Turns.{IsTurn};
 
     /// Whether each of so many bytes from an address on is live.
@@ -89,7 +89,8 @@ impl<'v> Core<'v> {
     {
         // For the prover alone: by its clause each address fits.
         let _ = self.block.top();
-        for done in 0..count {
+        let equal = self.equal_front(at, to, count);
+        for done in equal..count {
             let first = self.block.read_byte(at + done);
             let second = self.block.read_byte(to + done);
             if first < second {
@@ -100,6 +101,21 @@ impl<'v> Core<'v> {
             }
         }
         0
+    }
+
+    /// How many bytes two addresses have in common by whole cells; there may be more.
+    fn equal_front(&self, at: u32, to: u32, count: u32) -> u32
+        requires { (at + count ≤ 4 * length self.now.state.cells)
+            × (to + count ≤ 4 * length self.now.state.cells) }
+        ensures few { result ≤ count }
+        ensures same { (k : ℕ) → k < result → access.byte_at self.now.state.cells (at + k)
+            ≡ access.byte_at self.now.state.cells (to + k) }
+    {
+        if at % 4 == 0 && to % 4 == 0 {
+            4 * self.block.equal_cells(at, to, count / 4)
+        } else {
+            0
+        }
     }
 
     /// So many bytes from an address on = a value, in cells.

@@ -8,7 +8,7 @@ use super::turn::Turn;
 /// The stack, frames, calls and jumps.
 #[inline(always)]
 #[tactic(auto, using(crate::proofs::Firsts::first_some))]
-pub fn call_or_jump(machine: &mut Core<'_>, number: i32) -> Option<Turn>
+pub fn call_or_jump(machine: &mut Core, number: i32) -> Option<Turn>
     requires at { IsAt machine.old }
     requires ready { IsReady machine.old (call_row number) }
     ensures { IsDone (call_row number) machine.old result machine.new }
@@ -21,7 +21,7 @@ pub fn call_or_jump(machine: &mut Core<'_>, number: i32) -> Option<Turn>
 
 /// Registers, the stack and the heap.
 #[inline(always)]
-fn stack_group(machine: &mut Core<'_>, number: i32) -> Option<Turn>
+fn stack_group(machine: &mut Core, number: i32) -> Option<Turn>
     requires at { IsAt machine.old }
     requires ready { IsReady machine.old (group 30 15 number) }
     ensures { IsDone (group 30 15 number) machine.old result machine.new }
@@ -108,7 +108,7 @@ fn stack_group(machine: &mut Core<'_>, number: i32) -> Option<Turn>
 
 /// Calls and jumps.
 #[inline(always)]
-fn call_group(machine: &mut Core<'_>, number: i32) -> Option<Turn>
+fn call_group(machine: &mut Core, number: i32) -> Option<Turn>
     requires at { IsAt machine.old }
     requires ready { IsReady machine.old (group 45 14 number) }
     ensures { IsDone (group 45 14 number) machine.old result machine.new }

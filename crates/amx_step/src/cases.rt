@@ -6,7 +6,7 @@ use super::registers::Core;
 use super::turn::Turn;
 
 // Case tables.
-impl<'v> Core<'v> {
+impl Core {
     ghost use Rattle.amx_step.specs.Turns.{IsTurn};
 
     /// Goes on where the case table at an address leads PRI.

@@ -12,7 +12,7 @@ use super::registers::Core;
 use super::turn::Turn;
 
 // Some bytes of a cell.
-impl<'v> Core<'v> {
+impl Core {
     ghost use Rattle.amx_step.specs.Turns.{IsTurn};
 
     /// PRI = so many bytes at an address, without sign.

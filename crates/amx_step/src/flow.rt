@@ -11,7 +11,7 @@ use super::turn::Turn;
 use pawn_cells::Cell;
 
 // Where a machine goes on.
-impl<'v> Core<'v> {
+impl Core {
     ghost use Rattle.amx_step.specs.Turns.{IsTurn};
 
     /// Goes on at an address.

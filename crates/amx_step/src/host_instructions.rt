@@ -9,7 +9,7 @@ use pawn_cells::Cell;
 /// Counts, blocks of bytes and the host.
 #[inline(always)]
 #[tactic(auto, using(crate::proofs::Firsts::first_some))]
-pub fn count_or_ask(machine: &mut Core<'_>, number: i32) -> Option<Turn>
+pub fn count_or_ask(machine: &mut Core, number: i32) -> Option<Turn>
     requires at { IsAt machine.old }
     requires ready { IsReady machine.old (host_row number) }
     ensures { IsDone (host_row number) machine.old result machine.new }
@@ -22,7 +22,7 @@ pub fn count_or_ask(machine: &mut Core<'_>, number: i32) -> Option<Turn>
 
 /// Cells that are counted, and blocks of bytes.
 #[inline(always)]
-fn count_group(machine: &mut Core<'_>, number: i32) -> Option<Turn>
+fn count_group(machine: &mut Core, number: i32) -> Option<Turn>
     requires at { IsAt machine.old }
     requires ready { IsReady machine.old (group 105 13 number) }
     ensures { IsDone (group 105 13 number) machine.old result machine.new }
@@ -114,7 +114,7 @@ fn count_group(machine: &mut Core<'_>, number: i32) -> Option<Turn>
 
 /// The host, case tables and others.
 #[inline(always)]
-fn host_group(machine: &mut Core<'_>, number: i32) -> Option<Turn>
+fn host_group(machine: &mut Core, number: i32) -> Option<Turn>
     requires at { IsAt machine.old }
     requires ready { IsReady machine.old (group 118 12 number) }
     ensures { IsDone (group 118 12 number) machine.old result machine.new }

@@ -24,7 +24,7 @@ pub struct Registers {
 }
 
 // What a host does to a machine.
-impl<'v> Core<'v> {
+impl Core {
     ghost use Rattle.amx_step.specs.Hosting.{StartsSo, AreInOrder, registers_of, cleared};
     ghost use Rattle.amx_step.specs.Lending.{LendsLive};
 

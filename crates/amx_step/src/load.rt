@@ -1,27 +1,52 @@
-ghost use Rattle.std.specs.Prelude.{◌≡◌, ◌+◌, ◌<◌, ◌≤◌, ◌++◌, length, pos, drop, replicate, IfOk};
+ghost use Rattle.std.specs.Prelude.{◌≡◌, ◌++◌, pos, replicate, IfOk};
+ghost use Rattle.amx_format.specs.File.{IsFile};
 ghost use Rattle.amx_ops.specs.Trace.{loaded};
-ghost use Rattle.amx_ops.specs.Writable.{cells_limit};
 
 use super::registers::Core;
 use amx_block::Block;
-use amx_ops::Amx;
+use amx_load::{block_of, block_of_file};
 use amx_verify::Verified;
 use pawn_base::Memory;
 use std::alloc::Global;
 
-impl<'v> Core<'v> {
+impl Core {
     /// A file's first state: the data and then zeros, HEA at the data's end, and STK at the top.
-    pub fn load(alloc: Global, verified: &'v Verified) -> Result<Core<'v>, Memory>
+    pub fn load(alloc: Global, verified: Verified) -> Result<Core, Memory>
         ensures { IfOk result (λ core. core ≡ record {
-          amx = verified.now;
-          state = loaded verified.now verified.now.room;
+          amx = verified;
+          state = loaded verified verified.room;
         }) }
     {
+        let block = block_of(alloc, verified.amx())?;
+        Ok(Core::first(verified, block))
+    }
+
+    /// The same from the bytes that the file was read from. Compact cells are expanded in the
+    /// core's own memory where they can be.
+    pub fn load_file(alloc: Global, verified: Verified, bytes: &[u8]) -> Result<Core, Memory>
+        requires { IsFile bytes.now verified }
+        ensures { IfOk result (λ core. core ≡ record {
+          amx = verified;
+          state = loaded verified verified.room;
+        }) }
+    {
+        let block = block_of_file(alloc, verified.amx(), bytes)?;
+        Ok(Core::first(verified, block))
+    }
+
+    /// The first state over a block that holds the file's code and data.
+    fn first(verified: Verified, block: Block) -> Core
+        requires code { block.code ≡ verified.code }
+        requires memory { block.memory ≡ verified.store ++ replicate verified.room (pos 0) }
+        ensures { result ≡ record {
+          amx = verified;
+          state = loaded verified verified.room;
+        } }
+    {
         let amx = verified.amx();
-        let block = block_of(alloc, amx)?;
         let hea = 4 * amx.store.len() as u32;
         let stp = hea + 4 * amx.room;
-        Ok(Core {
+        Core {
             pri: 0,
             alt: 0,
             frm: 0,
@@ -31,44 +56,6 @@ impl<'v> Core<'v> {
             stp,
             block,
             verified,
-        })
-    }
-}
-
-/// A block with a file's code and data.
-fn block_of(alloc: Global, amx: &Amx) -> Result<Block, Memory>
-    requires { length amx.now.code + length amx.now.store + amx.now.room ≤ cells_limit }
-    ensures code { IfOk result (λ block. block.code ≡ amx.now.code) }
-    ensures memory { IfOk result (λ block.
-        block.memory ≡ amx.now.store ++ replicate amx.now.room (pos 0)) }
-{
-    let code = amx.code.as_slice();
-    let store = amx.store.as_slice();
-    let mut block = Block::new(alloc, code.len() as u32, store.len() as u32, amx.room)?;
-    put_code(&mut block, code);
-    put_store(&mut block, store);
-    Ok(block)
-}
-
-fn put_code(block: &mut Block, code: &[i32])
-    requires same { length code.now ≡ length block.old.code }
-    requires small { length code.now ≤ cells_limit }
-    ensures { block.new ≡ record block.old { code = code.now } }
-{
-    for place in 0..code.len() {
-        block.set_code(4 * place as u32, code[place]);
-    }
-}
-
-fn put_store(block: &mut Block, store: &[i32])
-    requires { length store.now ≤ length block.old.memory }
-    ensures { block.new ≡ record block.old {
-      memory = store.now ++ drop (length store.now) block.old.memory;
-    } }
-{
-    // For the prover alone: by its clause each address fits.
-    let _ = block.top();
-    for place in 0..store.len() {
-        block.write(4 * place as u32, store[place]);
+        }
     }
 }

@@ -9,7 +9,7 @@ use super::turn::Turn;
 /// Loads and stores.
 #[inline(always)]
 #[tactic(auto, using(crate::proofs::Firsts::first_some))]
-pub fn load_or_store(machine: &mut Core<'_>, number: i32) -> Option<Turn>
+pub fn load_or_store(machine: &mut Core, number: i32) -> Option<Turn>
     requires at { IsAt machine.old }
     requires ready { IsReady machine.old (load_row number) }
     ensures { IsDone (load_row number) machine.old result machine.new }
@@ -22,7 +22,7 @@ pub fn load_or_store(machine: &mut Core<'_>, number: i32) -> Option<Turn>
 
 /// Loads, constants and addresses.
 #[inline(always)]
-fn load_group(machine: &mut Core<'_>, number: i32) -> Option<Turn>
+fn load_group(machine: &mut Core, number: i32) -> Option<Turn>
     requires at { IsAt machine.old }
     requires ready { IsReady machine.old (group 0 14 number) }
     ensures { IsDone (group 0 14 number) machine.old result machine.new }

@@ -1,5 +1,5 @@
 ghost use Rattle.std.specs.Prelude.{◌≡◌, ◌+◌, ◌*◌, ◌/◌, ◌%◌, ◌<◌, ◌≤◌};
-ghost use Rattle.std.specs.Prelude.{IsTrue, drop, length, map, pos};
+ghost use Rattle.std.specs.Prelude.{IsTrue, drop, false, length, map, pos};
 ghost use Rattle.std.specs.List.{slice_index_or};
 ghost use Rattle.pawn_cells.specs.Cells.{add, mul, shl};
 ghost use Rattle.amx_ops.specs.Access.{in_frame};
@@ -7,6 +7,7 @@ ghost use Rattle.amx_ops.specs.Effects.{at_next, register};
 ghost use Rattle.amx_ops.specs.Instructions as instructions;
 ghost use Rattle.amx_ops.specs.Instructions.{fetched, front};
 ghost use Rattle.amx_ops.specs.Valid.{IsValid};
+ghost use Rattle.amx_verify.specs.Kinds.{StartsAs};
 
 use super::turn::Turn;
 use amx_block::Block;
@@ -17,7 +18,7 @@ use std::marker::Model;
 
 /// The registers and the memory of a file's machine. Contracts see the file and the state.
 #[derive(Drop)]
-pub struct Core<'v> {
+pub struct Core {
     pub(crate) pri: i32,
     pub(crate) alt: i32,
     pub(crate) frm: u32,
@@ -26,16 +27,16 @@ pub struct Core<'v> {
     pub(crate) hea: u32,
     pub(crate) stp: u32,
     pub(crate) block: Block,
-    pub(crate) verified: &'v Verified,
+    pub(crate) verified: Verified,
 }
 
-impl<'v> Model for Core<'v> {
+impl Model for Core {
     ghost use Rattle.amx_step.specs.Machine.{Machine, IsSound};
 
     ghost Value = { Machine };
 
     ghost view = { λ m. record {
-      amx = m.verified.now;
+      amx = m.verified;
       state = record {
         pri = m.pri;
         alt = m.alt;
@@ -47,13 +48,20 @@ impl<'v> Model for Core<'v> {
       };
     } };
 
-    ghost invariant = { λ m. IsSound m.verified.now m.stp m.stk m.hea m.block };
+    ghost invariant = { λ m. IsSound m.verified m.stp m.stk m.hea m.block };
 }
 
-impl<'v> Core<'v> {
+impl Core {
     ghost use Rattle.amx_step.specs.Turns.{IsTurn};
 
-    /// The file, which is valid.
+    /// The file.
+    pub fn verified(&self) -> &Verified
+        ensures { result.now ≡ self.now.amx }
+    {
+        &self.verified
+    }
+
+    /// The same, as it was read: it is valid.
     pub fn amx(&self) -> &Amx
         ensures value { result.now ≡ self.now.amx }
         ensures valid { IsValid self.now.amx.code (length self.now.amx.natives)
@@ -125,13 +133,14 @@ impl<'v> Core<'v> {
         self.verified.starts_at(at)
     }
 
-    /// A cell of the code.
+    /// The number of the instruction that starts at CIP, 0 where none does.
     #[inline(always)]
-    pub fn code(&self, at: u32) -> i32
-        requires { (at % 4 ≡ 0) × (at < 4 * length self.now.amx.code) }
-        ensures { result ≡ slice_index_or self.now.amx.code (at / 4) (pos 0) }
+    pub fn kind(&self) -> u8
+        ensures none { result ≡ 0 →
+            instructions.is_start self.now.amx.code self.now.state.cip ≡ false }
+        ensures some { 0 < result → StartsAs self.now.amx.code self.now.state.cip result }
     {
-        self.block.code(at)
+        self.verified.kind_at(self.cip)
     }
 
     /// PRI = a value.

@@ -7,7 +7,7 @@ use super::turns::step;
 
 /// Does so many instructions, up to one that doesn't go on, and tells how many were done.
 #[inline(never)]
-pub fn run(machine: &mut Core<'_>, count: u64) -> (u64, Turn)
+pub fn run(machine: &mut Core, count: u64) -> (u64, Turn)
     ensures { record { steps = result.0; turn = result.1; machine = machine.new }
         ≡ spec.runs count 0 machine.old }
 {

@@ -11,7 +11,7 @@ use super::turn::Turn;
 pub(crate) const MARGIN: u32 = 64;
 
 // Registers that are moved or set.
-impl<'v> Core<'v> {
+impl Core {
     ghost use Rattle.amx_step.specs.Turns.{IsTurn};
 
     /// ALT = STK, and STK moves by a multiple of 4.

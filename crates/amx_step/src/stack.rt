@@ -12,7 +12,7 @@ use super::set::MARGIN;
 use super::turn::Turn;
 
 // The stack, the heap and frames.
-impl<'v> Core<'v> {
+impl Core {
     ghost use Rattle.amx_step.specs.Turns.{IsTurn};
 
     /// Pushes a cell.

@@ -9,7 +9,7 @@ use pawn_cells::Cell;
 /// Stores and indexes.
 #[inline(always)]
 #[tactic(auto, using(crate::proofs::Firsts::first_some))]
-pub fn store_or_index(machine: &mut Core<'_>, number: i32) -> Option<Turn>
+pub fn store_or_index(machine: &mut Core, number: i32) -> Option<Turn>
     requires at { IsAt machine.old }
     requires ready { IsReady machine.old (store_row number) }
     ensures { IsDone (store_row number) machine.old result machine.new }
@@ -22,7 +22,7 @@ pub fn store_or_index(machine: &mut Core<'_>, number: i32) -> Option<Turn>
 
 /// Stores.
 #[inline(always)]
-fn store_group(machine: &mut Core<'_>, number: i32) -> Option<Turn>
+fn store_group(machine: &mut Core, number: i32) -> Option<Turn>
     requires at { IsAt machine.old }
     requires ready { IsReady machine.old (group 14 10 number) }
     ensures { IsDone (group 14 10 number) machine.old result machine.new }
@@ -84,7 +84,7 @@ fn store_group(machine: &mut Core<'_>, number: i32) -> Option<Turn>
 
 /// Indexes.
 #[inline(always)]
-fn index_group(machine: &mut Core<'_>, number: i32) -> Option<Turn>
+fn index_group(machine: &mut Core, number: i32) -> Option<Turn>
     requires at { IsAt machine.old }
     requires ready { IsReady machine.old (group 24 6 number) }
     ensures { IsDone (group 24 6 number) machine.old result machine.new }

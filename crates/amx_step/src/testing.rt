@@ -8,7 +8,7 @@ use pawn_cells::Cell;
 
 /// Tests.
 #[inline(always)]
-pub fn test_group(machine: &mut Core<'_>, number: i32) -> Option<Turn>
+pub fn test_group(machine: &mut Core, number: i32) -> Option<Turn>
     requires at { IsAt machine.old }
     requires ready { IsReady machine.old (group 89 16 number) }
     ensures { IsDone (group 89 16 number) machine.old result machine.new }

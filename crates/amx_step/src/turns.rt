@@ -15,23 +15,22 @@ use super::turn::Turn;
 /// Does the instruction at CIP (Implementer's Guide, "Instruction reference"). An error changes
 /// nothing.
 #[inline(always)]
-pub fn step(machine: &mut Core<'_>) -> Turn
+pub fn step(machine: &mut Core) -> Turn
     ensures { IsTurn (steps.step machine.old.amx machine.old.state) machine.old result machine.new }
 {
-    let cip = machine.cip();
-    if !machine.is_start(cip) {
+    let kind = machine.kind();
+    if kind == 0 {
         return Turn::Errs(6);
     }
     // For the prover alone: by its clause the code is valid, so that the instruction is whole.
     let _ = machine.amx();
-    let number = machine.code(cip);
-    act(machine, number)
+    act(machine, i32::from(kind))
 }
 
 /// Does the instruction of a number.
 #[inline(always)]
 #[tactic(auto, using(crate::proofs::Firsts::first_some))]
-fn act(machine: &mut Core<'_>, number: i32) -> Turn
+fn act(machine: &mut Core, number: i32) -> Turn
     requires at { IsAt machine.old }
     requires ready { IsReady machine.old (row number) }
     ensures { IsTurn (acts machine.old (row number)) machine.old result machine.new }
@@ -47,7 +46,7 @@ fn act(machine: &mut Core<'_>, number: i32) -> Turn
 
 #[inline(always)]
 #[tactic(auto, using(crate::proofs::Firsts::first_some))]
-fn past_loads(machine: &mut Core<'_>, number: i32) -> Option<Turn>
+fn past_loads(machine: &mut Core, number: i32) -> Option<Turn>
     requires at { IsAt machine.old }
     requires ready { IsReady machine.old (row_past_loads number) }
     ensures { IsDone (row_past_loads number) machine.old result machine.new }
@@ -60,7 +59,7 @@ fn past_loads(machine: &mut Core<'_>, number: i32) -> Option<Turn>
 
 #[inline(always)]
 #[tactic(auto, using(crate::proofs::Firsts::first_some))]
-fn past_calls(machine: &mut Core<'_>, number: i32) -> Option<Turn>
+fn past_calls(machine: &mut Core, number: i32) -> Option<Turn>
     requires at { IsAt machine.old }
     requires ready { IsReady machine.old (row_past_calls number) }
     ensures { IsDone (row_past_calls number) machine.old result machine.new }
@@ -73,7 +72,7 @@ fn past_calls(machine: &mut Core<'_>, number: i32) -> Option<Turn>
 
 #[inline(always)]
 #[tactic(auto, using(crate::proofs::Firsts::first_some))]
-fn past_sums(machine: &mut Core<'_>, number: i32) -> Option<Turn>
+fn past_sums(machine: &mut Core, number: i32) -> Option<Turn>
     requires at { IsAt machine.old }
     requires ready { IsReady machine.old (row_past_sums number) }
     ensures { IsDone (row_past_sums number) machine.old result machine.new }

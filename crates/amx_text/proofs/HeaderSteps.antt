@@ -3,7 +3,7 @@ use Rattle.std.proofs.Common.{◌≡◌, ◌∙◌, ◌&&◌, ℕ, ℤ, List, Bo
 use Rattle.std.specs.Prelude.{option_and_then}
 use Rattle.amx_text.specs.Lines.{Header}
 use Rattle.amx_text.specs.Readers.{after_word, cell_at, field_at, fits_flags, fits_version}
-use Rattle.amx_text.specs.Readers.{header_by, entry_at, room_at, store_at, code_at, version_at}
+use Rattle.amx_text.specs.Readers.{header_end, entry_at, room_at, store_at, code_at, version_at}
 use Rattle.amx_text.specs.Readers.{header_at}
 
 -- the header of its parts
@@ -62,7 +62,7 @@ module _ (text : List ℕ) where
 
             -- what the entry's cell gives
             abbrev with_entry : ℤ × List ℕ → Option (Header × List ℕ)
-            with_entry found = header_by (made flags version code store room found.0) found.1
+            with_entry found = header_end (made flags version code store room found.0) found.1
 
             pub no_word : after_word (codes " entry ") f ≡ None → header_at text ≡ None
             no_word e =

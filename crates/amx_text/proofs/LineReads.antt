@@ -14,7 +14,8 @@ use Rattle.amx_ops.specs.declared.amx.Record.{Record}
 use Rattle.amx_text.specs.Lines.{Header, header_text}
 use Rattle.amx_text.specs.Forms.{HeaderFits, RecordFits}
 use Rattle.amx_text.specs.Readers.{after_word, number_at, cell_at, character_at, Run, Whole}
-use Rattle.amx_text.specs.Readers.{field_at, fits_flags, fits_version, header_by, entry_at, room_at}
+use Rattle.amx_text.specs.Readers.{field_at, fits_flags, fits_version, header_end, entry_at}
+use Rattle.amx_text.specs.Readers.{room_at}
 use Rattle.amx_text.specs.Readers.{store_at, code_at, version_at, header_at, record_text}
 use Rattle.amx_text.proofs.LineLaws.{characters_are}
 use Rattle.amx_text.proofs.ReaderLaws.{same_pair, word_is, word_found, Stops, number_found}
@@ -102,7 +103,7 @@ version_fits it h =
     (le-leb it.version 8 h.version.1)
 
 closed : (it : Header) (rest : List ℕ) → HeaderFits it
-    → header_by it (10 ∷ rest) ≡ Some (it, rest)
+    → header_end it (10 ∷ rest) ≡ Some (it, rest)
 closed it rest h = rw (flags_fit it h, version_fits it h) refl
 
 pub header_found : (it : Header) (rest : List ℕ) → HeaderFits it
@@ -125,7 +126,7 @@ header_found it rest h =
     (field_found (codes " data ") it.store (behind_store it rest) h.store refl)
     ∙ ap (option_and_then (entry_at it.flags it.version it.code it.store))
     (field_found (codes " room ") it.room (behind_room it rest) h.room refl)
-    ∙ ap (λ o. option_and_then (λ (found : ℤ × List ℕ). header_by (record {
+    ∙ ap (λ o. option_and_then (λ (found : ℤ × List ℕ). header_end (record {
       flags = it.flags;
       version = it.version;
       code = it.code;
@@ -196,7 +197,7 @@ header_is it text rest e =
           entry = entry;
         } in
         let p =
-        and_then_some (λ (found : ℤ × List ℕ). header_by (record {
+        and_then_some (λ (found : ℤ × List ℕ). header_end (record {
           flags = flags;
           version = version;
           code = code;

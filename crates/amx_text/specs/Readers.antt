@@ -250,14 +250,14 @@ has_operands kind cells = length cells == 1
 -- ---- the header
 
 -- the line's end behind the entry, and what fits
-abbrev pub header_by : Header → List ℕ → Option (Header × List ℕ)
-header_by it text = option_and_then (λ (rest : List ℕ).
+abbrev pub header_end : Header → List ℕ → Option (Header × List ℕ)
+header_end it text = option_and_then (λ (rest : List ℕ).
     if fits_flags it.flags && fits_version it.version then Some (it, rest) else None)
     (after_word (codes "\n") text)
 
 -- the entry
 abbrev pub entry_at : ℕ → ℕ → ℕ → ℕ → ℕ × List ℕ → Option (Header × List ℕ)
-entry_at flags version code store room = option_and_then (λ (it : ℤ × List ℕ). header_by (record {
+entry_at flags version code store room = option_and_then (λ (it : ℤ × List ℕ). header_end (record {
   flags = flags;
   version = version;
   code = code;

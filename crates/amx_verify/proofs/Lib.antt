@@ -1,3 +1,3 @@
 pub mod FrontLaws
+pub mod KindLaws
 pub mod LinkLaws
-pub mod MarkLaws

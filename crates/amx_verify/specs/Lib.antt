@@ -1,3 +1,3 @@
 pub mod Fronts
-pub mod Marks
+pub mod Kinds
 pub mod Verdict

@@ -1,8 +1,9 @@
-ghost use Rattle.std.specs.Prelude.{◌≡◌, ◌+◌, ◌/◌, ◌%◌, ◌<◌, ◌≤◌, ◌^◌, drop, length, map, IfOk};
+ghost use Rattle.std.specs.Prelude.{◌≡◌, ◌+◌, ◌/◌, ◌%◌, ◌<◌, ◌≤◌, ◌^◌, drop, false, length, map, IfOk};
 ghost use Rattle.std.specs.Prelude.{IsTrue};
 ghost use Rattle.amx_ops.specs.Instructions as instructions;
 ghost use Rattle.amx_ops.specs.Instructions.{fetched, front};
 ghost use Rattle.amx_ops.specs.Valid as valid;
+ghost use Rattle.amx_verify.specs.Kinds.{StartsAs, kind};
 ghost use Rattle.amx_verify.specs.Verdict.{fault_in, Judges};
 ghost use Rattle.amx_ops.specs.Writable.{cells_limit};
 
@@ -83,5 +84,15 @@ impl Verified {
             front (drop (at / 4) self.now.code) }
     {
         self.marked.is_start(at)
+    }
+
+    /// The number of the instruction that starts at an address, in bytes; 0 where none does.
+    #[inline(always)]
+    pub fn kind_at(&self, at: u32) -> u8
+        ensures is { result ≡ kind self.now.code at }
+        ensures none { result ≡ 0 → instructions.is_start self.now.code at ≡ false }
+        ensures some { 0 < result → StartsAs self.now.code at result }
+    {
+        self.marked.kind_at(at)
     }
 }

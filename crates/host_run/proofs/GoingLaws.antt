@@ -14,8 +14,9 @@ use Rattle.amx_ops.specs.declared.amx.Amx.{Amx}
 use Rattle.amx_ops.specs.Cuts.{showing}
 use Rattle.amx_ops.specs.Moves.{Config, move}
 use Rattle.amx_ops.specs.Runs.{Moved, Segmented, Traced, Stop, Steps, Asleep, Over_by, segment}
-use Rattle.amx_ops.specs.Runs.{traced, joined}
+use Rattle.amx_ops.specs.Runs.{traced, behind, joined}
 use Rattle.amx_ops.specs.State.{State}
+use Rattle.amx_ops.specs.Trace.{begun as begun_at}
 use Rattle.amx_ops.proofs.ShownLaws.{trace_is_one_iteration_lem}
 use Rattle.amx_machine.specs.Machine.{Machine}
 use Rattle.amx_machine.specs.declared.mode.Mode.{Mode}
@@ -25,9 +26,11 @@ use Rattle.host_run.specs.Session.{Sessions, told}
 use Rattle.host_run.specs.Stands.{IsAwake, IsLeft, Stands}
 use Rattle.host_run.specs.declared.end.SessionEnd.{SessionEnd}
 use Rattle.host_run.specs.declared.end.SessionEnd.TheVariants as session
-use Rattle.host_run.specs.Going.{Going, rest_of}
+use Rattle.host_run.specs.Going.{Going, rest_of, joined_behind}
 use Rattle.host_run.specs.Last.{unless_asleep}
 use Rattle.host_run.specs.Trace.{trace_on, told_text, StopsAs}
+use Rattle.host_run.proofs.BehindLaws.{behind_more, behind_none, replicate_more, some_bound}
+use Rattle.host_run.proofs.BehindLaws.{some_within}
 use Rattle.host_run.proofs.JoinedLaws.{joined_asleep, joined_ends, joined_grows}
 
 -- ---- at first
@@ -35,7 +38,7 @@ use Rattle.host_run.proofs.JoinedLaws.{joined_asleep, joined_ends, joined_grows}
 pub at_first : {S : Type 0} (taken : S → Option (List ℕ)) (faults : S → ℕ)
     (has_room : S → ℕ → Type 0) (out : S) (script : Script) (old : Machine)
     (steps sleeps : ℕ) → IsAwake old.mode
-    → Going script old steps sleeps sleeps (record { machine = old; position = 0 })
+    → Going script old steps sleeps sleeps 0 (record { machine = old; position = 0 })
     (λ text. Said taken faults has_room out out text (Ok tt))
 at_first taken faults has_room out script old steps sleeps awake =
     record {
@@ -45,20 +48,34 @@ at_first taken faults has_room out script old steps sleeps awake =
       said = said_nothing out;
       stop = refl;
       config = refl;
+      still = λ e. refl;
+      some = λ h. absurd (omega (arith, h));
+      slept = 0;
+      slept_is = omega arith;
+      leads = λ bound bounds. behind_none (joined (move old.amx script) bound bounds _);
     }
 
 -- the same by another number of sleeps that are left
-pub left_as : {script : Script} {old : Machine} {steps sleeps a b : ℕ} {now : Place}
+pub left_as : {script : Script} {old : Machine} {steps sleeps a b done : ℕ} {now : Place}
     {say : List ℕ → Type 0} → a ≡ b
-    → Going script old steps sleeps a now say → Going script old steps sleeps b now say
-left_as {script} {old} {steps} {sleeps} {now = now} {say = say} e it =
-    let P : ℕ → Type 0 = λ n. Going script old steps sleeps n now say in
+    → Going script old steps sleeps a done now say → Going script old steps sleeps b done now say
+left_as {script} {old} {steps} {sleeps} {done = done} {now = now} {say = say} e it =
+    let P : ℕ → Type 0 = λ n. Going script old steps sleeps n done now say in
+    subst P e it
+
+-- and by another number of steps that were done
+pub done_as : {script : Script} {old : Machine} {steps sleeps left a b : ℕ} {now : Place}
+    {say : List ℕ → Type 0} (done : ℕ) → a ≡ b
+    → Going script old steps sleeps left (done + a) now say
+    → Going script old steps sleeps left (done + b) now say
+done_as {script} {old} {steps} {sleeps} {left} {now = now} {say = say} done e it =
+    let P : ℕ → Type 0 = λ n. Going script old steps sleeps left (done + n) now say in
     subst P e it
 
 -- ---- what a session answers
 
 -- the stop of its segment
-stops_as : (segments : ℕ → Segmented Config End) (taken after : Option (List ℕ)) (bound : ℕ)
+pub stops_as : (segments : ℕ → Segmented Config End) (taken after : Option (List ℕ)) (bound : ℕ)
     (old : Place) (count : ℕ) (given : SessionEnd)
     (new : Place) → Sessions segments taken after bound old count given new
     → StopsAs (segments bound).stop given
@@ -70,7 +87,7 @@ stops_as segments taken after bound old count session.Steps new it = it.answer
 stops_as segments taken after bound old count session.SinkFault new it = tt
 
 -- an end that isn't a sleep, nor the sink's
-not_asleep : (stop : Stop End) (given : SessionEnd) → StopsAs stop given
+pub not_asleep : (stop : Stop End) (given : SessionEnd) → StopsAs stop given
     → (unless_asleep given ≡ None → ⊥) → given ≢ session.SinkFault → stop ≢ Asleep
 not_asleep stop (session.Done value) is last whole = λ e. absurd (cc (is, e))
 not_asleep stop (session.Exit value tag) is last whole = λ e. absurd (cc (is, e))
@@ -78,6 +95,14 @@ not_asleep stop (session.Error code) is last whole = λ e. absurd (cc (is, e))
 not_asleep stop (session.Asleep value tag) is last whole = λ e. last refl
 not_asleep stop session.Steps is last whole = λ e. absurd (cc (is, e))
 not_asleep stop session.SinkFault is last whole = λ e. whole refl
+
+pub same_end : (given last : SessionEnd) → unless_asleep given ≡ Some last → given ≡ last
+same_end (session.Done value) last e = cc e
+same_end (session.Exit value tag) last e = cc e
+same_end (session.Error code) last e = cc e
+same_end (session.Asleep value tag) last e = absurd (cc e)
+same_end session.Steps last e = cc e
+same_end session.SinkFault last e = cc e
 
 awake_by : (stop : Stop End) (count : ℕ) (old new : Mode) → stop ≡ Asleep → (count ≡ 0 → new ≡ old)
     → (1 ≤ count → IsLeft stop new) → IsAwake old → IsAwake new
@@ -90,8 +115,8 @@ awake_by stop (suc n) old new is still left awake =
 
 module _ {S : Type 0} (taken : S → Option (List ℕ)) (faults : S → ℕ) (has_room : S → ℕ → Type 0)
     (begun mid out : S) (script : Script) (old : Machine)
-    (steps sleeps left : ℕ) (now new : Place) (count : ℕ)
-    (so : Going script old steps sleeps left now
+    (steps sleeps left done : ℕ) (now new : Place) (count : ℕ)
+    (so : Going script old steps sleeps left done now
     (λ text. Said taken faults has_room begun mid text (Ok tt))) where
   abbrev go : Config → Moved Config End
   go = move old.amx script
@@ -217,9 +242,28 @@ module _ {S : Type 0} (taken : S → Option (List ℕ)) (faults : S → ℕ) (ha
         → showing so.shown bare.config ≡ placed state position shown
     going_on state position s p = ap₂ (λ s p. placed s p shown) (sym s) (sym p)
 
+    -- over whatever bounds follow
+    leads_on : (d : Config) (bound : ℕ) (bounds : List ℕ) → bare.steps ≡ count
+        → showing so.shown bare.config ≡ d
+        → joined_behind go (replicate (suc so.slept) steps) bound bounds (begun_at old.state)
+        ≡ behind (done + count) (joined go bound bounds d)
+    leads_on d bound bounds counted there =
+        let at : Config = begun_at old.state in
+        ap (λ front. joined_behind go front bound bounds at) (sym (replicate_more so.slept steps))
+        ∙ behind_more go (replicate so.slept steps) steps bound bounds at here done so.leads
+        (stop_here ∙ is)
+        ∙ ap₂ (λ n c. behind (done + n) (joined go bound bounds c))
+        (ap (λ (s : Segmented Config End). s.steps) from_here ∙ counted) (config_here ∙ there)
+
+    -- steps were done only where there was a bound
+    count_within : (n m : ℕ) → m ≡ (segment_of script now n).steps → 1 ≤ m → 1 ≤ n
+    count_within n m e h =
+        some_within (move now.machine.amx script) n (placed now.machine.state now.position [])
+        (subst (λ k. 1 ≤ k) e h)
+
     goes_by : Stands now (segment_of script now steps) count new
         → Said taken faults has_room begun out (lines_of shown ++ stop_text bare.stop) (Ok tt)
-        → Going script old steps sleeps fewer new
+        → Going script old steps sleeps fewer (done + count) new
         (λ text. Said taken faults has_room begun out text (Ok tt))
     goes_by stands said =
         let state : new.machine.state ≡ bare.config.state =
@@ -239,6 +283,12 @@ module _ {S : Type 0} (taken : S → Option (List ℕ)) (faults : S → ℕ) (ha
               said;
           stop = stop_then ∙ ap (λ c. (rest c).stop) there;
           config = config_then ∙ ap (λ c. (rest c).config) there;
+          still = λ none. stands.still (omega (arith, none)) ∙ so.still (omega (arith, none));
+          some = λ h. some_bound done count so.some (count_within steps count stands.steps) h;
+          slept = suc so.slept;
+          slept_is = omega (arith, so.slept_is, more);
+          leads = λ bound bounds. leads_on (placed new.machine.state new.position shown) bound bounds
+              (sym (stands.steps ∙ ap (λ (s : Segmented Config End). s.steps) bare_is)) there;
         }
 
     -- the sink failed
@@ -274,7 +324,7 @@ module _ {S : Type 0} (taken : S → Option (List ℕ)) (faults : S → ℕ) (ha
     pub goes_on : (given : SessionEnd) → unless_asleep given ≡ None
         → Said taken faults has_room mid out (text_of (segment_of script now steps)) (told given)
         → Sessions (segment_of script now) (taken mid) (taken out) steps now count given new
-        → Going script old steps sleeps fewer new
+        → Going script old steps sleeps fewer (done + count) new
         (λ text. Said taken faults has_room begun out text (Ok tt))
     goes_on (session.Done value) none text it = absurd (cc none)
     goes_on (session.Exit value tag) none text it = absurd (cc none)
@@ -325,14 +375,6 @@ module _ {S : Type 0} (taken : S → Option (List ℕ)) (faults : S → ℕ) (ha
     answered (session.Asleep value tag) last text it = absurd (last refl)
     answered session.Steps last text it = ends_by session.Steps last (λ e. absurd (cc e)) text it
     answered session.SinkFault last text it = (text_cut bare.stop refl text, tt)
-
-    same_end : (given last : SessionEnd) → unless_asleep given ≡ Some last → given ≡ last
-    same_end (session.Done value) last e = cc e
-    same_end (session.Exit value tag) last e = cc e
-    same_end (session.Error code) last e = cc e
-    same_end (session.Asleep value tag) last e = absurd (cc e)
-    same_end session.Steps last e = cc e
-    same_end session.SinkFault last e = cc e
 
     pub ends_early : (given last : SessionEnd) → unless_asleep given ≡ Some last
         → Said taken faults has_room mid out (text_of (segment_of script now steps)) (told given)

@@ -18,7 +18,7 @@ use Rattle.amx_ops.specs.declared.amx.Record.{Record}
 use Rattle.amx_ops.specs.Moves.{name_of}
 use Rattle.host_run.specs.declared.bound.BoundNative.{BoundNative}
 use Rattle.host_run.specs.declared.guest.Guest.{Guest}
-use Rattle.host_run.specs.Bound.{entry_of, bound_of}
+use Rattle.host_run.specs.Bound.{entry_of, natives_of}
 use Rattle.host_run.specs.Advance.{IsGuest}
 
 there : (natives : List Native) (n : ℕ) (d : Native) → n < length natives
@@ -132,7 +132,7 @@ abbrev bound_it : Script → Record → BoundNative
 bound_it script it = record { name = it.name; entry = entry_of script it.name }
 
 module _ (script : Script) (natives : List Record) (bound : List BoundNative) (number : ℕ)
-    (all : bound ≡ bound_of script natives) where
+    (all : bound ≡ natives_of script natives) where
   of_it : slice_get bound number ≡ option_map (bound_it script) (slice_get natives number)
   of_it = ap (λ its. slice_get its number) all ∙ got (bound_it script) natives number
 

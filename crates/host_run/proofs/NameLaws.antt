@@ -13,7 +13,7 @@ use Rattle.host_script.specs.declared.script.Script.{Script}
 use Rattle.host_script.specs.declared.script.Native.{Native}
 use Rattle.amx_ops.specs.declared.amx.Record.{Record}
 use Rattle.host_run.specs.declared.bound.BoundNative.{BoundNative}
-use Rattle.host_run.specs.Bound.{names_of, entry_of, bound_of, unserved}
+use Rattle.host_run.specs.Bound.{names_of, entry_of, natives_of, unserved}
 
 pub flip : (x y : List ℕ) → bytes_eq x y ≡ bytes_eq y x
 flip x y = nat_list_eq_equiv.symm x y
@@ -60,7 +60,7 @@ module _ {X Y : Type 0} (f : X → Y) (p : Y → Bool) where
 
 -- the first of them that isn't served, by their entries
 pub unserved_is : (script : Script) (natives : List Record) (bound : List BoundNative)
-    (o : Option ℕ) → bound ≡ bound_of script natives
+    (o : Option ℕ) → bound ≡ natives_of script natives
     → o ≡ (if script.others then None else position_from (λ it. is_none it.entry) 0 bound)
     → unserved script natives ≡ o
 unserved_is script natives bound o is e =
@@ -93,9 +93,9 @@ pub bound_next : (script : Script) (natives : List Record) (i : ℕ) (d : Record
     → more ≡ bound ++ native ∷ [] → native
     ≡ record { name = name; entry = position (bytes_eq name) names }
     → name ≡ (get_or natives i d).name
-    → names ≡ names_of script.natives → bound ≡ bound_of script (take i natives)
+    → names ≡ names_of script.natives → bound ≡ natives_of script (take i natives)
     → i < length natives
-    → more ≡ bound_of script (take (i + 1) natives)
+    → more ≡ natives_of script (take (i + 1) natives)
 bound_next script natives i d names bound more name native pushed is n all so_far h =
     let bound_it : Record → BoundNative =
     λ it. record { name = it.name; entry = entry_of script it.name } in

@@ -1,10 +1,10 @@
 pub mod Advance
-pub mod Apart
 pub mod Bound
 pub mod Called
 pub mod Going
 pub mod Guest
 pub mod Last
+pub mod Leaves
 pub mod Reached
 pub mod Reply
 pub mod Segments
@@ -12,4 +12,6 @@ pub mod Session
 pub mod Sights
 pub mod SoFar
 pub mod Stands
+pub mod StepCount
 pub mod Trace
+pub mod Writes

@@ -3,11 +3,14 @@ ghost use Rattle.std.specs.Prelude.{IfOk, IfSome, is_none, length, position};
 ghost use Rattle.std.specs.List.{IsDistinct, position_from};
 ghost use Rattle.std.specs.Str.{bytes_eq};
 ghost use Rattle.host_script.specs.Ranges.{IsScript};
-ghost use Rattle.host_run.specs.Bound.{Binds, bound_of, names_of};
+ghost use Rattle.host_run.specs.Bound.{Binds, natives_of, names_of};
+ghost use Rattle.host_run.specs.Bound as spec;
 
+use super::writes::write_all;
+use amx_machine::Machine;
 use amx_ops::Record;
 use amx_verify::Verified;
-use host_script::{Native, Script};
+use host_script::{Answer, Native, Script, Write};
 use pawn_base::{Bytes, List, Memory, Names};
 use std::alloc::Global;
 use std::marker::Model;
@@ -22,29 +25,80 @@ pub struct BoundNative {
 }
 
 /// The natives of a file with their entries in a script. Contracts see a list that has each of them
-/// in the file's order.
+/// in the file's order, and for how many addresses there is room: as many as the script's longest
+/// list of writes has.
 #[derive(Debug, Drop)]
 pub struct Bound {
     natives: List<BoundNative>,
+    /// Where the addresses of an answer's writes are kept before the first of them is done.
+    reserved: Vec<i32>,
 }
 
 impl Model for Bound {
-    ghost use Rattle.std.specs.Prelude.{List as ListOf};
-    ghost use Rattle.host_run.specs.declared.bound.BoundNative.{BoundNative};
+    ghost use Rattle.std.specs.Prelude.{length};
+    ghost use Rattle.host_run.specs.Bound.{Bound};
 
-    ghost Value = { ListOf BoundNative };
+    ghost Value = { Bound };
 
-    ghost view = { λ bound. bound.natives };
+    ghost view = { λ bound. record {
+      natives = bound.natives;
+      room = length bound.reserved.items;
+    } };
 }
 
 impl Bound {
-    ghost use Rattle.std.specs.Prelude.{◌≡◌, option_map, slice_get};
+    ghost use Rattle.std.specs.Prelude.{◌≡◌, ◌≤◌, ◌<◌, List as ListOf, All};
+    ghost use Rattle.std.specs.Prelude.{length, option_map, slice_get, unwrap_or};
+    ghost use Rattle.host_script.specs.Ranges.{IsScript};
+    ghost use Rattle.host_script.specs.declared.script.Script.{Script as ScriptOf};
+    ghost use Rattle.amx_ops.specs.declared.amx.Record.{Record as RecordOf};
+    ghost use Rattle.amx_ops.specs.Moves.{arguments, name_of};
+    ghost use Rattle.host_run.specs.Bound.{bound_of, entry_of};
+    ghost use Rattle.host_run.specs.Sights.{arguments_of, IsRoomFor};
+    ghost use Rattle.host_run.specs.Writes.{written};
 
     /// A native by its number.
-    pub(crate) fn get(&self, number: usize) -> Option<&BoundNative>
-        ensures { option_map (λ native. native.now) result ≡ slice_get self.now number }
+    fn get(&self, number: usize) -> Option<&BoundNative>
+        ensures { option_map (λ native. native.now) result ≡ slice_get self.now.natives number }
     {
         self.natives.as_slice().get(number)
+    }
+
+    /// The name of a native by its number.
+    pub(crate) fn name(&self, number: u32) -> &[u8]
+        ensures { (script : ScriptOf) → (natives : ListOf RecordOf) →
+            self.now ≡ bound_of script natives → result.now ≡ name_of natives number }
+    {
+        match self.get(number as usize) {
+            None => b"",
+            Some(native) => native.name.as_slice(),
+        }
+    }
+
+    /// The number of its entry among the script's natives, if it is listed.
+    pub(crate) fn entry(&self, number: u32) -> Option<usize>
+        ensures { (script : ScriptOf) → (natives : ListOf RecordOf) → IsScript script →
+            self.now ≡ bound_of script natives →
+            result ≡ entry_of script (name_of natives number) }
+    {
+        match self.get(number as usize) {
+            None => None,
+            Some(native) => native.entry,
+        }
+    }
+
+    /// Does the writes of an answer, the first of them first, to the addresses that the arguments
+    /// had before.
+    pub(crate) fn write_all(&mut self, machine: &mut Machine, writes: &[Write])
+        requires there { let count = unwrap_or (option_map length (arguments machine.old.state)) 0 in
+            All (λ write. write.arg < count) writes.now }
+        requires room { All (IsRoomFor machine.old.state (arguments_of machine.old.state))
+            writes.now }
+        requires reserved { length writes.now ≤ self.old.room }
+        ensures written { machine.new ≡ written writes.now machine.old }
+        ensures same { self.new ≡ self.old }
+    {
+        write_all(machine, writes, self.reserved.as_mut_slice());
     }
 }
 
@@ -82,7 +136,38 @@ pub fn bind(alloc: Global, verified: &Verified, script: &Script) -> Result<Bound
     let natives = bound_natives(alloc, verified.amx().natives.as_slice(), script)?;
     match first_unserved(script, natives.as_slice()) {
         Some(number) => Err(BindFault::Unregistered(number as u32)),
-        None => Ok(Bound { natives }),
+        None => Ok(with_room(alloc, natives, most_writes(script.answers.as_slice()))?),
+    }
+}
+
+/// Bound natives with room for so many addresses.
+fn with_room(alloc: Global, natives: List<BoundNative>, room: usize) -> Result<Bound, Memory>
+    ensures { IfOk result (λ bound. bound ≡ record { natives = natives; room = room }) }
+{
+    let reserved = Vec::from_elem(alloc, 0, room)?;
+    Ok(Bound { natives, reserved })
+}
+
+/// The most writes that an answer has.
+fn most_writes(answers: &[Answer]) -> usize
+    ensures { result ≡ spec.most_writes answers.now }
+{
+    let mut most = 0;
+    for answer in answers {
+        let count = count_writes(answer);
+        if count > most {
+            most = count;
+        }
+    }
+    most
+}
+
+fn count_writes(answer: &Answer) -> usize
+    ensures { result ≡ spec.count_writes answer.now }
+{
+    match answer {
+        Answer::Given { writes, .. } => writes.len(),
+        Answer::Error(_) => 0,
     }
 }
 
@@ -93,7 +178,7 @@ fn bound_natives(
     script: &Script,
 ) -> Result<List<BoundNative>, Memory>
     requires { IsScript script.now }
-    ensures { IfOk result (λ bound. bound ≡ bound_of script.now natives.now) }
+    ensures { IfOk result (λ bound. bound ≡ natives_of script.now natives.now) }
 {
     let names = names_of(alloc, script.natives.as_slice())?;
     let mut bound = List::new(alloc);

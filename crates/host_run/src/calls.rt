@@ -1,4 +1,5 @@
 ghost use Rattle.std.specs.Prelude.{◌≡◌, ◌≤◌, ℕ, List as ListOf, length, option_map, Some, nat_le};
+ghost use Rattle.std.specs.Prelude.{IfOk};
 ghost use Rattle.std.specs.List.{list_all};
 ghost use Rattle.host_script.specs.Script.{turn_by};
 ghost use Rattle.host_script.specs.declared.script.TheConstants.{ANSWER_LIMIT};
@@ -6,6 +7,7 @@ ghost use Rattle.pawn_cells.specs.Cells.{bits_of};
 ghost use Rattle.amx_ops.specs.Moves.{arguments, look, live_from};
 ghost use Rattle.host_run.specs.Guest.{form_at};
 ghost use Rattle.host_run.specs.Sights.{arguments_of, is_sight, all_seen, is_allowed};
+ghost use Rattle.host_run.specs.Bound.{most_writes};
 ghost use Rattle.host_run.specs.Called.{called_of};
 ghost use Rattle.host_run.specs.Reply.{Replies, IsTaken};
 
@@ -28,16 +30,18 @@ pub struct Reply<'s> {
 /// Finds what a native answers, or the AMX error of its call: its arguments are counted and seen,
 /// then its answer is taken, whose writes are tested. Nothing is written yet.
 pub fn reply_to<'s>(
-    machine: &Machine<'_>,
+    machine: &Machine,
     guest: &Guest<'_>,
     script: &'s Script,
     at: &mut u32,
 ) -> Result<Reply<'s>, i32>
     requires { length script.now.answers ≤ ANSWER_LIMIT }
-    ensures { (name : ListOf ℕ) → let it = guest.now in
+    ensures replies { (name : ListOf ℕ) → let it = guest.now in
         Replies name it machine.now.state
         (called_of script.now it.forms.now it.rest it.result name machine.now.state at.old)
         at.new result }
+    ensures few { IfOk result (λ reply.
+        length reply.writes.now ≤ most_writes script.now.answers) }
 {
     let Some(count) = machine.native_args() else {
         return Err(NATIVE);
@@ -87,7 +91,7 @@ fn take_answer<'s>(
 }
 
 /// Whether each argument is seen.
-fn are_seen(machine: &Machine<'_>, guest: &Guest<'_>, count: u32) -> bool
+fn are_seen(machine: &Machine, guest: &Guest<'_>, count: u32) -> bool
     requires { option_map length (arguments machine.now.state) ≡ Some count }
     ensures { result ≡ all_seen machine.now.state (form_at guest.now.forms.now guest.now.rest) 0
         (arguments_of machine.now.state) }
@@ -102,7 +106,7 @@ fn are_seen(machine: &Machine<'_>, guest: &Guest<'_>, count: u32) -> bool
 
 /// Whether an argument is live as far as its form reaches, and a text has its end.
 #[tactic(auto, using(crate::proofs::SightLaws::sight_if, crate::proofs::SightLaws::sight_text))]
-fn is_seen(machine: &Machine<'_>, form: Form, value: i32) -> bool
+fn is_seen(machine: &Machine, form: Form, value: i32) -> bool
     ensures { result ≡ is_sight (look machine.now.state value form) }
 {
     match form {
@@ -114,7 +118,7 @@ fn is_seen(machine: &Machine<'_>, form: Form, value: i32) -> bool
 }
 
 /// Whether so many cells are live from an address on.
-fn reaches(machine: &Machine<'_>, address: i32, count: u32) -> bool
+fn reaches(machine: &Machine, address: i32, count: u32) -> bool
     ensures { result ≡ nat_le count (length (live_from machine.now.state (bits_of address))) }
 {
     count as usize <= machine.live_from(address).len()

@@ -13,3 +13,14 @@ pub enum SessionEnd {
     /// The sink failed at the line of the last step.
     SinkFault,
 }
+
+/// How a run over sleeps ends.
+#[derive(Clone, Copy, Debug, PartialEq, Eq)]
+pub struct TraceEnd {
+    /// The steps of all its segments together.
+    pub steps: u128,
+    /// The script's position.
+    pub at: u32,
+    /// How its last session ends.
+    pub end: SessionEnd,
+}

@@ -5,12 +5,14 @@ mod bound;
 mod calls;
 mod end;
 mod guest;
+mod laws;
 mod lines;
 mod run;
 mod sessions;
 mod writes;
 
 pub use bound::{BindFault, Bound, BoundNative, bind};
-pub use end::SessionEnd;
+pub use end::{SessionEnd, TraceEnd};
+pub use laws::sessions_are_bounded;
 pub use run::run_segments;
 pub use sessions::session;

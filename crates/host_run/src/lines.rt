@@ -14,7 +14,7 @@ use pawn_outside::{Sink, SinkFault};
 /// Writes the line of a native that sees its arguments and answers a result.
 pub fn say_call<S: Sink>(
     out: &mut S,
-    machine: &Machine<'_>,
+    machine: &Machine,
     name: &[u8],
     guest: &Guest<'_>,
     count: u32,
@@ -34,7 +34,7 @@ pub fn say_call<S: Sink>(
 /// Writes each argument after one blank.
 fn say_arguments<S: Sink>(
     out: &mut S,
-    machine: &Machine<'_>,
+    machine: &Machine,
     guest: &Guest<'_>,
     count: u32,
 ) -> Result<(), SinkFault>
@@ -52,7 +52,7 @@ fn say_arguments<S: Sink>(
 /// Writes an argument as a native sees it.
 fn say_argument<S: Sink>(
     out: &mut S,
-    machine: &Machine<'_>,
+    machine: &Machine,
     form: Form,
     value: i32,
 ) -> Result<(), SinkFault>

@@ -3,7 +3,6 @@ ghost use Rattle.pawn_outside.specs.Said.{Said};
 ghost use Rattle.host_script.specs.Ranges.{IsScript};
 ghost use Rattle.host_script.specs.Text.{event_text, end_text};
 ghost use Rattle.host_script.specs.declared.event.Event.TheVariants as event;
-ghost use Rattle.amx_ops.specs.declared.amx.Record.{Record};
 ghost use Rattle.amx_ops.specs.Moves.{name_of};
 ghost use Rattle.amx_machine.specs.declared.mode.Mode.TheVariants as mode;
 ghost use Rattle.host_run.specs.Bound.{bound_of, entry_of};
@@ -18,7 +17,6 @@ use super::calls::reply_to;
 use super::end::SessionEnd;
 use super::guest::Guest;
 use super::lines::say_call;
-use super::writes::write_all;
 use amx_machine::{Event, Machine};
 use host_script::{End, Form, Native, Script, say_end, say_slept};
 use pawn_outside::{Sink, SinkFault};
@@ -28,8 +26,8 @@ use pawn_outside::{Sink, SinkFault};
 /// answers on, and the trace is written line by line. Tells how many steps were done. It takes no
 /// memory.
 pub fn session<S: Sink>(
-    machine: &mut Machine<'_>,
-    bound: &Bound,
+    machine: &mut Machine,
+    bound: &mut Bound,
     script: &Script,
     at: &mut u32,
     steps: u64,
@@ -37,13 +35,14 @@ pub fn session<S: Sink>(
 ) -> (u64, SessionEnd)
     requires awake { IsAwake machine.old.mode }
     requires script { IsScript script.now }
-    requires bound { bound.now ≡ bound_of script.now machine.old.amx.natives }
+    requires bound { bound.old ≡ bound_of script.now machine.old.amx.natives }
     ensures text { let place : Place = record { machine = machine.old; position = at.old } in
         Said S.taken S.faults S.has_room out.old out.new
         (text_of (segment_of script.now place steps)) (told result.1) }
     ensures answer { let place : Place = record { machine = machine.old; position = at.old } in
         Sessions (segment_of script.now place) (S.taken out.old) (S.taken out.new) steps
         place result.0 result.1 (record { machine = machine.new; position = at.new }) }
+    ensures bound { bound.new ≡ bound.old }
 {
     let mut done = 0;
     while done < steps {
@@ -58,8 +57,8 @@ pub fn session<S: Sink>(
 
 /// Does what an event asks for, and tells where it ends the session.
 fn advance<S: Sink>(
-    machine: &mut Machine<'_>,
-    bound: &Bound,
+    machine: &mut Machine,
+    bound: &mut Bound,
     script: &Script,
     at: &mut u32,
     event: Event,
@@ -67,8 +66,9 @@ fn advance<S: Sink>(
 ) -> Option<SessionEnd>
     requires behind { IsBehind event machine.old }
     requires script { IsScript script.now }
-    requires bound { bound.now ≡ bound_of script.now machine.old.amx.natives }
+    requires bound { bound.old ≡ bound_of script.now machine.old.amx.natives }
     ensures file { machine.new.amx ≡ machine.old.amx }
+    ensures bound { bound.new ≡ bound.old }
     ensures going { event ≡ Event.Going → result ≡ None }
     ensures advances { Advanced
         (move_by machine.old.amx script.now event
@@ -78,10 +78,7 @@ fn advance<S: Sink>(
 {
     match event {
         Event::Going => None,
-        Event::Native(number) => {
-            let (name, guest) = named(bound, script, number);
-            call(machine, name, &guest, script, at, out)
-        }
+        Event::Native(number) => call(machine, bound, script, number, at, out),
         Event::Halt { code, pri, alt } => match end_of(code, pri, alt) {
             Some(end) => Some(over(end, out)),
             None => Some(asleep(pri, alt, out)),
@@ -93,31 +90,35 @@ fn advance<S: Sink>(
 /// Answers a native, and writes its line. Where the sink fails, the native is answered all the
 /// same.
 fn call<S: Sink>(
-    machine: &mut Machine<'_>,
-    name: &[u8],
-    guest: &Guest<'_>,
+    machine: &mut Machine,
+    bound: &mut Bound,
     script: &Script,
+    number: u32,
     at: &mut u32,
     out: &mut S,
 ) -> Option<SessionEnd>
     requires waits { machine.old.mode ≡ mode.Waiting }
     requires script { IsScript script.now }
-    requires guest { IsGuest script.now name.now guest.now }
+    requires bound { bound.old ≡ bound_of script.now machine.old.amx.natives }
     ensures file { machine.new.amx ≡ machine.old.amx }
+    ensures bound { bound.new ≡ bound.old }
     ensures advances { Advanced
-        (call_by script.now name.now (record { machine = machine.old; position = at.old }))
+        (call_by script.now (name_of machine.old.amx.natives number)
+        (record { machine = machine.old; position = at.old }))
         (record { machine = machine.new; position = at.new }) result
         (λ text. Said S.taken S.faults S.has_room out.old out.new text (told_of result)) }
 {
-    match reply_to(machine, guest, script, at) {
+    let guest = guest_at(script, bound.entry(number));
+    match reply_to(machine, &guest, script, at) {
         Err(code) => {
             machine.fail(code);
             Some(over(End::Error(code), out))
         }
         Ok(reply) => {
             // It shows what was seen, so it is written before the answer's writes are done.
-            let said = say_call(out, machine, name, guest, reply.count, reply.result);
-            write_all(machine, reply.writes);
+            let name = bound.name(number);
+            let said = say_call(out, machine, name, &guest, reply.count, reply.result);
+            bound.write_all(machine, reply.writes);
             machine.answer(reply.result);
             match said {
                 Ok(()) => None,
@@ -173,18 +174,6 @@ fn over<S: Sink>(end: End, out: &mut S) -> SessionEnd
             End::Stray => SessionEnd::Steps,
         },
         Err(SinkFault) => SessionEnd::SinkFault,
-    }
-}
-
-/// The name of a native of the file, and what the script says of it.
-fn named<'b>(bound: &'b Bound, script: &'b Script, number: u32) -> (&'b [u8], Guest<'b>)
-    requires { IsScript script.now }
-    ensures { (natives : ListOf Record) → bound.now ≡ bound_of script.now natives →
-        (result.0.now ≡ name_of natives number) × IsGuest script.now result.0.now result.1 }
-{
-    match bound.get(number as usize) {
-        None => (b"", guest_at(script, None)),
-        Some(native) => (native.name.as_slice(), guest_at(script, native.entry)),
     }
 }
 

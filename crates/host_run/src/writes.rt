@@ -1,86 +1,74 @@
-ghost use Rattle.std.specs.Prelude.{◌≡◌, ◌+◌, ◌*◌, ◌≤◌, ◌<◌};
-ghost use Rattle.std.specs.Prelude.{All, Some, length, map, option_map, pos, unwrap_or};
+ghost use Rattle.std.specs.Prelude.{◌≡◌, ◌≤◌, ◌<◌, ◌++◌};
+ghost use Rattle.std.specs.Prelude.{All, drop, length, option_map, take, unwrap_or};
 ghost use Rattle.pawn_cells.specs.Cells.{bits_of};
-ghost use Rattle.amx_ops.specs.Moves.{arguments, with_writes};
-ghost use Rattle.amx_machine.specs.Machine.{IsKept};
-ghost use Rattle.host_run.specs.Apart.{WritesApart, is_apart, written};
-ghost use Rattle.host_run.specs.Sights.{arguments_of, put_of, IsRoomFor};
+ghost use Rattle.amx_ops.specs.Moves.{arguments, live_from, with_write};
+ghost use Rattle.host_run.specs.Sights.{arguments_of, IsRoomFor};
+ghost use Rattle.host_run.specs.Writes.{addresses_of, written};
 
 use amx_machine::Machine;
 use host_script::Write;
 
 /// Does the writes of an answer, the first of them first. All addresses are those that the
-/// arguments had before, since a write may change an argument. Only behind such a write are they
-/// kept, on the call stack.
-pub fn write_all(machine: &mut Machine<'_>, writes: &[Write])
+/// arguments had before, since a write may change an argument: they are read into a list that was
+/// reserved.
+pub fn write_all(machine: &mut Machine, writes: &[Write], reserved: &mut [i32])
     requires there { let count = unwrap_or (option_map length (arguments machine.old.state)) 0 in
         All (λ write. write.arg < count) writes.now }
     requires room { All (IsRoomFor machine.old.state (arguments_of machine.old.state)) writes.now }
-    ensures { let values = arguments_of machine.old.state in
-        machine.new ≡ record machine.old {
-          state = record machine.old.state {
-            cells = with_writes (map (put_of values) writes.now) machine.old.state.cells;
-          };
-        } }
+    requires reserved { length writes.now ≤ length reserved.old }
+    ensures written { machine.new ≡ written writes.now machine.old }
+    ensures reserved { length reserved.new ≡ length reserved.old }
+{
+    read_addresses(machine, writes, reserved);
+    write_each(machine, writes, reserved);
+}
+
+/// Reads where each write goes.
+fn read_addresses(machine: &Machine, writes: &[Write], reserved: &mut [i32])
+    requires there { let count = unwrap_or (option_map length (arguments machine.now.state)) 0 in
+        All (λ write. write.arg < count) writes.now }
+    requires reserved { length writes.now ≤ length reserved.old }
+    ensures read { take (length writes.now) reserved.new
+        ≡ addresses_of machine.now.state writes.now }
+    ensures reserved { length reserved.new ≡ length reserved.old }
 {
     for index in 0..writes.len() {
-        if !write_apart(machine, &writes[index]) {
-            write_rest(machine, &writes[index..]);
-            return;
-        }
+        reserved[index] = machine.native_arg(writes[index].arg);
     }
 }
 
-/// Does a write that leaves the arguments as they are; or nothing, and answers false.
-fn write_apart(machine: &mut Machine<'_>, write: &Write) -> bool
-    requires there { let count = unwrap_or (option_map length (arguments machine.old.state)) 0 in
-        write.now.arg < count }
-    requires room { IsRoomFor machine.old.state (arguments_of machine.old.state) write.now }
-    ensures { WritesApart write.now machine.old result machine.new }
-{
-    let address = machine.native_arg(write.arg);
-    if !is_apart(machine, address) {
-        return false;
-    }
-    machine.write(address, write.cells.as_slice());
-    true
-}
-
-/// Whether an address lies apart from the arguments and their count.
-fn is_apart(machine: &Machine<'_>, address: i32) -> bool
-    ensures is { result ≡ is_apart machine.now.state (bits_of address) }
-    ensures kept { IsKept machine.now }
-{
-    let (begin, end) = arguments_place(machine);
-    let at = address.cast_unsigned();
-    at < begin || end <= u64::from(at)
-}
-
-/// Where the count of the arguments stands, and the address behind the last of them.
-fn arguments_place(machine: &Machine<'_>) -> (u32, u64)
-    ensures begin { result.0 ≡ machine.now.state.stk }
-    ensures end { let count = unwrap_or (option_map length (arguments machine.now.state)) 0 in
-        result.1 ≡ machine.now.state.stk + 4 + 4 * count }
-    ensures kept { IsKept machine.now }
-{
-    let registers = machine.registers();
-    let begin = registers.stk.cast_unsigned();
-    let count = machine.native_args().unwrap_or(0);
-    (begin, u64::from(begin) + 4 + 4 * u64::from(count))
-}
-
-/// Does writes, of which the first may change the arguments: each address is read before the
-/// writes ahead of it.
-fn write_rest(machine: &mut Machine<'_>, writes: &[Write])
-    requires there { let count = unwrap_or (option_map length (arguments machine.old.state)) 0 in
-        All (λ write. write.arg < count) writes.now }
+/// Does each write at the address that was read for it.
+fn write_each(machine: &mut Machine, writes: &[Write], addresses: &[i32])
     requires room { All (IsRoomFor machine.old.state (arguments_of machine.old.state)) writes.now }
+    requires long { length writes.now ≤ length addresses.now }
+    requires read { take (length writes.now) addresses.now
+        ≡ addresses_of machine.old.state writes.now }
     ensures { machine.new ≡ written writes.now machine.old }
 {
-    let Some((last, before)) = writes.split_last() else {
-        return;
-    };
-    let address = machine.native_arg(last.arg);
-    write_rest(machine, before);
-    machine.write(address, last.cells.as_slice());
+    for index in 0..writes.len() {
+        put(machine, addresses[index], writes[index].cells.as_slice());
+    }
+}
+
+/// Writes cells from an address on, where so many lie within its live part.
+fn put(machine: &mut Machine, at: i32, cells: &[i32])
+    requires { length cells.now ≤ length (live_from machine.old.state (bits_of at)) }
+    ensures { machine.new ≡ record machine.old {
+      state = record machine.old.state {
+        cells = with_write (record { to = bits_of at; values = cells.now })
+            machine.old.state.cells;
+      };
+    } }
+{
+    // For the prover alone: by its clauses the registers are in order.
+    let _ = machine.registers();
+    put_first(machine.live_from_mut(at), cells);
+}
+
+/// Puts cells in the place of a part's first.
+fn put_first(part: &mut [i32], cells: &[i32])
+    requires { length cells.now ≤ length part.old }
+    ensures { part.new ≡ cells.now ++ drop (length cells.now) part.old }
+{
+    part[..cells.len()].copy_from_slice(cells);
 }

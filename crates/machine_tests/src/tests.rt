@@ -12,6 +12,7 @@ mod large_files;
 mod large_machines;
 mod large_texts;
 mod listings;
+mod loaded;
 mod natives;
 mod programs;
 mod reading;

@@ -139,8 +139,10 @@ fn bytes_of_cells(rt: HostRuntime) {
 }
 
 /// Copies between places that overlap and that don't, with the first 12 bytes that come of it.
-const COPIES: [((u32, u32, u32), [u8; 12]); 6] = [
+const COPIES: [((u32, u32, u32), [u8; 12]); 8] = [
     ((0, 0, 12), [0, 1, 2, 3, 4, 5, 6, 7, 8, 9, 10, 11]),
+    ((0, 4, 8), [0, 1, 2, 3, 0, 1, 2, 3, 4, 5, 6, 7]),
+    ((4, 0, 8), [4, 5, 6, 7, 8, 9, 10, 11, 8, 9, 10, 11]),
     ((0, 3, 8), [0, 1, 2, 0, 1, 2, 3, 4, 5, 6, 7, 11]),
     ((3, 0, 8), [3, 4, 5, 6, 7, 8, 9, 10, 8, 9, 10, 11]),
     ((1, 9, 3), [0, 1, 2, 3, 4, 5, 6, 7, 8, 1, 2, 3]),
@@ -161,6 +163,52 @@ fn copies_as_if_all_were_read_first(rt: HostRuntime) {
     for (places, bytes) in COPIES {
         assert!(rt; copies_so(rt.alloc(), places, &bytes) == Some(true));
     }
+}
+
+/// How many cells at two places are equal, where the memory has so many at both.
+fn equal_cells(block: &Block, at: u32, to: u32, count: u32) -> Option<u32> {
+    let top = block.top();
+    if at % 4 != 0 || to % 4 != 0 || at > top || to > top {
+        return None;
+    }
+    if count > (top - at) / 4 || count > (top - to) / 4 {
+        return None;
+    }
+    Some(block.equal_cells(at, to, count))
+}
+
+/// The cells 1 2 3 1 2 4 compared: the first three with the others, then the last of each, then
+/// none, and each with itself.
+fn compared(alloc: Global) -> Option<[Option<u32>; 4]> {
+    let mut block = Block::new(alloc, 1, 6, 0).ok()?;
+    for (place, cell) in [1, 2, 3, 1, 2, 4].into_iter().enumerate() {
+        write(&mut block, 4 * place as u32, cell);
+    }
+    Some([
+        equal_cells(&block, 0, 12, 3),
+        equal_cells(&block, 8, 20, 1),
+        equal_cells(&block, 8, 20, 0),
+        equal_cells(&block, 0, 0, 6),
+    ])
+}
+
+#[test]
+fn cells_that_are_equal(rt: HostRuntime) {
+    assert!(rt; compared(rt.alloc()) == Some([Some(2), Some(0), Some(0), Some(6)]));
+}
+
+/// The cell of code and those of memory, once seven bytes are loaded.
+fn seven_bytes(alloc: Global) -> Option<(i32, Option<i32>, Option<i32>)> {
+    let mut block = Block::new(alloc, 1, 1, 1).ok()?;
+    block.write(0, -1);
+    block.load_bytes(&[1, 2, 3, 0x84, 5, 6, 7]);
+    Some((block.code(0), read(&block, 0), read(&block, 4)))
+}
+
+#[test]
+fn bytes_are_loaded(rt: HostRuntime) {
+    let wanted = (-2_080_177_663, Some(-16_316_923), Some(0));
+    assert!(rt; seven_bytes(rt.alloc()) == Some(wanted));
 }
 
 /// The top of a large block, a byte that is copied from its last cell, and that cell once all are

@@ -32,11 +32,11 @@ pub fn put_word(bytes: &mut [u8], place: u32, number: u32) {
 
 /// What a machine of the file answers to bytes: the position, or the number of the refusal and 10
 /// times more, with the register's number added, below 0.
-pub fn answer(alloc: Global, verified: &Verified, bytes: &[u8]) -> i64 {
+pub fn answer(alloc: Global, verified: Verified, bytes: &[u8]) -> i64 {
     let Ok(mut machine) = Machine::load(alloc, verified) else {
         return -1;
     };
-    match restore_into(&mut machine, verified, &DIGEST, bytes) {
+    match restore_into(&mut machine, &DIGEST, bytes) {
         Ok(position) => i64::from(position),
         Err(ImageFault::Register(number)) => -1250 - i64::from(number),
         Err(fault) => -10 * i64::from(fault.number()),
@@ -44,7 +44,7 @@ pub fn answer(alloc: Global, verified: &Verified, bytes: &[u8]) -> i64 {
 }
 
 /// The image of a machine at a sleep, at a position of the script.
-pub fn saved(alloc: Global, machine: &Machine<'_>, position: u32) -> Option<ImageBuffer>
+pub fn saved(alloc: Global, machine: &Machine, position: u32) -> Option<ImageBuffer>
     requires { machine.now.mode ≡ mode.Asleep }
 {
     match ImageBuffer::new(alloc, machine) {
@@ -57,11 +57,10 @@ pub fn saved(alloc: Global, machine: &Machine<'_>, position: u32) -> Option<Imag
 }
 
 /// Sets a machine to an image, and tells the position; none where it is refused.
-pub fn set_to(machine: &mut Machine<'_>, verified: &Verified, bytes: &[u8]) -> Option<u32>
-    requires { machine.old.amx ≡ verified.now }
+pub fn set_to(machine: &mut Machine, bytes: &[u8]) -> Option<u32>
     ensures { IsSome result → machine.new.mode ≡ mode.Asleep }
 {
-    match restore_into(machine, verified, &DIGEST, bytes) {
+    match restore_into(machine, &DIGEST, bytes) {
         Ok(position) => Some(position),
         Err(_) => None,
     }

@@ -31,7 +31,7 @@ fn start_holds(
     let Some(verified) = file(alloc, &[134, 134, 134], room, 4, &[8, 0]) else {
         return false;
     };
-    let Some(mut machine) = machine(alloc, &verified) else {
+    let Some(mut machine) = machine(alloc, verified) else {
         return false;
     };
     let first = machine.registers();
@@ -44,7 +44,7 @@ fn start_holds(
 }
 
 /// Whether a machine stands at a CIP with some cells from STK on, and else as at first.
-fn runs_from(machine: &Machine<'_>, cip: i32, cells: &[i32]) -> bool {
+fn runs_from(machine: &Machine, cip: i32, cells: &[i32]) -> bool {
     let at = machine.registers();
     let first = Registers {
         pri: 0,
@@ -73,7 +73,7 @@ fn no_main_holds(alloc: Global) -> bool {
     let Some(verified) = file(alloc, &[134], 20, -1, &[]) else {
         return false;
     };
-    match machine(alloc, &verified) {
+    match machine(alloc, verified) {
         Some(mut machine) => machine.start(-1, &[]) == Err(StartFault::Index),
         None => false,
     }
@@ -103,7 +103,7 @@ const RUNS: [(&[i32], u64, u64, Event); 8] = [
 /// Runs main of some code, up to so many steps.
 pub fn main_runs(alloc: Global, code: &[i32], steps: u64) -> Option<(u64, Event)> {
     let verified = file(alloc, code, 1000, 0, &[])?;
-    let mut machine = started(alloc, &verified)?;
+    let mut machine = started(alloc, verified)?;
     Some(machine.run(steps))
 }
 
@@ -127,7 +127,7 @@ const NATIVES: [(i32, (Option<u32>, i32, i32)); 7] = [
 ];
 
 /// An argument of a native, or -1.
-fn argument(machine: &Machine<'_>, index: u32) -> i32 {
+fn argument(machine: &Machine, index: u32) -> i32 {
     match machine.native_args() {
         Some(count) if index < count => machine.native_arg(index),
         _ => -1,
@@ -139,14 +139,14 @@ fn native_holds(alloc: Global, count: i32, wanted: (Option<u32>, i32, i32)) -> b
     let Some(verified) = file(alloc, &[39, 5, 39, 6, 39, count, 123, 1], 1000, 0, &[]) else {
         return false;
     };
-    match started(alloc, &verified) {
+    match started(alloc, verified) {
         Some(mut machine) => machine.run(100).0 == 4 && arguments(&machine) == wanted,
         None => false,
     }
 }
 
 /// How many arguments a native has, and the first two.
-fn arguments(machine: &Machine<'_>) -> (Option<u32>, i32, i32) {
+fn arguments(machine: &Machine) -> (Option<u32>, i32, i32) {
     (
         machine.native_args(),
         argument(machine, 0),
@@ -182,13 +182,13 @@ fn sleep_holds(alloc: Global) -> bool {
     let Some(verified) = file(alloc, &SLEEP, 1000, 0, &[]) else {
         return false;
     };
-    match started(alloc, &verified) {
+    match started(alloc, verified) {
         Some(mut machine) => sleeps_and_wakes(&mut machine),
         None => false,
     }
 }
 
-fn sleeps_and_wakes(machine: &mut Machine<'_>) -> bool
+fn sleeps_and_wakes(machine: &mut Machine) -> bool
     requires { IsSteady machine.old.mode }
 {
     goes_on(machine, 100, 5, ASLEEP)
@@ -200,7 +200,7 @@ fn sleeps_and_wakes(machine: &mut Machine<'_>) -> bool
 }
 
 /// Whether a machine that is done starts once more.
-fn starts_again(machine: &mut Machine<'_>) -> bool
+fn starts_again(machine: &mut Machine) -> bool
     requires { IsSteady machine.old.mode }
 {
     match machine.step() {
@@ -231,7 +231,7 @@ fn live_holds(alloc: Global, at: i32, cells: &[i32]) -> bool {
     let Some(verified) = file(alloc, &[134], 4, 0, &[]) else {
         return false;
     };
-    match machine(alloc, &verified) {
+    match machine(alloc, verified) {
         Some(machine) => machine.live_from(at) == cells,
         None => false,
     }
@@ -261,7 +261,7 @@ fn set_holds(alloc: Global) -> bool {
     if verified.amx().store.len() != 4 || verified.amx().room != 1000 {
         return false;
     }
-    match machine(alloc, &verified) {
+    match machine(alloc, verified) {
         Some(mut machine) => {
             machine.set_asleep(SET);
             stands_set(&machine) && goes_on(&mut machine, 9, 1, SET_END)
@@ -270,7 +270,7 @@ fn set_holds(alloc: Global) -> bool {
     }
 }
 
-fn stands_set(machine: &Machine<'_>) -> bool {
+fn stands_set(machine: &Machine) -> bool {
     machine.registers() == SET
         && machine.live_from(0) == [0, 0, 0, 0].as_slice()
         && machine.live_from(20).len() == 999

@@ -61,14 +61,14 @@ fn records(alloc: Global, addresses: &[i32]) -> Result<List<Record>, Memory> {
 }
 
 /// A file's machine.
-pub fn machine(alloc: Global, verified: &Verified) -> Option<Machine<'_>>
-    ensures { IfSome result (λ machine. machine ≡ first verified.now) }
+pub fn machine(alloc: Global, verified: Verified) -> Option<Machine>
+    ensures { IfSome result (λ machine. machine ≡ first verified) }
 {
     Machine::load(alloc, verified).ok()
 }
 
 /// A file's machine at its main.
-pub fn started(alloc: Global, verified: &Verified) -> Option<Machine<'_>>
+pub fn started(alloc: Global, verified: Verified) -> Option<Machine>
     ensures { IfSome result (λ machine. IsSteady machine.mode) }
 {
     let mut machine = machine(alloc, verified)?;
@@ -79,7 +79,7 @@ pub fn started(alloc: Global, verified: &Verified) -> Option<Machine<'_>>
 }
 
 /// Whether so many steps and this event, which is no native, are what a bound of steps leads to.
-pub fn goes_on(machine: &mut Machine<'_>, bound: u64, steps: u64, wanted: Event) -> bool
+pub fn goes_on(machine: &mut Machine, bound: u64, steps: u64, wanted: Event) -> bool
     requires { IsSteady machine.old.mode }
     ensures { IsTrue result → IsSteady machine.new.mode }
 {

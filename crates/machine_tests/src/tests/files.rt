@@ -46,9 +46,8 @@ pub fn verified(alloc: Global, code: &[i32], store: &[i32], room: u32) -> Option
 }
 
 /// Its machine, started at main.
-pub fn started<'v>(alloc: Global, verified: &'v Verified) -> Option<Machine<'v>>
-    ensures mode { IfSome result (λ machine. machine.mode ≡ mode.Running) }
-    ensures file { IfSome result (λ machine. machine.amx ≡ verified.now) }
+pub fn started(alloc: Global, verified: Verified) -> Option<Machine>
+    ensures { IfSome result (λ machine. machine.mode ≡ mode.Running) }
 {
     let Ok(mut machine) = Machine::load(alloc, verified) else {
         return None;

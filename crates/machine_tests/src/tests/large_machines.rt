@@ -47,7 +47,7 @@ fn shift_holds(alloc: Global) -> bool {
     let Some(verified) = file(alloc, &SHIFT, 1_000_000, 0, &[]) else {
         return false;
     };
-    match started(alloc, &verified) {
+    match started(alloc, verified) {
         Some(mut machine) => goes_on(&mut machine, 100, 9, DONE)
             && is_shifted(machine.live_from(16)),
         None => false,

@@ -1,6 +1,6 @@
 use super::stage::comes_to;
 use host_run::SessionEnd;
-use std::alloc::Global;
+use std::alloc::{AllocError, Global};
 
 /// Whether a call of `p` with one argument of a form, where the script has these answers, writes
 /// this text and comes to this. The first cell of the data is loaded then, and the run is done with
@@ -223,4 +223,34 @@ fn calls_by_whole_scripts(rt: HostRuntime) {
             "{text}"
         );
     }
+}
+
+/// A script whose answer writes into the second argument so many times, and then to where that
+/// argument led before.
+fn many_writes(alloc: Global, count: usize) -> Result<String, AllocError> {
+    let mut script = String::from_str(
+        alloc,
+        "{\"others\": true, \"natives\": [{\"name\": \"p\", \"forms\": [\"ref\", \"ref\"]}], \
+         \"answers\": [{\"writes\": [",
+    )?;
+    for _ in 0..count {
+        script.push_str("{\"arg\":0,\"cells\":[4]},")?;
+    }
+    script.push_str("{\"arg\": 1, \"cells\": [55]}]}]}")?;
+    Ok(script)
+}
+
+fn many_writes_hold(alloc: Global, count: usize) -> bool {
+    let Ok(script) = many_writes(alloc, count) else {
+        return false;
+    };
+    let code = [39, 0, 39, 276, 39, 8, 123, 0, 1, 0, 120, 0];
+    let wanted = (6, SessionEnd::Done(55), 1);
+    let text = "native p &0 &7 -> 0\ndone 55\n";
+    comes_to(alloc, &code, script.as_str(), 9, text, wanted)
+}
+
+#[test]
+fn many_writes_into_the_arguments(rt: HostRuntime) {
+    assert!(rt; many_writes_hold(rt.alloc(), 100_000));
 }

@@ -14,7 +14,7 @@ const CALL: [i32; 13] = [120, 0, 46, 39, 1, 39, 4, 123, 0, 44, 8, 89, 48];
 /// its AMX error.
 fn comes_to(alloc: Global, room: u32, steps: u64) -> Option<(u64, Event)> {
     let verified = file(alloc, &CALL, room, 8, &[])?;
-    let mut machine = machine(alloc, &verified)?;
+    let mut machine = machine(alloc, verified)?;
     match machine.start(-1, &[]) {
         Ok(()) => Some(machine.run(steps)),
         Err(fault) => Some((0, Event::Error(fault.code()))),
@@ -52,7 +52,7 @@ fn answer_holds(alloc: Global, answer: Result<i32, i32>, steps: u64, event: Even
     let Some(verified) = file(alloc, &CALL, 19, 8, &[]) else {
         return false;
     };
-    match started(alloc, &verified) {
+    match started(alloc, verified) {
         Some(mut machine) => match machine.run(100) {
             (_, Event::Native(0)) => {
                 sees_one(&machine)
@@ -65,7 +65,7 @@ fn answer_holds(alloc: Global, answer: Result<i32, i32>, steps: u64, event: Even
     }
 }
 
-fn sees_one(machine: &Machine<'_>) -> bool {
+fn sees_one(machine: &Machine) -> bool {
     match machine.native_args() {
         Some(1) => machine.native_arg(0) == 1,
         _ => false,
@@ -73,7 +73,7 @@ fn sees_one(machine: &Machine<'_>) -> bool {
 }
 
 /// Answers a native by a number or an error, and tells whether at most PRI is another one then.
-fn is_answered(machine: &mut Machine<'_>, answer: Result<i32, i32>) -> bool
+fn is_answered(machine: &mut Machine, answer: Result<i32, i32>) -> bool
     requires { machine.old.mode ≡ mode.Waiting }
     ensures { IsSteady machine.new.mode }
 {

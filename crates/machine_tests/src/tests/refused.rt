@@ -26,10 +26,9 @@ const CHANGES: [(bool, u32, u32, i64); 17] = [
 
 /// What is answered to the sleeper's image with a change.
 fn changed(alloc: Global, in_whole: bool, place: u32, number: u32) -> Option<i64> {
-    let verified = sleeper(alloc)?;
-    let mut bytes = image_bytes(alloc, &verified, 3, in_whole)?;
+    let mut bytes = image_bytes(alloc, sleeper(alloc)?, 3, in_whole)?;
     put_word(bytes.as_mut_slice(), place, number);
-    Some(answer(alloc, &verified, bytes.as_slice()))
+    Some(answer(alloc, sleeper(alloc)?, bytes.as_slice()))
 }
 
 #[test]
@@ -54,11 +53,10 @@ const LENGTHS: [(bool, usize, i64); 8] = [
 
 /// What is answered to the sleeper's image cut to a length, or with a byte behind it.
 fn cut(alloc: Global, in_whole: bool, length: usize) -> Option<i64> {
-    let verified = sleeper(alloc)?;
-    let mut bytes = image_bytes(alloc, &verified, 3, in_whole)?;
+    let mut bytes = image_bytes(alloc, sleeper(alloc)?, 3, in_whole)?;
     bytes.push(0).ok()?;
     bytes.truncate(length);
-    Some(answer(alloc, &verified, bytes.as_slice()))
+    Some(answer(alloc, sleeper(alloc)?, bytes.as_slice()))
 }
 
 #[test]

@@ -9,7 +9,7 @@ use std::alloc::Global;
 pub const SLEEPER: [i32; 5] = [120, 0, 120, 12, 48];
 
 /// The image of its sleep at a position of the script.
-pub fn image(alloc: Global, verified: &Verified, position: u32) -> Option<ImageBuffer> {
+pub fn image(alloc: Global, verified: Verified, position: u32) -> Option<ImageBuffer> {
     let mut machine = started(alloc, verified)?;
     sleep_of(&mut machine)?;
     saved(alloc, &machine, position)
@@ -43,7 +43,7 @@ pub fn sleeper(alloc: Global) -> Option<Verified> {
 /// The bytes of its image at a position of the script, of version 1 or 2.
 pub fn image_bytes(
     alloc: Global,
-    verified: &Verified,
+    verified: Verified,
     position: u32,
     in_whole: bool,
 ) -> Option<Vec<u8>> {
@@ -71,8 +71,7 @@ fn fields(bytes: &[u8]) -> [u32; 8] {
 
 /// Whether the sleeper's image has 80 bytes with these words from byte 40 on.
 fn holds(alloc: Global, words: [u32; 8]) -> Option<bool> {
-    let verified = sleeper(alloc)?;
-    let image = image(alloc, &verified, 9)?;
+    let image = image(alloc, sleeper(alloc)?, 9)?;
     Some(image.bytes().len() == 80 && fields(image.bytes()) == words)
 }
 
@@ -84,17 +83,16 @@ fn image_of_the_live_cells(rt: HostRuntime) {
 /// How many bytes the sleeper's image has in version 2 or 1, and how two machines go on that are
 /// set to it.
 fn goes_on(alloc: Global, in_whole: bool) -> Option<(usize, i32, i32)> {
-    let verified = sleeper(alloc)?;
-    let bytes = image_bytes(alloc, &verified, 5, in_whole)?;
-    let first = end_from(alloc, &verified, bytes.as_slice())?;
-    let second = end_from(alloc, &verified, bytes.as_slice())?;
+    let bytes = image_bytes(alloc, sleeper(alloc)?, 5, in_whole)?;
+    let first = end_from(alloc, sleeper(alloc)?, bytes.as_slice())?;
+    let second = end_from(alloc, sleeper(alloc)?, bytes.as_slice())?;
     Some((bytes.len(), first, second))
 }
 
 /// How a machine goes on from an image.
-pub fn end_from(alloc: Global, verified: &Verified, bytes: &[u8]) -> Option<i32> {
+pub fn end_from(alloc: Global, verified: Verified, bytes: &[u8]) -> Option<i32> {
     let mut machine = Machine::load(alloc, verified).ok()?;
-    set_to(&mut machine, verified, bytes)?;
+    set_to(&mut machine, bytes)?;
     Some(end_of(&mut machine))
 }
 

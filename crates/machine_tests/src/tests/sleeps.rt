@@ -13,16 +13,16 @@ const COUNTER: [i32; 30] = [
     78, 2, 12, 72, 48,
 ];
 
+/// The counter, verified.
+fn counter(alloc: Global) -> Option<Verified> {
+    verified(alloc, &COUNTER, &[0], 64)
+}
+
 /// The image of the next sleep of a machine that is set to one, where the image is of the position
 /// before and the counter sleeps with the count that is the position.
-fn next_image(
-    alloc: Global,
-    verified: &Verified,
-    bytes: &[u8],
-    position: u32,
-) -> Option<ImageBuffer> {
-    let mut machine = Machine::load(alloc, verified).ok()?;
-    let before = set_to(&mut machine, verified, bytes)?;
+fn next_image(alloc: Global, bytes: &[u8], position: u32) -> Option<ImageBuffer> {
+    let mut machine = Machine::load(alloc, counter(alloc)?).ok()?;
+    let before = set_to(&mut machine, bytes)?;
     let count = sleep_of(&mut machine)?;
     if before.wrapping_add(1) == position && count.cast_unsigned() == position {
         saved(alloc, &machine, position)
@@ -32,19 +32,18 @@ fn next_image(
 }
 
 /// The image of the fourth sleep, where each was on a machine of its own.
-fn fourth_image(alloc: Global, verified: &Verified) -> Option<ImageBuffer> {
-    let mut last = image(alloc, verified, 1)?;
+fn fourth_image(alloc: Global) -> Option<ImageBuffer> {
+    let mut last = image(alloc, counter(alloc)?, 1)?;
     for position in 2..5u32 {
-        last = next_image(alloc, verified, last.bytes(), position)?;
+        last = next_image(alloc, last.bytes(), position)?;
     }
     Some(last)
 }
 
 /// How a fifth machine ends.
 fn counted(alloc: Global) -> Option<i32> {
-    let verified = verified(alloc, &COUNTER, &[0], 64)?;
-    let image = fourth_image(alloc, &verified)?;
-    end_from(alloc, &verified, image.bytes())
+    let image = fourth_image(alloc)?;
+    end_from(alloc, counter(alloc)?, image.bytes())
 }
 
 #[test]
@@ -57,11 +56,15 @@ const FILLER: [i32; 18] = [
     120, 0, 46, 44, -4_000_000, 31, 4, 34, 11, 77, 119, 4_000_000, 120, 12, 42, 44, 3_999_996, 48,
 ];
 
+/// The filler, verified.
+fn filler(alloc: Global) -> Option<Verified> {
+    verified(alloc, &FILLER, &[], 1_000_100)
+}
+
 /// Bytes of the filler's image, and its end on another machine.
 fn filled(alloc: Global) -> Option<(usize, i32)> {
-    let verified = verified(alloc, &FILLER, &[], 1_000_100)?;
-    let image = image(alloc, &verified, 1)?;
-    let end = end_from(alloc, &verified, image.bytes())?;
+    let image = image(alloc, filler(alloc)?, 1)?;
+    let end = end_from(alloc, filler(alloc)?, image.bytes())?;
     Some((image.bytes().len(), end))
 }
 

@@ -83,15 +83,15 @@ pub fn verified(alloc: Global, code: &[i32], names: (&str, &str)) -> Option<Veri
 
 /// Runs a started machine under a script.
 fn play_on(
-    machine: &mut Machine<'_>,
-    bound: &Bound,
+    machine: &mut Machine,
+    bound: &mut Bound,
     script: &Script,
     steps: u64,
     out: &mut MemorySink,
 ) -> Came
     requires awake { IsAwake machine.old.mode }
     requires script { IsScript script.now }
-    requires bound { bound.now ≡ bound_of script.now machine.old.amx.natives }
+    requires bound { bound.old ≡ bound_of script.now machine.old.amx.natives }
 {
     let mut position = 0;
     let (steps, end) = session(machine, bound, script, &mut position, steps, out);
@@ -107,16 +107,16 @@ fn play_on(
 /// The same of a file's machine.
 fn play_under(
     alloc: Global,
-    verified: &Verified,
+    verified: Verified,
     script: &Script,
     steps: u64,
     out: &mut MemorySink,
 ) -> Option<Came>
-    requires { (IsScript script.now) × (length verified.now.natives < 2 ^ 31) }
+    requires { (IsScript script.now) × (length verified.natives < 2 ^ 31) }
 {
-    let bound = bind(alloc, verified, script).ok()?;
+    let mut bound = bind(alloc, &verified, script).ok()?;
     let mut machine = started(alloc, verified)?;
-    Some(play_on(&mut machine, &bound, script, steps, out))
+    Some(play_on(&mut machine, &mut bound, script, steps, out))
 }
 
 /// Runs some code under a script for so many steps at most. None where something else is wrong.
@@ -129,7 +129,7 @@ pub fn play(
 ) -> Option<Came> {
     let verified = verified(alloc, code, ("p", "q"))?;
     let script = read_script(alloc, script.as_bytes()).ok()?;
-    play_under(alloc, &verified, &script, steps, out)
+    play_under(alloc, verified, &script, steps, out)
 }
 
 /// Whether a session writes this text and comes to this.

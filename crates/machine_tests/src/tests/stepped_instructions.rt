@@ -70,7 +70,7 @@ fn are_expected(row: &Row, from: i32, cells: &[i32]) -> bool {
 }
 
 /// Puts what memory holds into the live part from an address on.
-fn place(core: &mut Core<'_>, from: i32) {
+fn place(core: &mut Core, from: i32) {
     let part = core.live_from_mut(from);
     let mut at = from;
     for place in 0..part.len() {
@@ -80,7 +80,7 @@ fn place(core: &mut Core<'_>, from: i32) {
 }
 
 /// A machine that stands as a row begins; none where its registers aren't in their order.
-fn placed(alloc: Global, verified: &Verified, start: Registers) -> Option<Core<'_>> {
+fn placed(alloc: Global, verified: Verified, start: Registers) -> Option<Core> {
     let amx = verified.amx();
     let first = 4 * amx.store.len();
     let top = first + 4 * amx.room as usize;
@@ -101,7 +101,7 @@ fn row_holds(alloc: Global, row: &Row) -> bool {
     let Some(verified) = file(alloc, row.code.as_slice(), 20, -1, &[]) else {
         return false;
     };
-    let Some(mut core) = placed(alloc, &verified, row.start) else {
+    let Some(mut core) = placed(alloc, verified, row.start) else {
         return false;
     };
     step(&mut core) == row.turn

@@ -17,7 +17,7 @@ returns-in_err-version c =
     sym (ap (λ n. first_fault m.amx n a.digest.now a.bytes.now)
     c.cells_of-count.ensures.file) in
     let e =
-    file ∙ told m a.verified.now c.cells_of-count.result a.digest.now a.bytes.now c.requires
+    file ∙ told m c.verified.result.now c.cells_of-count.result a.digest.now a.bytes.now (sym c.verified.ensures)
     c.cells_of-count.ensures.count ∙ c.in_err-version.ensures.fault in
     let none = faulty m.amx a.digest.now a.bytes.now c.in_err-version.field-0.0 e in
     search (rules, e, none)
@@ -25,7 +25,7 @@ returns-in_err-version c =
 pub read_registers-registers-requires : goal.read_registers-registers-requires
 read_registers-registers-requires c =
     let i =
-    sound_for c.args.machine.now _ _ c.args.digest.now c.args.bytes.now c.requires
+    sound_for c.args.machine.now _ _ c.args.digest.now c.args.bytes.now (sym c.verified.ensures)
     c.cells_of-count.ensures.count _ c.in_ok-version.ensures.fault
     c.in_ok-version.ensures.version in
     i.long
@@ -33,7 +33,7 @@ read_registers-registers-requires c =
 pub set_asleep-requires : goal.set_asleep-requires
 set_asleep-requires c =
     let i =
-    sound_for c.args.machine.now _ _ c.args.digest.now c.args.bytes.now c.requires
+    sound_for c.args.machine.now _ _ c.args.digest.now c.args.bytes.now (sym c.verified.ensures)
     c.cells_of-count.ensures.count _ c.in_ok-version.ensures.fault
     c.in_ok-version.ensures.version in
     subst (λ q. AreInOrder c.args.machine.now.amx (cleared q c.args.machine.now.state))
@@ -44,7 +44,7 @@ set_asleep-requires c =
 pub put_row-requires-clause-live : goal.put_row-requires-clause-live
 put_row-requires-clause-live c =
     let i =
-    sound_for c.args.machine.now _ _ c.args.digest.now c.args.bytes.now c.requires
+    sound_for c.args.machine.now _ _ c.args.digest.now c.args.bytes.now (sym c.verified.ensures)
     c.cells_of-count.ensures.count _ c.in_ok-version.ensures.fault
     c.in_ok-version.ensures.version in
     heap_row c.args.machine.now _ c.args.digest.now c.args.bytes.now i c.cast_unsigned-hea.result
@@ -54,7 +54,7 @@ put_row-requires-clause-live c =
 pub put_row-requires-clause-long : goal.put_row-requires-clause-long
 put_row-requires-clause-long c =
     let i =
-    sound_for c.args.machine.now _ _ c.args.digest.now c.args.bytes.now c.requires
+    sound_for c.args.machine.now _ _ c.args.digest.now c.args.bytes.now (sym c.verified.ensures)
     c.cells_of-count.ensures.count _ c.in_ok-version.ensures.fault
     c.in_ok-version.ensures.version in
     heap_long c.args.machine.now _ c.args.digest.now c.args.bytes.now i c.cast_unsigned-hea.result
@@ -63,7 +63,7 @@ put_row-requires-clause-long c =
 pub overflow_sub-count : goal.overflow_sub-count
 overflow_sub-count c =
     let i =
-    sound_for c.args.machine.now _ _ c.args.digest.now c.args.bytes.now c.requires
+    sound_for c.args.machine.now _ _ c.args.digest.now c.args.bytes.now (sym c.verified.ensures)
     c.cells_of-count.ensures.count _ c.in_ok-version.ensures.fault
     c.in_ok-version.ensures.version in
     stack_count c.args.machine.now _ c.args.digest.now c.args.bytes.now i c.cast_unsigned-hea.result
@@ -73,7 +73,7 @@ overflow_sub-count c =
 pub put_row-requires-2-clause-live : goal.put_row-requires-2-clause-live
 put_row-requires-2-clause-live c =
     let i =
-    sound_for c.args.machine.now _ _ c.args.digest.now c.args.bytes.now c.requires
+    sound_for c.args.machine.now _ _ c.args.digest.now c.args.bytes.now (sym c.verified.ensures)
     c.cells_of-count.ensures.count _ c.in_ok-version.ensures.fault
     c.in_ok-version.ensures.version in
     stack_row c.args.machine.now _ c.args.digest.now c.args.bytes.now i c.cast_unsigned-hea.result
@@ -85,7 +85,7 @@ put_row-requires-2-clause-live c =
 pub put_row-requires-2-clause-long : goal.put_row-requires-2-clause-long
 put_row-requires-2-clause-long c =
     let i =
-    sound_for c.args.machine.now _ _ c.args.digest.now c.args.bytes.now c.requires
+    sound_for c.args.machine.now _ _ c.args.digest.now c.args.bytes.now (sym c.verified.ensures)
     c.cells_of-count.ensures.count _ c.in_ok-version.ensures.fault
     c.in_ok-version.ensures.version in
     stack_long c.args.machine.now _ c.args.digest.now c.args.bytes.now i c.cast_unsigned-hea.result
@@ -95,7 +95,7 @@ put_row-requires-2-clause-long c =
 pub read_word-requires : goal.read_word-requires
 read_word-requires c =
     let i =
-    sound_for c.args.machine.now _ _ c.args.digest.now c.args.bytes.now c.requires
+    sound_for c.args.machine.now _ _ c.args.digest.now c.args.bytes.now (sym c.verified.ensures)
     c.cells_of-count.ensures.count _ c.in_ok-version.ensures.fault
     c.in_ok-version.ensures.version in
     omega (arith, i.long)
@@ -103,7 +103,7 @@ read_word-requires c =
 pub returns : goal.returns
 returns c =
     let i =
-    sound_for c.args.machine.now _ _ c.args.digest.now c.args.bytes.now c.requires
+    sound_for c.args.machine.now _ _ c.args.digest.now c.args.bytes.now (sym c.verified.ensures)
     c.cells_of-count.ensures.count _ c.in_ok-version.ensures.fault
     c.in_ok-version.ensures.version in
     let m = c.args.machine.now in

@@ -12,7 +12,7 @@ pub overflow_add-done : goal.overflow_add-done
 overflow_add-done g c =
     let r =
     reached_more c.args.steps c.loop-done.done c.loop-done.machine c.run-count.new.self _ _
-    c.loop-done-test.true c.loop-done.invariant.awake c.run-count.ensures.ran in
+    c.loop-done-test.true c.loop-done.invariant.so_far.awake c.run-count.ensures.ran in
     let within : c.loop-done.done + c.run-count.result.0 ≤ c.args.steps =
     (counted_within c.args.steps c.loop-done.done c.loop-done.machine c.run-count.new.self _ _
     c.loop-done-test.true r).0 in
@@ -22,9 +22,9 @@ pub advance-requires-clause-bound : goal.advance-requires-clause-bound
 advance-requires-clause-bound g c =
     let r =
     reached_more c.args.steps c.loop-done.done c.loop-done.machine c.run-count.new.self _ _
-    c.loop-done-test.true c.loop-done.invariant.awake c.run-count.ensures.ran in
-    c.requires.bound ∙ ap (λ (amx : Amx). bound_of c.args.script.now amx.natives)
-    (sym (r.file ∙ c.loop-done.invariant.file))
+    c.loop-done-test.true c.loop-done.invariant.so_far.awake c.run-count.ensures.ran in
+    c.loop-done.invariant.bound ∙ c.requires.bound ∙ ap (λ (amx : Amx). bound_of c.args.script.now amx.natives)
+    (sym (r.file ∙ c.loop-done.invariant.so_far.file))
 
 pub returns-in-Some : goal.returns-in-Some
 returns-in-Some g c =
@@ -34,29 +34,30 @@ returns-in-Some g c =
     let e = c.run-count.result.1 in
     let r =
     reached_more c.args.steps c.loop-done.done c.loop-done.machine c.run-count.new.self _ _
-    c.loop-done-test.true c.loop-done.invariant.awake c.run-count.ensures.ran in
+    c.loop-done-test.true c.loop-done.invariant.so_far.awake c.run-count.ensures.ran in
     let ends =
     steps_if e c.advance.result c.in-Some.end c.advance.ensures.going c.in-Some.is in
     record {
       text =
           text_ends g.S.Sink.taken g.S.Sink.faults g.S.Sink.has_room c.args.out.now c.loop-done.out
           c.advance.new.out c.args.script.now old now new c.args.steps c.loop-done.done
-          c.run-count.result.0 e c.run-count.new.self c.loop-done.invariant r
+          c.run-count.result.0 e c.run-count.new.self c.loop-done.invariant.so_far r
           c.loop-done-test.true c.advance.result c.advance.ensures.file
           c.advance.ensures.advances c.in-Some.end c.in-Some.is ends;
       answer =
           session_ends g.S.Sink.taken g.S.Sink.faults g.S.Sink.has_room c.args.out.now
           c.loop-done.out c.advance.new.out c.args.script.now old now new c.args.steps
-          c.loop-done.done c.run-count.result.0 e c.run-count.new.self c.loop-done.invariant r
+          c.loop-done.done c.run-count.result.0 e c.run-count.new.self c.loop-done.invariant.so_far r
           c.loop-done-test.true c.advance.result c.advance.ensures.file
           c.advance.ensures.advances c.in-Some.end c.in-Some.is ends;
+      bound = c.advance.ensures.bound ∙ c.loop-done.invariant.bound;
     }
 
 pub loop-done-smaller : goal.loop-done-smaller
 loop-done-smaller g c =
     let r =
     reached_more c.args.steps c.loop-done.done c.loop-done.machine c.run-count.new.self _ _
-    c.loop-done-test.true c.loop-done.invariant.awake c.run-count.ensures.ran in
+    c.loop-done-test.true c.loop-done.invariant.so_far.awake c.run-count.ensures.ran in
     let less : c.args.steps - (c.loop-done.done + c.run-count.result.0) < c.args.steps
     - c.loop-done.done =
     (counted_within c.args.steps c.loop-done.done c.loop-done.machine c.run-count.new.self _ _
@@ -67,15 +68,18 @@ pub loop-done-preserved : goal.loop-done-preserved
 loop-done-preserved g c =
     let r =
     reached_more c.args.steps c.loop-done.done c.loop-done.machine c.run-count.new.self _ _
-    c.loop-done-test.true c.loop-done.invariant.awake c.run-count.ensures.ran in
+    c.loop-done-test.true c.loop-done.invariant.so_far.awake c.run-count.ensures.ran in
     let old : Place = record { machine = c.args.machine.now; position = c.args.at.now } in
     let now : Place = record { machine = c.loop-done.machine; position = c.loop-done.at } in
-    session_goes g.S.Sink.taken g.S.Sink.faults g.S.Sink.has_room c.args.out.now c.loop-done.out
-    c.advance.new.out c.args.script.now old now
-    (record { machine = c.advance.new.machine; position = c.advance.new.at })
-    c.args.steps c.loop-done.done c.run-count.result.0 c.run-count.result.1 c.run-count.new.self
-    c.loop-done.invariant r c.loop-done-test.true c.advance.result c.advance.ensures.file
-    c.advance.ensures.advances c.in_default.is
+    record {
+      so_far = session_goes g.S.Sink.taken g.S.Sink.faults g.S.Sink.has_room c.args.out.now c.loop-done.out
+          c.advance.new.out c.args.script.now old now
+          (record { machine = c.advance.new.machine; position = c.advance.new.at })
+          c.args.steps c.loop-done.done c.run-count.result.0 c.run-count.result.1 c.run-count.new.self
+          c.loop-done.invariant.so_far r c.loop-done-test.true c.advance.result c.advance.ensures.file
+          c.advance.ensures.advances c.in_default.is;
+      bound = c.advance.ensures.bound ∙ c.loop-done.invariant.bound;
+    }
 
 pub returns : goal.returns
 returns g c =
@@ -84,10 +88,11 @@ returns g c =
     record {
       text =
           text_done g.S.Sink.taken g.S.Sink.faults g.S.Sink.has_room c.args.out.now c.loop-done.out
-          c.args.script.now old now c.args.steps c.loop-done.done c.loop-done.invariant
+          c.args.script.now old now c.args.steps c.loop-done.done c.loop-done.invariant.so_far
           c.loop-done-test.false;
       answer =
           session_done g.S.Sink.taken g.S.Sink.faults g.S.Sink.has_room c.args.out.now
           c.loop-done.out c.args.script.now old now c.args.steps c.loop-done.done
-          c.loop-done.invariant c.loop-done-test.false;
+          c.loop-done.invariant.so_far c.loop-done-test.false;
+      bound = c.loop-done.invariant.bound;
     }

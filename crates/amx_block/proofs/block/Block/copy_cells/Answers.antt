@@ -1,4 +1,4 @@
-use Rattle.std.proofs.Common.{◌≡◌, ◌+◌, ◌-◌, ◌/◌, ◌≤◌, ◌<◌, ℕ, pos, length, take, drop, get_or}
+use Rattle.std.proofs.Common.{◌≡◌, ◌+◌, ◌-◌, ◌/◌, ◌≤◌, ◌<◌, ℕ, pos, take, get_or}
 use Rattle.std.proofs.Common.{refl, sym, ap, ◌∙◌, arith, w32, FitsSigned, subst}
 use Rattle.std.proofs.lemmas.List.{get_or-drop, length-drop, take-take}
 use Rattle.amx_block.specs.Contents.{Contents}
@@ -9,14 +9,14 @@ use Rattle.amx_block.proofs.block.Block.copy_cells.Goals as goal
 pub returns : goal.returns
 returns c =
     let f = c.self.inside in
-    let e = c.copy_run.ensures in
+    let e = c.copy_whole.ensures in
     let w = c.requires.whole in
     let code = f.code in
     let from = c.args.from in
     let to = c.args.to in
     let count = c.args.count in
     let was = f.cells.items in
-    let is = c.copy_run.new.cells.items in
+    let is = c.copy_whole.new.cells.items in
     let old : Contents = contents code was f.store in
     let new : Contents = contents code is f.store in
     let copied : (i : ℕ) → to / 4 ≤ i → i < to / 4 + count / 4

@@ -8,7 +8,7 @@ returns c =
     let law = moved_is c.args.from c.args.to c.args.count f.block c.copy.new.self c.copy.ensures in
     rw (← c.self.view_is)
     (ap (λ (cells : List ℤ). record {
-      amx = f.verified.now;
+      amx = f.verified;
       state =
           record {
             pri = f.pri;

@@ -1,6 +1,12 @@
 use Rattle.std.proofs.Common.{◌+◌}
-use Rattle.amx_step.proofs.ByteLaws.{read_as, order_less, order_more, order_next}
+use Rattle.amx_step.proofs.ByteLaws.{read_as, order_from, order_less, order_more, order_next}
 use Rattle.amx_step.proofs.registers.Core.order.Goals as goal
+
+pub loop-done-init : goal.loop-done-init
+loop-done-init c =
+    let e = c.equal_front-equal.ensures in
+    order_from c.args.self.now.state.cells c.args.at c.args.to c.args.count
+    c.equal_front-equal.result e.few e.same
 
 pub returns-then-first-second : goal.returns-then-first-second
 returns-then-first-second c =

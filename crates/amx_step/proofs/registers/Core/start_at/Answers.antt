@@ -13,7 +13,7 @@ returns-then-room-lt2 c =
     let f = c.self.inside in
     let i = c.self.invariant in
     let arguments = c.args.arguments.now in
-    let store : c.len.result ≡ length f.verified.now.store =
+    let store : c.len.result ≡ length f.verified.store =
     c.len.ensures ∙ ap (λ amx. length amx.store) c.amx.ensures.value in
     let top : stp m.state ≡ f.stp = rw (← c.self.view_is) (sym i.top_is) in
     let first : first_hea m.amx ≡ 4 * c.len.result = rw (← c.self.view_is, store) refl in

@@ -1,6 +1,6 @@
 use Rattle.std.proofs.Common.{◌∙◌, ap}
-use Rattle.amx_verify.specs.Marks.{table_by}
-use Rattle.amx_verify.proofs.MarkLaws.{table_there}
+use Rattle.amx_verify.specs.Kinds.{table_by}
+use Rattle.amx_verify.proofs.KindLaws.{table_there}
 use Rattle.amx_verify.proofs.marked.Marked.is_table_at.Goals as goal
 
 pub returns : goal.returns

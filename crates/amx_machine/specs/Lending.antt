@@ -1,0 +1,12 @@
+-- What a machine ends as, once a live part of its memory that was lent is given back.
+use Rattle.std.specs.Prelude.{ℕ, ℤ, List}
+use Rattle.std.specs.Borrow.{Lends, MutBor, Fml, Array, i32}
+use Rattle.amx_step.specs.Hosting.{with_live}
+use Rattle.amx_machine.specs.Machine.{Machine, resting}
+use Rattle.amx_machine.specs.contracts.machine.Machine.{the_row}
+
+-- the live memory from an address on is lent, and what it ends as is written there
+abbrev pub LendsLive : MutBor Machine → ℕ → MutBor (List ℤ) → Fml
+LendsLive m at part =
+    Lends the_row (Array i32 0) m part
+    (λ new. record m.now { state = resting m.now.mode (with_live m.now.state at new) })
