@@ -8,4 +8,5 @@ pub mod MeansLaws
 pub mod NodeLaws
 pub mod PartLaws
 pub mod ShapeLaws
+pub mod TargetLaws
 pub mod ViewedLaws

@@ -1,6 +1,9 @@
 pub mod Built
 pub mod ChainItems
+pub mod DirectView
 pub mod Filled
 pub mod Holes
 pub mod Opened
+pub mod RightCode
 pub mod Standing
+pub mod TargetCode

@@ -8,25 +8,33 @@ ghost use Rattle.gen_sim.specs.SimpleCode.{alone, const_code};
 ghost use Rattle.gen_sim.specs.JumpCode.{jump_to, choice_code, truth_code, other_at};
 ghost use Rattle.gen_sim.specs.CallCode.{call_code, native_code};
 ghost use Rattle.gen_sim.specs.ChainCode.{link_code, last_link_code, middle_link_code};
+ghost use Rattle.gen_sim.specs.DirectCode.{direct_of};
+ghost use Rattle.gen_sim.specs.MovingCode.{is_quiet};
 ghost use Rattle.gen_laws.specs.ExprCode.{place_items, array_items, value_items};
 ghost use Rattle.gen_laws.specs.ExprCode.{arg_items, args_items};
 ghost use Rattle.gen_expr.specs.Built.{with_items};
 ghost use Rattle.gen_expr.specs.Standing.{scope_of, Serves, extent_of};
 ghost use Rattle.gen_expr.specs.ChainItems.{chain_items};
+ghost use Rattle.gen_expr.specs.DirectView.{perhaps_direct};
+ghost use Rattle.gen_expr.specs.RightCode.{right_code};
+ghost use Rattle.gen_expr.specs.TargetCode.{address_part, value_part};
 
-use super::access::{load, stored, updated, updated_by};
+use super::access::updated_by;
 use super::arguments::{counted, give_back, native, temporary};
 use super::builder::Builder;
 use super::calls::{one, operated};
 use super::chain::{compared, ended};
 use super::counts::temporaries;
+use super::direct::direct_of;
 use super::ends::{character, copy, element, row};
 use super::frame::{Frame, object, object_reach, param_reach, slot, slot_reach, through};
 use super::jumps::{cell_before_last, land, last_cell, truth, turn};
-use super::operators::{between, prefix, two};
+use super::operators::{operator, prefix, two};
 use super::put::count_of;
+use super::quiet::is_quiet;
 use super::reach::{Reach, characters_of, rest_of, row_of, size_of};
-use super::steps::{stepped, turned};
+use super::steps::turned;
+use super::target::{Target, read, step, update, write};
 use amx_ops::Op;
 use pawn_base::{List, Memory};
 use pawn_meaning::{Arg, Array, Expr, Link, Scalar};
@@ -110,6 +118,72 @@ fn array_beside(a: &Array, frame: &Frame<'_>, b: Builder) -> Result<Builder, Mem
     Ok(both)
 }
 
+/// The right operand, to PRI, and the left one to ALT.
+#[cycle(emit)]
+fn right(e: &Expr, frame: &Frame<'_>, b: Builder) -> Result<Builder, Memory>
+    requires { Serves frame.now }
+    ensures { IfOk result (λ r. let scope = scope_of frame.now in
+        r ≡ with_items (right_code (is_quiet scope (expr_view e.now))
+        (value_items scope (4 * length b.code + 4) (expr_view e.now))) b) }
+{
+    if is_quiet(e) {
+        let moved = b.put(Op::MoveAlt, 0)?;
+        let both = value(e, frame, moved)?;
+        Ok(both)
+    } else {
+        let both = beside(e, frame, b)?;
+        let done = both.put(Op::PopAlt, 0)?;
+        Ok(done)
+    }
+}
+
+/// A place that is to be read or written: its address, to PRI, where it isn't direct.
+#[cycle(emit)]
+fn target(p: &Scalar, frame: &Frame<'_>, b: Builder) -> Result<Target, Memory>
+    requires { Serves frame.now }
+    ensures code { IfOk result (λ r. let scope = scope_of frame.now in
+        r.code ≡ with_items (address_part (direct_of scope (scalar_view p.now))
+        (place_items scope (4 * length b.code) (scalar_view p.now))) b) }
+    ensures direct { IfOk result (λ r.
+        perhaps_direct r.direct ≡ direct_of (scope_of frame.now) (scalar_view p.now)) }
+{
+    match direct_of(p, frame)? {
+        None => {
+            let code = place(p, frame, b)?;
+            Ok(Target { code, direct: None })
+        }
+        Some(d) => Ok(Target {
+            code: b,
+            direct: Some(d),
+        }),
+    }
+}
+
+/// A value for a place, to PRI, while the place's address waits where it has one.
+#[cycle(emit)]
+fn operand(e: &Expr, frame: &Frame<'_>, at: Target) -> Result<Target, Memory>
+    requires { Serves frame.now }
+    ensures code { IfOk result (λ r.
+        r.code ≡ with_items (value_part (perhaps_direct at.direct) (4 * length at.code.code)
+        (λ q. value_items (scope_of frame.now) q (expr_view e.now))) at.code) }
+    ensures direct { IfOk result (λ r. r.direct ≡ at.direct) }
+{
+    let Target { code, direct } = at;
+    match direct {
+        None => {
+            let code = beside(e, frame, code)?;
+            Ok(Target { code, direct: None })
+        }
+        Some(d) => {
+            let code = value(e, frame, code)?;
+            Ok(Target {
+                code,
+                direct: Some(d),
+            })
+        }
+    }
+}
+
 /// The value of an expression, to PRI.
 #[cycle(emit)]
 pub(crate) fn value(e: &Expr, frame: &Frame<'_>, b: Builder) -> Result<Builder, Memory>
@@ -119,9 +193,9 @@ pub(crate) fn value(e: &Expr, frame: &Frame<'_>, b: Builder) -> Result<Builder, 
 {
     match e {
         Expr::Const(v) => b.put(Op::ConstPri, *v),
-        Expr::Read(p) => load(p, place(p, frame, b)?),
+        Expr::Read(p) => read(p, target(p, frame, b)?),
         Expr::Unary(o, x) => prefix(*o, value(x, frame, b)?),
-        Expr::Binary(o, x, y) => between(*o, beside(y, frame, value(x, frame, b)?)?),
+        Expr::Binary(o, x, y) => operator(*o, right(y, frame, value(x, frame, b)?)?),
         Expr::Chain(x, links) => chain(links, frame, value(x, frame, b)?),
         Expr::And(x, y) => and_then(y, frame, value(x, frame, b)?),
         Expr::Or(x, y) => or_else(y, frame, value(x, frame, b)?),
@@ -131,13 +205,13 @@ pub(crate) fn value(e: &Expr, frame: &Frame<'_>, b: Builder) -> Result<Builder, 
             let second = value(y, frame, opened)?;
             land(end, second)
         }
-        Expr::Assign(p, x) => stored(p, beside(x, frame, place(p, frame, b)?)?),
-        Expr::Update(p, o, x) => updated(p, *o, beside(x, frame, place(p, frame, b)?)?),
+        Expr::Assign(p, x) => write(p, operand(x, frame, target(p, frame, b)?)?),
+        Expr::Update(p, o, x) => update(p, *o, operand(x, frame, target(p, frame, b)?)?),
         Expr::UpdateBy(p, f, swapped, x, convert) => {
             let both = beside(x, frame, place(p, frame, b)?)?;
             updated_by(p, *f, *swapped, *convert, both)
         }
-        Expr::Step(p, delta, first) => stepped(p, *delta, *first, place(p, frame, b)?),
+        Expr::Step(p, delta, first) => step(p, *delta, *first, target(p, frame, b)?),
         Expr::StepBy(p, f, first) => turned(p, *f, *first, place(p, frame, b)?),
         Expr::Copy(to, from, n) => {
             let (first, _) = array(to, frame, b)?;

@@ -28,7 +28,7 @@ pub struct Frame<'a> {
 }
 
 /// The address of an object. A program has no such object where the table has none.
-fn object_at(o: u32, frame: &Frame<'_>) -> Result<i32, Memory>
+pub(crate) fn object_at(o: u32, frame: &Frame<'_>) -> Result<i32, Memory>
     requires { Serves frame.now }
     ensures { IfOk result (λ x. x ≡ object_address (scope_of frame.now).program o) }
 {
@@ -39,7 +39,7 @@ fn object_at(o: u32, frame: &Frame<'_>) -> Result<i32, Memory>
 }
 
 /// The offset of a slot. One that isn't in force has none.
-fn slot_at(s: u32, frame: &Frame<'_>) -> Result<i32, Memory>
+pub(crate) fn slot_at(s: u32, frame: &Frame<'_>) -> Result<i32, Memory>
     requires { Serves frame.now }
     ensures { IfOk result (λ x. x ≡ slot_offset (scope_of frame.now) s) }
 {
@@ -47,6 +47,13 @@ fn slot_at(s: u32, frame: &Frame<'_>) -> Result<i32, Memory>
         Some(Some(offset)) => Ok(*offset),
         Some(None) | None => Err(Memory),
     }
+}
+
+/// The offset of a parameter.
+pub(crate) fn through_at(s: u32) -> Result<i32, Memory>
+    ensures { IfOk result (λ x. x ≡ pos (12 + 4 * s)) }
+{
+    cell_of(12 + 4 * u64::from(s))
 }
 
 /// The address of an object, to PRI.
@@ -73,7 +80,7 @@ pub fn slot(s: u32, frame: &Frame<'_>, b: Builder) -> Result<Builder, Memory>
 pub fn through(s: u32, b: Builder) -> Result<Builder, Memory>
     ensures { IfOk result (λ r. r ≡ with_items (through_code s) b) }
 {
-    let offset = cell_of(12 + 4 * u64::from(s))?;
+    let offset = through_at(s)?;
     let b = b.put(Op::LoadSPri, offset)?;
     Ok(b)
 }

@@ -7,6 +7,7 @@ mod builder;
 mod calls;
 mod chain;
 mod counts;
+mod direct;
 mod emit;
 mod emitter;
 mod ends;
@@ -14,8 +15,10 @@ pub mod frame;
 pub mod jumps;
 pub mod operators;
 pub mod put;
+mod quiet;
 mod reach;
 mod steps;
+mod target;
 
 pub use builder::Builder;
 pub use emitter::expression;

@@ -65,13 +65,3 @@ pub fn compare(o: Comparison, b: Builder) -> Result<Builder, Memory>
         Comparison::GreaterEqual => b.put(Op::Sleq, 0),
     }
 }
-
-/// An operator, behind its operands of which the left one waits.
-#[tactic(auto, using(crate::proofs::GrowLaws::then_grow))]
-pub fn between(o: Operator, b: Builder) -> Result<Builder, Memory>
-    ensures { IfOk result (λ r. r ≡ with_items (alone Op.PopAlt ∷ operator_code o) b) }
-{
-    let b = b.put(Op::PopAlt, 0)?;
-    let b = operator(o, b)?;
-    Ok(b)
-}

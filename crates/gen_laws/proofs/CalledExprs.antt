@@ -17,6 +17,8 @@ use Rattle.gen_sim.specs.Results.{temporaries_in}
 use Rattle.gen_sim.specs.SimpleCode.{alone, taking, operator_code, const_code, prefix_op}
 use Rattle.gen_sim.specs.SimpleCode.{waiting_code}
 use Rattle.gen_sim.specs.AccessCode.{load_code, store_code, changed_code, stepped_code, turned_code}
+use Rattle.gen_sim.specs.DirectCode.{direct_of, value_begin}
+use Rattle.gen_sim.specs.MovingCode.{is_quiet}
 use Rattle.gen_sim.specs.JumpCode.{other_at, choice_code, truth_code}
 use Rattle.gen_sim.specs.IndexCode.{bounds_code, in_characters}
 use Rattle.gen_sim.specs.CallCode.{one_code, two_code, convert_code, give_back_code}
@@ -25,7 +27,8 @@ use Rattle.gen_laws.specs.ExprCode.{known_size, others_at, linked_with, place_it
 use Rattle.gen_laws.specs.ExprCode.{value_items, links_items, arg_items, args_items}
 use Rattle.gen_laws.specs.Called.{AreCalled}
 use Rattle.gen_laws.proofs.CalledItems.{both_called, waiting_called, choice_called}
-use Rattle.gen_laws.proofs.CalledItems.{operator_called, load_called, store_called}
+use Rattle.gen_laws.proofs.CalledItems.{operator_called, load_called, read_called, assign_called}
+use Rattle.gen_laws.proofs.CalledItems.{both_by_called, update_called, step_called}
 use Rattle.gen_laws.proofs.CalledItems.{bounds_called, give_back_called, changed_called}
 use Rattle.gen_laws.proofs.CalledItems.{stepped_called, turned_called, two_called}
 use Rattle.gen_laws.proofs.CalledItems.{convert_called, link_called, link_with_called}
@@ -87,15 +90,14 @@ module _ (C : ℕ → Type 0) (scope : Scope)
         → AreCalled C (value_items scope begin e)
     value_called (Const v) h begin = tt
     value_called (Read p) h begin =
-        both_called C (place_items scope begin p) (load_code p) (place_called p h begin)
-        (load_called C p)
+        read_called C (direct_of scope p) p (place_items scope begin p) (place_called p h begin)
     value_called (Unary o e) h begin =
         both_called C (value_items scope begin e) (alone (prefix_op o) ∷ [])
         (value_called e h begin) tt
     value_called (Binary o l r) h begin =
         let left = value_items scope begin l in
         let q = past begin left + 4 in
-        waiting_called C left (value_items scope q r) (alone op.PopAlt ∷ operator_code o)
+        both_by_called C (is_quiet scope r) left (value_items scope q r) (operator_code o)
         (value_called l h.0 begin) (value_called r h.1 q) (operator_called C o)
     value_called (Chain e links) h begin =
         let first = value_items scope begin e in
@@ -132,16 +134,14 @@ module _ (C : ℕ → Type 0) (scope : Scope)
         (value_called b h.2 q))
     value_called (Assign p e) h begin =
         let place = place_items scope begin p in
-        let q = past begin place + 4 in
-        waiting_called C place (value_items scope q e) (alone op.PopAlt ∷ store_code p)
-        (place_called p h.0 begin) (value_called e h.1 q) (store_called C p)
+        let q = value_begin (direct_of scope p) begin place in
+        assign_called C (direct_of scope p) p place (value_items scope q e)
+        (place_called p h.0 begin) (value_called e h.1 q)
     value_called (Update p o e) h begin =
         let place = place_items scope begin p in
-        let q = past begin place + 4 in
-        waiting_called C place (value_items scope q e)
-        (alone op.PopAlt ∷ changed_code p (operator_code o)) (place_called p h.0 begin)
-        (value_called e h.1 q)
-        (changed_called C p (operator_code o) (operator_called C o))
+        let q = value_begin (direct_of scope p) begin place in
+        update_called C (direct_of scope p) p place (value_items scope q e) (operator_code o)
+        (place_called p h.0 begin) (value_called e h.1 q) (operator_called C o)
     value_called (UpdateBy p f swapped e convert) h begin =
         let place = place_items scope begin p in
         let q = past begin place + 4 in
@@ -152,11 +152,8 @@ module _ (C : ℕ → Type 0) (scope : Scope)
         (two_called C f swapped (known f _ h.0))
         (convert_called C convert (if_known 1 convert h.1))))
     value_called (Step p delta prefix) h begin =
-        let last = load_code p ++ stepped_code p delta prefix in
-        both_called C (place_items scope begin p) (alone op.MoveAlt ∷ last)
+        step_called C (direct_of scope p) p delta prefix (place_items scope begin p)
         (place_called p h.1 begin)
-        (both_called C (load_code p) (stepped_code p delta prefix) (load_called C p)
-        (stepped_called C p delta prefix))
     value_called (StepBy p f prefix) h begin =
         let last = turned_code p (one_code f) prefix in
         both_called C (place_items scope begin p) (alone op.MoveAlt ∷ (load_code p ++ last))

@@ -6,11 +6,16 @@ use Rattle.pawn_cells.specs.declared.operator.Operator.{Operator}
 use Rattle.pawn_cells.specs.declared.operator.Operator.TheVariants as between
 use Rattle.pawn_cells.specs.declared.operator.Comparison.{Comparison}
 use Rattle.pawn_meaning.specs.Program.{Scalar, Global, Own, Through, Element, Char, Slot, Links}
-use Rattle.pawn_meaning.specs.Program.{no_links, then_link}
+use Rattle.pawn_meaning.specs.Program.{no_links, then_link, Expr, Const, Read, Unary, Binary, Chain}
+use Rattle.pawn_meaning.specs.Program.{And, Or, Cond, Assign, Update, UpdateBy, Step, StepBy, Copy}
+use Rattle.pawn_meaning.specs.Program.{Operate, OperateOne, Call, Native, Seq}
 use Rattle.amx_ops.specs.declared.op.Op.TheVariants as op
 use Rattle.gen_sim.specs.Items.{Item, Plain, CallOf}
 use Rattle.gen_sim.specs.SimpleCode.{alone, operator_code, waiting_code}
 use Rattle.gen_sim.specs.AccessCode.{load_code, store_code, changed_code, stepped_code, turned_code}
+use Rattle.gen_sim.specs.DirectCode.{Direct, direct_store, direct_changed, stepped_back, read_by}
+use Rattle.gen_sim.specs.DirectCode.{assign_by, update_by, step_by}
+use Rattle.gen_sim.specs.MovingCode.{both_by}
 use Rattle.gen_sim.specs.JumpCode.{jump_to, end_at, choice_code}
 use Rattle.gen_sim.specs.IndexCode.{bounds_code}
 use Rattle.gen_sim.specs.CallCode.{one_code, two_code, convert_code, give_back_code}
@@ -66,6 +71,24 @@ module _ (C : ℕ → Type 0) where
   store_called (Element a e) = tt
   store_called (Char a e) = tt
 
+  pub read_called : (o : Option Direct) (p : Scalar) (place : List Item) → AreCalled C place
+      → AreCalled C (read_by o p place)
+  read_called None p place h = both_called place (load_code p) h (load_called p)
+  read_called (Some d) p place h = tt
+
+  pub assign_called : (o : Option Direct) (p : Scalar) (place items : List Item)
+      → AreCalled C place → AreCalled C items → AreCalled C (assign_by o p place items)
+  assign_called None p place items h g =
+      waiting_called place items (alone op.PopAlt ∷ store_code p) h g (store_called p)
+  assign_called (Some d) p place items h g = both_called items (direct_store d) g tt
+
+  pub both_by_called : (quiet : Bool) (first second last : List Item) → AreCalled C first
+      → AreCalled C second → AreCalled C last → AreCalled C (both_by quiet first second last)
+  both_by_called true first second last h g k =
+      both_called first (alone op.MoveAlt ∷ (second ++ last)) h (both_called second last g k)
+  both_by_called false first second last h g k =
+      waiting_called first second (alone op.PopAlt ∷ last) h g k
+
   pub bounds_called : (size : Option ℕ) → AreCalled C (bounds_code size)
   bounds_called None = tt
   bounds_called (Some zero) = tt
@@ -99,6 +122,28 @@ module _ (C : ℕ → Type 0) where
   turned_called s change false h =
       both_called change (alone op.PopAlt ∷ (store_code s ++ alone op.PopPri ∷ [])) h
       (both_called (store_code s) (alone op.PopPri ∷ []) (store_called s) tt)
+
+  pub update_called : (o : Option Direct) (p : Scalar) (place items change : List Item)
+      → AreCalled C place → AreCalled C items → AreCalled C change
+      → AreCalled C (update_by o p place items change)
+  update_called None p place items change h g k =
+      waiting_called place items (alone op.PopAlt ∷ changed_code p change) h g
+      (changed_called p change k)
+  update_called (Some d) p place items change h g k =
+      both_called items (direct_changed d change) g (both_called change (direct_store d) k tt)
+
+  stepped_back_called : (d : Direct) (delta : ℤ) (prefix : Bool)
+      → AreCalled C (stepped_back d delta prefix)
+  stepped_back_called d delta true = tt
+  stepped_back_called d delta false = tt
+
+  pub step_called : (o : Option Direct) (p : Scalar) (delta : ℤ) (prefix : Bool)
+      (place : List Item) → AreCalled C place → AreCalled C (step_by o p delta prefix place)
+  step_called None p delta prefix place h =
+      both_called place (alone op.MoveAlt ∷ (load_code p ++ stepped_code p delta prefix)) h
+      (both_called (load_code p) (stepped_code p delta prefix) (load_called p)
+      (stepped_called p delta prefix))
+  step_called (Some d) p delta prefix place h = stepped_back_called d delta prefix
 
   -- ---- with one
 

@@ -1,5 +1,6 @@
 -- How many cells a node's own items take.
-use Rattle.std.proofs.Common.{◌≡◌, ◌+◌, ◌≤◌, ℕ, zero, suc, ℤ, List, [], ◌∷◌, ◌++◌, Option, None}
+use Rattle.std.proofs.Common.{◌≡◌, ◌+◌, ◌≤◌, ℕ, zero, suc, ℤ, neg_ℤ, refl, List, [], ◌∷◌, ◌++◌}
+use Rattle.std.proofs.Common.{Option, None}
 use Rattle.std.proofs.Common.{Some, Bool, true, false, length, arith}
 use Rattle.pawn_cells.specs.declared.operator.Prefix.{Prefix}
 use Rattle.pawn_cells.specs.declared.operator.Prefix.TheVariants as before
@@ -7,12 +8,19 @@ use Rattle.pawn_cells.specs.declared.operator.Operator.{Operator}
 use Rattle.pawn_cells.specs.declared.operator.Operator.TheVariants as between
 use Rattle.pawn_cells.specs.declared.operator.Comparison.{Comparison}
 use Rattle.pawn_cells.specs.declared.operator.Comparison.TheVariants as comparison
-use Rattle.pawn_meaning.specs.Program.{Scalar, Global, Own, Through, Element, Char}
+use Rattle.pawn_meaning.specs.Program.{Scalar, Global, Own, Through, Element, Char, Expr, Const}
+use Rattle.pawn_meaning.specs.Program.{Read, Unary, Binary, Chain, And, Or, Cond, Assign, Update}
+use Rattle.pawn_meaning.specs.Program.{UpdateBy, Step, StepBy, Copy, Operate, OperateOne, Call}
+use Rattle.pawn_meaning.specs.Program.{Native, Seq}
+use Rattle.pawn_meaning.specs.Scope.{Scope}
 use Rattle.amx_ops.specs.declared.op.Op.TheVariants as op
 use Rattle.gen_sim.specs.Items.{Item, item_cells}
 use Rattle.gen_sim.proofs.ItemLaws.{count-append}
-use Rattle.gen_sim.specs.SimpleCode.{alone, prefix_op, operator_code, waiting_code, both_code}
+use Rattle.gen_sim.specs.SimpleCode.{alone, taking, prefix_op, operator_code, waiting_code, both_code}
 use Rattle.gen_sim.specs.AccessCode.{load_code, store_code, changed_code, stepped_code, turned_code}
+use Rattle.gen_sim.specs.DirectCode.{Direct, direct_of, direct_load, direct_store, direct_changed}
+use Rattle.gen_sim.specs.DirectCode.{stepped_back, read_by, assign_by, update_by, step_by}
+use Rattle.gen_sim.specs.MovingCode.{both_by}
 use Rattle.gen_sim.specs.JumpCode.{jump_to, end_at, choice_code}
 use Rattle.gen_sim.specs.IndexCode.{bounds_code}
 use Rattle.gen_sim.specs.CallCode.{two_code, convert_code, give_back_code}
@@ -150,3 +158,82 @@ middle_link_count fail operand link others =
       count-append operand (alone op.PopAlt ∷ alone op.PushPri ∷ (link ++ tested)),
       count-append link tested,
     )
+
+-- ---- by a place's own instruction, or by its address
+
+-- its instructions take two cells
+abbrev pub AreTwo : Option Direct → Type 0
+AreTwo None = Unit {0}
+AreTwo (Some d) =
+    (count (direct_load d) ≡ 2) × (count (taking d.lefts d.operand ∷ []) ≡ 2)
+    × (count (direct_store d) ≡ 2)
+
+pub direct_two : (scope : Scope) (p : Scalar) → AreTwo (direct_of scope p)
+direct_two scope (Global o) = (refl, refl, refl)
+direct_two scope (Own s) = (refl, refl, refl)
+direct_two scope (Through s) = (refl, refl, refl)
+direct_two scope (Element a e) = tt
+direct_two scope (Char a e) = tt
+
+pub read_count : (o : Option Direct) → AreTwo o → (p : Scalar) (place : List Item)
+    → count (read_by o p place) ≤ count place + 2
+read_count None h p place = omega (arith, count-append place (load_code p), load_count p)
+read_count (Some d) h p place = omega (arith, h.0)
+
+pub assign_count : (o : Option Direct) → AreTwo o → (p : Scalar) (place value : List Item)
+    → count (assign_by o p place value) ≤ count place + count value + 4
+assign_count None h p place value =
+    omega (arith, both_count place value (store_code p), store_count p)
+assign_count (Some d) h p place value =
+    omega (arith, count-append value (direct_store d), h.2)
+
+pub update_count : (o : Option Direct) → AreTwo o → (p : Scalar) (place value change : List Item)
+    → count (update_by o p place value change) ≤ count place + count value + count change + 10
+update_count None h p place value change =
+    omega (arith, both_count place value (changed_code p change), changed_count p change)
+update_count (Some d) h p place value change =
+    omega (
+      arith,
+      count-append value (direct_changed d change),
+      count-append (taking d.lefts d.operand ∷ []) (change ++ direct_store d),
+      count-append change (direct_store d),
+      h.1,
+      h.2,
+    )
+
+stepped_back_count : (d : Direct) → AreTwo (Some d) → (delta : ℤ) (prefix : Bool)
+    → count (stepped_back d delta prefix) ≤ 4
+stepped_back_count d h delta true = omega (arith, h.2)
+stepped_back_count d h delta false =
+    omega (arith, h.2, count-append (direct_store d) (taking op.AddC (neg_ℤ delta) ∷ []))
+
+pub step_count : (o : Option Direct) → AreTwo o → (p : Scalar) (delta : ℤ) (prefix : Bool)
+    (place : List Item) → count (step_by o p delta prefix place) ≤ count place + 9
+step_count None h p delta prefix place =
+    let last = stepped_code p delta prefix in
+    omega (
+      arith,
+      count-append place (alone op.MoveAlt ∷ (load_code p ++ last)),
+      count-append (load_code p) last,
+      load_count p,
+      stepped_count p delta prefix,
+    )
+step_count (Some d) h p delta prefix place =
+    omega (
+      arith,
+      count-append (direct_load d) (taking op.AddC delta ∷ stepped_back d delta prefix),
+      stepped_back_count d h delta prefix,
+      h.0,
+    )
+
+-- ---- a second part that leaves ALT, or one for which the first waits
+
+pub both_by_count : (quiet : Bool) (first second last : List Item)
+    → count (both_by quiet first second last) ≤ count first + count second + count last + 2
+both_by_count true first second last =
+    omega (
+      arith,
+      count-append first (alone op.MoveAlt ∷ (second ++ last)),
+      count-append second last,
+    )
+both_by_count false first second last = omega (arith, both_count first second last)

@@ -23,7 +23,11 @@ use Rattle.gen_sim.specs.CallCode.{one_code, two_code, convert_code}
 use Rattle.gen_sim.specs.ChainCode.{link_code, last_link_code, fail_at}
 use Rattle.gen_laws.specs.ExprCode.{known_size, link_with, others_at, linked_with, place_items}
 use Rattle.gen_laws.specs.ExprCode.{array_items, value_items, links_items, arg_items, args_items}
+use Rattle.gen_sim.specs.DirectCode.{direct_of, value_begin}
+use Rattle.gen_sim.specs.MovingCode.{is_quiet}
 use Rattle.gen_laws.proofs.ExprNodes.{links_end}
+use Rattle.gen_laws.proofs.Shapes.{direct_fine, read_closed, assign_closed, update_closed, step_closed}
+use Rattle.gen_laws.proofs.Shapes.{both_by_closed}
 use Rattle.gen_laws.specs.Fine.{AreFine, AreClosed}
 use Rattle.gen_laws.proofs.FineLaws.{Nowhere, fine_both, closed_both}
 use Rattle.gen_laws.proofs.FineItems.{alone_fine, byte_fine, length_fine, pop_alt, prefix_fine}
@@ -173,16 +177,17 @@ module _ (scope : Scope) where
         → AreClosed natives begin (value_items scope begin e)
     value_closed (Const v) h begin = own_closed natives begin (const_code v) (const_fine natives v)
     value_closed (Read p) h begin =
-        part_closed natives begin (place_items scope begin p) (load_code p) (place_closed p h begin)
-        (load_fine natives p)
+        read_closed natives begin (direct_of scope p) (direct_fine natives scope p) p
+        (place_items scope begin p) (place_closed p h begin)
     value_closed (Unary o e) h begin =
         part_closed natives begin (value_items scope begin e) (alone (prefix_op o) ∷ [])
         (value_closed e h begin) (prefix_fine natives o)
     value_closed (Binary o l r) h begin =
         let left = value_items scope begin l in
         let q = past begin left + 4 in
-        both_closed natives begin left (value_items scope q r) (operator_code o)
-        (value_closed l h.0 begin) (value_closed r h.1 q) (operator_fine natives o)
+        both_by_closed natives begin (is_quiet scope r) left (value_items scope q r)
+        (operator_code o) (value_closed l h.0 begin) (value_closed r h.1 q)
+        (operator_fine natives o)
     value_closed (Chain e links) h begin =
         let first = value_items scope begin e in
         let p = past begin first in
@@ -222,15 +227,16 @@ module _ (scope : Scope) where
         (value_closed b h.2 q))
     value_closed (Assign p e) h begin =
         let place = place_items scope begin p in
-        let q = past begin place + 4 in
-        both_closed natives begin place (value_items scope q e) (store_code p)
-        (place_closed p h.0 begin) (value_closed e h.1 q) (store_fine natives p)
+        let q = value_begin (direct_of scope p) begin place in
+        assign_closed natives begin (direct_of scope p) (direct_fine natives scope p) p place
+        (value_items scope q e)
+        (place_closed p h.0 begin) (value_closed e h.1 q)
     value_closed (Update p o e) h begin =
         let place = place_items scope begin p in
-        let q = past begin place + 4 in
-        both_closed natives begin place (value_items scope q e) (changed_code p (operator_code o))
-        (place_closed p h.0 begin) (value_closed e h.1 q)
-        (changed_fine natives p (operator_code o) (operator_fine natives o))
+        let q = value_begin (direct_of scope p) begin place in
+        update_closed natives begin (direct_of scope p) (direct_fine natives scope p) p place
+        (value_items scope q e) (operator_code o) (place_closed p h.0 begin) (value_closed e h.1 q)
+        (operator_fine natives o)
     value_closed (UpdateBy p f swapped e convert) h begin =
         let place = place_items scope begin p in
         let q = past begin place + 4 in
@@ -241,9 +247,8 @@ module _ (scope : Scope) where
         (fine_both natives Nowhere (two_code f swapped) (convert_code convert)
         (two_fine natives f swapped) (convert_fine natives convert)))
     value_closed (Step p delta prefix) h begin =
-        part_closed natives begin (place_items scope begin p) _ (place_closed p h.1 begin)
-        (loaded_tail natives p (stepped_code p delta prefix)
-        (stepped_fine natives p delta prefix))
+        step_closed natives begin (direct_of scope p) (direct_fine natives scope p) p delta prefix
+        (place_items scope begin p) (place_closed p h.1 begin)
     value_closed (StepBy p f prefix) h begin =
         part_closed natives begin (place_items scope begin p) _ (place_closed p h.1 begin)
         (loaded_tail natives p (turned_code p (one_code f) prefix)

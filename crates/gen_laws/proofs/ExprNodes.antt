@@ -1,8 +1,10 @@
 -- The code of each valid place, array, expression and argument does what it means.
-use Rattle.std.proofs.Common.{◌≡◌, ◌+◌, ℕ, pos, List, [], ◌∷◌, ◌++◌, Bool, Option, inl, refl, sym}
+use Rattle.std.proofs.Common.{◌≡◌, ◌+◌, ℕ, pos, List, [], ◌∷◌, ◌++◌, Bool, true, false, Option}
+use Rattle.std.proofs.Common.{ℤ, None, Some, inl, refl, sym}
 use Rattle.std.proofs.Common.{subst, ◌∙◌}
 use Rattle.std.specs.Prelude.{IfSome}
 use Rattle.pawn_cells.specs.declared.operator.Comparison.{Comparison}
+use Rattle.pawn_cells.specs.declared.operator.Operator.{Operator}
 use Rattle.pawn_meaning.specs.Program.{Slot, ScalarSlot, ReferenceSlot, ArraySlot, OpenSlot, Scalar}
 use Rattle.pawn_meaning.specs.Program.{Global, Own, Through, Element, Char, Array, Object}
 use Rattle.pawn_meaning.specs.Program.{SlotArray, ParamArray, Row, From, Expr, Const, Read, Unary}
@@ -19,7 +21,15 @@ use Rattle.gen_sim.specs.Contract.{ValueCode, PlaceCode, ArrayCode, ArgumentsCod
 use Rattle.gen_sim.proofs.ItemLaws.{past-append}
 use Rattle.gen_sim.proofs.StepLaws.{given}
 use Rattle.gen_sim.proofs.ConstantNodes as constants
-use Rattle.gen_sim.specs.SimpleCode.{const_code}
+use Rattle.gen_sim.specs.SimpleCode.{operator_code, const_code}
+use Rattle.gen_sim.specs.DirectCode.{Direct, direct_of, direct_load, read_by, value_begin}
+use Rattle.gen_sim.specs.DirectCode.{assign_by, update_by, step_by}
+use Rattle.gen_sim.specs.MovingCode.{is_direct, is_quiet, both_by}
+use Rattle.gen_sim.proofs.DirectChanges.{update_direct, step_direct}
+use Rattle.gen_sim.proofs.DirectLaws.{DirectPlace, global_direct, own_direct, through_direct}
+use Rattle.gen_sim.proofs.DirectNodes.{QuietCode, quiet_value, const_quiet, read_quiet}
+use Rattle.gen_sim.proofs.DirectNodes.{assign_direct}
+use Rattle.gen_sim.proofs.QuietNodes.{binary_quiet}
 use Rattle.gen_sim.specs.JumpCode.{other_at}
 use Rattle.gen_sim.proofs.SimpleNodes.{unary_does, binary_does, comma_does}
 use Rattle.gen_sim.proofs.AccessNodes.{read_does, assign_does, update_does}
@@ -31,7 +41,8 @@ use Rattle.gen_sim.specs.IndexCode.{element_code, character_code, row_code}
 use Rattle.gen_sim.proofs.ElementNodes.{element_does, character_does, rest_does, row_does}
 use Rattle.gen_sim.proofs.CopyNodes.{copy_does}
 use Rattle.gen_sim.specs.ArgumentCode.{ArgumentCode, kinds_of}
-use Rattle.gen_sim.proofs.OperatorNodes.{operate_one_does, operate_does, update_by_does}
+use Rattle.gen_sim.proofs.OperatorNodes.{operate_one_does, operate_does}
+use Rattle.gen_sim.proofs.OperatorNodes as operators
 use Rattle.gen_sim.proofs.OperatorNodes.{step_by_does}
 use Rattle.gen_sim.proofs.TemporaryViews.{agree_count}
 use Rattle.gen_sim.proofs.ArgumentNodes.{value_argument, ref_argument, whole_argument}
@@ -131,6 +142,77 @@ module _ (scope : Scope) where
       (chain_does scope begin first e one o e2 f swapped o3 e3 f3 swapped3 links items
       (subst (λ z. LinksCode scope rest p (fail_at z) items) (sym same) (all (fail_at q))))
 
+  -- ---- places with instructions of their own
+
+  abbrev HasDirect : Scalar → Option Direct → Type 0
+  HasDirect p None = Unit {0}
+  HasDirect p (Some d) = DirectPlace scope p d
+
+  direct_does : (p : Scalar) → IsValidScalar scope p → HasDirect p (direct_of scope p)
+  direct_does (Global o) h = global_direct scope o h
+  direct_does (Own s) h = own_direct scope s h.0 h.1
+  direct_does (Through s) h = through_direct scope s h.0 h.1
+  direct_does (Element a e) h = tt
+  direct_does (Char a e) h = tt
+
+  read_by_does : (begin : ℕ) (p : Scalar) (o : Option Direct) → HasDirect p o → (place : List Item)
+      → PlaceCode scope p begin place → ValueCode scope (Read p) begin (read_by o p place)
+  read_by_does begin p None h place part = read_does scope begin p place part
+  read_by_does begin p (Some d) h place part =
+      quiet_value scope (Read p) begin (direct_load d) (read_quiet scope begin p d h)
+
+  assign_by_does : (begin : ℕ) (p : Scalar) (o : Option Direct) → HasDirect p o → (e : Expr)
+      → (place items : List Item) → PlaceCode scope p begin place
+      → ValueCode scope e (value_begin o begin place) items
+      → ValueCode scope (Assign p e) begin (assign_by o p place items)
+  assign_by_does begin p None h e place items one two =
+      assign_does scope begin p e place items one two
+  assign_by_does begin p (Some d) h e place items one two =
+      assign_direct scope begin p d e items h two
+
+  update_by_does : (begin : ℕ) (p : Scalar) (d : Option Direct) → HasDirect p d → (o : Operator)
+      (e : Expr) → (place items : List Item) → PlaceCode scope p begin place
+      → ValueCode scope e (value_begin d begin place) items
+      → ValueCode scope (Update p o e) begin (update_by d p place items (operator_code o))
+  update_by_does begin p None h o e place items one two =
+      update_does scope begin p o e place items one two
+  update_by_does begin p (Some d) h o e place items one two =
+      update_direct scope begin p d o e items h two
+
+  step_either : (begin : ℕ) (p : Scalar) (d : Option Direct) → HasDirect p d → (delta : ℤ)
+      (prefix : Bool) (place : List Item) → PlaceCode scope p begin place
+      → ValueCode scope (Step p delta prefix) begin (step_by d p delta prefix place)
+  step_either begin p None h delta prefix place one = step_does scope begin p delta prefix place one
+  step_either begin p (Some d) h delta prefix place one =
+      step_direct scope begin p d delta prefix h
+
+  -- ---- quiet operands
+
+  abbrev Quietly : Expr → ℕ → List Item → Bool → Type 0
+  Quietly e begin items true = QuietCode scope e begin items
+  Quietly e begin items false = Unit {0}
+
+  read_quiet_by : (begin : ℕ) (p : Scalar) (o : Option Direct) → HasDirect p o
+      → (place : List Item) → Quietly (Read p) begin (read_by o p place) (is_direct o)
+  read_quiet_by begin p None h place = tt
+  read_quiet_by begin p (Some d) h place = read_quiet scope begin p d h
+
+  quiet_does : (e : Expr) → IsValidExpr scope e → (begin : ℕ)
+      → Quietly e begin (value_items scope begin e) (is_quiet scope e)
+  quiet_does (Const v) h begin = const_quiet scope begin v h
+  quiet_does (Read p) h begin =
+      read_quiet_by begin p (direct_of scope p) (direct_does p h) (place_items scope begin p)
+  quiet_does e h begin = tt
+
+  binary_by_does : (begin : ℕ) (o : Operator) (l r : Expr) (left right : List Item) (quiet : Bool)
+      → Quietly r (past begin left + 4) right quiet → ValueCode scope l begin left
+      → ValueCode scope r (past begin left + 4) right
+      → ValueCode scope (Binary o l r) begin (both_by quiet left right (operator_code o))
+  binary_by_does begin o l r left right true h one two =
+      binary_quiet scope begin o l r left right one h
+  binary_by_does begin o l r left right false h one two =
+      binary_does scope begin o l r left right one two
+
   -- ---- each node
 
   mutual
@@ -182,14 +264,15 @@ module _ (scope : Scope) where
         → ValueCode scope e begin (value_items scope begin e)
     value_does (Const v) h begin = constants.const_code scope v h begin
     value_does (Read p) h begin =
-        read_does scope begin p (place_items scope begin p) (place_does p h begin)
+        read_by_does begin p (direct_of scope p) (direct_does p h) (place_items scope begin p)
+        (place_does p h begin)
     value_does (Unary o e) h begin =
         unary_does scope begin o e (value_items scope begin e) (value_does e h begin)
     value_does (Binary o l r) h begin =
         let left = value_items scope begin l in
         let p = past begin left + 4 in
-        binary_does scope begin o l r left (value_items scope p r) (value_does l h.0 begin)
-        (value_does r h.1 p)
+        binary_by_does begin o l r left (value_items scope p r) (is_quiet scope r)
+        (quiet_does r h.1 p) (value_does l h.0 begin) (value_does r h.1 p)
     value_does (Chain e links) h begin =
         let first = value_items scope begin e in
         chain_by begin e first (value_does e h.1 begin) links h.0 h.2
@@ -214,21 +297,22 @@ module _ (scope : Scope) where
         (value_does a h.1 p) (value_does b h.2 q)
     value_does (Assign p e) h begin =
         let place = place_items scope begin p in
-        let q = past begin place + 4 in
-        assign_does scope begin p e place (value_items scope q e) (place_does p h.0 begin)
-        (value_does e h.1 q)
+        let q = value_begin (direct_of scope p) begin place in
+        assign_by_does begin p (direct_of scope p) (direct_does p h.0) e place
+        (value_items scope q e) (place_does p h.0 begin) (value_does e h.1 q)
     value_does (Update p o e) h begin =
         let place = place_items scope begin p in
-        let q = past begin place + 4 in
-        update_does scope begin p o e place (value_items scope q e) (place_does p h.0 begin)
-        (value_does e h.1 q)
+        let q = value_begin (direct_of scope p) begin place in
+        update_by_does begin p (direct_of scope p) (direct_does p h.0) o e place
+        (value_items scope q e) (place_does p h.0 begin) (value_does e h.1 q)
     value_does (UpdateBy p f swapped e convert) h begin =
         let place = place_items scope begin p in
         let q = past begin place + 4 in
-        update_by_does scope begin p f swapped e convert place (value_items scope q e) h.0 h.1
+        operators.update_by_does scope begin p f swapped e convert place (value_items scope q e) h.0 h.1
         (place_does p h.2 begin) (value_does e h.3 q)
     value_does (Step p delta prefix) h begin =
-        step_does scope begin p delta prefix (place_items scope begin p) (place_does p h.1 begin)
+        step_either begin p (direct_of scope p) (direct_does p h.1) delta prefix
+        (place_items scope begin p) (place_does p h.1 begin)
     value_does (StepBy p f prefix) h begin =
         step_by_does scope begin p f prefix (place_items scope begin p) h.0 (place_does p h.1 begin)
     value_does (Copy to from n) h begin =

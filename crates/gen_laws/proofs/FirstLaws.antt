@@ -101,7 +101,7 @@ module _ (program : Program) (amx : Amx) (entry : ℕ → ℕ) (is : IsFileOf pr
   begins = fresh amx address (loaded amx room)
 
   pub store_count : length amx.store ≡ kept program room
-  store_count = ap length is.store ∙ length_image m pieces (first_there program is.valid.objects)
+  store_count = ap length is.stored ∙ length_image m pieces (first_there program is.valid.objects)
 
   count : length begins.cells ≡ kept program room + room
   count = length-append amx.store zeros ∙ omega (arith, store_count, length-replicate room (pos 0))
@@ -118,7 +118,7 @@ module _ (program : Program) (amx : Amx) (entry : ℕ → ℕ) (is : IsFileOf pr
       ∙ ap (λ (l : List ℤ). image m (low program room first_view) ++ l)
       (append-nil (zeros ++ []) ∙ nil)
       ∙ ap (λ (ps : List Piece). image m ps ++ zeros) (low_is program room)
-      ∙ ap (λ (l : List ℤ). l ++ zeros) (sym is.store) in
+      ∙ ap (λ (l : List ℤ). l ++ zeros) (sym is.stored) in
       record {
         free = zeros;
         cells = sym cells_are;

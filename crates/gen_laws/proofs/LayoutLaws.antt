@@ -143,7 +143,7 @@ module _ (program : Program) (amx : Amx) (valid : IsValid program)
     few = few;
     numbered = numbered;
     natives = natives;
-    store = store;
+    stored = store;
     cells = cells;
     first = first_fetched;
     lie = lies;

@@ -2,11 +2,26 @@
 -- do.
 use Rattle.std.proofs.Common.{◌≡◌, ◌+◌, ◌*◌, ◌<◌, ◌⊎◌, inl, inr, ℕ, ℤ, pos, List, [], ◌∷◌, ◌++◌}
 use Rattle.std.proofs.Common.{refl, sym, subst}
+use Rattle.std.proofs.Common.{Bool, true, false, Option, None, Some, neg_ℤ}
+use Rattle.pawn_cells.specs.declared.operator.Operator.{Operator}
+use Rattle.pawn_cells.specs.declared.operator.Operator.TheVariants as between
+use Rattle.pawn_cells.specs.Cells.{neg}
+use Rattle.pawn_meaning.specs.Program.{Scalar, Global, Through, Element, Char, Expr, Const, Read}
+use Rattle.pawn_meaning.specs.Program.{Unary, Binary, Chain, And, Or, Cond, Assign, Update}
+use Rattle.pawn_meaning.specs.Program.{UpdateBy, Step, StepBy, Copy, Operate, OperateOne, Call}
+use Rattle.pawn_meaning.specs.Program.{Native, Seq}
+use Rattle.pawn_meaning.specs.Program as node
+use Rattle.pawn_meaning.specs.Scope.{Scope}
 use Rattle.amx_ops.specs.declared.op.Op.TheVariants as op
 use Rattle.gen_sim.specs.Items.{Item, CallOf, size, past}
 use Rattle.gen_sim.specs.SimpleCode.{alone, taking, const_code, waiting_code, both_code}
 use Rattle.gen_sim.specs.JumpCode.{jump_to, other_at, end_at, choice_code, truth_code}
-use Rattle.gen_sim.specs.PlaceItems.{through_code}
+use Rattle.gen_sim.specs.PlaceItems.{object_address, slot_offset, through_code}
+use Rattle.gen_sim.specs.AccessCode.{load_code, store_code, changed_code, stepped_code}
+use Rattle.gen_sim.specs.DirectCode.{Direct, direct_of, direct_load, direct_store, direct_changed}
+use Rattle.gen_sim.specs.DirectCode.{stepped_back, direct_step, read_by, value_begin, assign_by}
+use Rattle.gen_sim.specs.DirectCode.{update_by, step_by}
+use Rattle.gen_sim.specs.MovingCode.{both_by}
 use Rattle.gen_sim.specs.CallCode.{give_back_code, pushed_code, temporary_code, call_code}
 use Rattle.gen_sim.specs.CallCode.{native_code}
 use Rattle.gen_sim.specs.ChainCode.{last_link_code, middle_link_code, fail_at, chain_end_code}
@@ -15,7 +30,8 @@ use Rattle.gen_laws.proofs.FineLaws.{Nowhere, starts_here, starts_end, starts_fi
 use Rattle.gen_laws.proofs.FineLaws.{fine_wider, fine_both, anywhere, closed_both, closed_next}
 use Rattle.gen_laws.proofs.FineItems.{Own, alone_fine, any_fine, multiple_fine, multiple_up}
 use Rattle.gen_laws.proofs.FineItems.{native_fine, target_fine, push_pri, pop_pri, pop_alt}
-use Rattle.gen_laws.proofs.FineItems.{give_back_fine}
+use Rattle.gen_laws.proofs.FineItems.{give_back_fine, load_fine, store_fine, changed_fine}
+use Rattle.gen_laws.proofs.FineItems.{stepped_fine}
 
 module _ (natives : ℕ) where
   pub own_closed : (begin : ℕ) (items : List Item) → Own natives items
@@ -233,3 +249,94 @@ module _ (natives : ℕ) where
           subst (λ n. StartsAt p (items ++ chain_end_code q) n) (sym z)
           (starts_rest p items (chain_end_code q) (fail_at q)
           (subst (λ n. StartsAt n (chain_end_code q) (fail_at q)) (sym same) at_fail))
+
+-- ---- by a place's own instruction, or by its address
+
+module _ (natives : ℕ) where
+  abbrev pub AreFineDirect : Option Direct → Type 0
+  AreFineDirect None = Unit {0}
+  AreFineDirect (Some d) =
+      IsFine natives Nowhere (taking d.loads d.operand)
+      × IsFine natives Nowhere (taking d.lefts d.operand)
+      × IsFine natives Nowhere (taking d.stores d.operand)
+
+  pub direct_fine : (scope : Scope) (p : Scalar) → AreFineDirect (direct_of scope p)
+  direct_fine scope (Global o) = (
+    any_fine natives Nowhere op.LoadPri (object_address scope.program o) refl refl,
+    any_fine natives Nowhere op.LoadAlt (object_address scope.program o) refl refl,
+    any_fine natives Nowhere op.StorPri (object_address scope.program o) refl refl,
+  )
+  direct_fine scope (node.Own s) = (
+    any_fine natives Nowhere op.LoadSPri (slot_offset scope s) refl refl,
+    any_fine natives Nowhere op.LoadSAlt (slot_offset scope s) refl refl,
+    any_fine natives Nowhere op.StorSPri (slot_offset scope s) refl refl,
+  )
+  direct_fine scope (Through s) = (
+    any_fine natives Nowhere op.LrefSPri (pos (12 + 4 * s)) refl refl,
+    any_fine natives Nowhere op.LrefSAlt (pos (12 + 4 * s)) refl refl,
+    any_fine natives Nowhere op.SrefSPri (pos (12 + 4 * s)) refl refl,
+  )
+  direct_fine scope (Element a e) = tt
+  direct_fine scope (Char a e) = tt
+
+  module _ (begin : ℕ) where
+    pub read_closed : (o : Option Direct) → AreFineDirect o → (p : Scalar) (place : List Item)
+        → AreClosed natives begin place → AreClosed natives begin (read_by o p place)
+    read_closed None h p place k =
+        part_closed natives begin place (load_code p) k (load_fine natives p)
+    read_closed (Some d) h p place k = own_closed natives begin (direct_load d) (h.0, tt)
+
+    pub assign_closed : (o : Option Direct) → AreFineDirect o → (p : Scalar)
+        (place value : List Item) → AreClosed natives begin place
+        → AreClosed natives (value_begin o begin place) value
+        → AreClosed natives begin (assign_by o p place value)
+    assign_closed None h p place value k g =
+        both_closed natives begin place value (store_code p) k g (store_fine natives p)
+    assign_closed (Some d) h p place value k g =
+        part_closed natives begin value (direct_store d) g (h.2, tt)
+
+    pub update_closed : (o : Option Direct) → AreFineDirect o → (p : Scalar)
+        (place value change : List Item) → AreClosed natives begin place
+        → AreClosed natives (value_begin o begin place) value → Own natives change
+        → AreClosed natives begin (update_by o p place value change)
+    update_closed None h p place value change k g t =
+        both_closed natives begin place value (changed_code p change) k g
+        (changed_fine natives p change t)
+    update_closed (Some d) h p place value change k g t =
+        part_closed natives begin value (direct_changed d change) g
+        (h.1, fine_both natives Nowhere change (direct_store d) t (h.2, tt))
+
+    stepped_back_fine : (d : Direct) → AreFineDirect (Some d) → (delta : ℤ) (prefix : Bool)
+        → Own natives (stepped_back d delta prefix)
+    stepped_back_fine d h delta true = (h.2, tt)
+    stepped_back_fine d h delta false =
+        (h.2, (any_fine natives Nowhere op.AddC (neg_ℤ delta) refl refl, tt))
+
+    pub step_closed : (o : Option Direct) → AreFineDirect o → (p : Scalar) (delta : ℤ)
+        (prefix : Bool) (place : List Item) → AreClosed natives begin place
+        → AreClosed natives begin (step_by o p delta prefix place)
+    step_closed None h p delta prefix place k =
+        part_closed natives begin place _ k (
+          alone_fine natives Nowhere op.MoveAlt refl refl,
+          fine_both natives Nowhere (load_code p) (stepped_code p delta prefix)
+              (load_fine natives p) (stepped_fine natives p delta prefix),
+        )
+    step_closed (Some d) h p delta prefix place k =
+        own_closed natives begin (direct_step d delta prefix) (
+          h.0,
+          (
+            any_fine natives Nowhere op.AddC delta refl refl,
+            stepped_back_fine d h delta prefix,
+          ),
+        )
+
+    pub both_by_closed : (quiet : Bool) (first second last : List Item)
+        → AreClosed natives begin first → AreClosed natives (past begin first + 4) second
+        → Own natives last → AreClosed natives begin (both_by quiet first second last)
+    both_by_closed true first second last h g t =
+        closed_both natives begin first (alone op.MoveAlt ∷ (second ++ last)) h
+        (closed_next natives (past begin first) (alone op.MoveAlt) (second ++ last)
+        (alone_fine natives (StartsAt (past begin first) (alone op.MoveAlt ∷ (second ++ last)))
+        op.MoveAlt refl refl) (part_closed natives (past begin first + 4) second last g t))
+    both_by_closed false first second last h g t =
+        both_closed natives begin first second last h g t

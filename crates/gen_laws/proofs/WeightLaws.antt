@@ -27,6 +27,10 @@ use Rattle.gen_laws.specs.ExprCode.{array_items, value_items, links_items, arg_i
 use Rattle.gen_laws.proofs.Counts.{count, prefix_count, operator_count, load_count, store_count}
 use Rattle.gen_laws.proofs.Counts.{changed_count, stepped_count, turned_count, bounds_count}
 use Rattle.gen_laws.proofs.Counts.{two_count, convert_count, give_back_count, link_count}
+use Rattle.gen_sim.specs.DirectCode.{direct_of, value_begin}
+use Rattle.gen_sim.specs.MovingCode.{is_quiet}
+use Rattle.gen_laws.proofs.Counts.{direct_two, read_count, assign_count, update_count, step_count}
+use Rattle.gen_laws.proofs.Counts.{both_by_count}
 use Rattle.gen_laws.proofs.Counts.{waiting_count, both_count, choice_count, last_link_count}
 use Rattle.gen_laws.proofs.Counts.{middle_link_count}
 
@@ -159,8 +163,7 @@ module _ (scope : Scope) where
     value_light (Read p) begin =
         omega (
           arith,
-          count-append (place_items scope begin p) (load_code p),
-          load_count p,
+          read_count (direct_of scope p) (direct_two scope p) p (place_items scope begin p),
           place_light p begin,
         )
     value_light (Unary o e) begin =
@@ -175,7 +178,7 @@ module _ (scope : Scope) where
         let q = past begin left + 4 in
         omega (
           arith,
-          both_count left (value_items scope q r) (operator_code o),
+          both_by_count (is_quiet scope r) left (value_items scope q r) (operator_code o),
           operator_count o,
           value_light l begin,
           value_light r q,
@@ -233,21 +236,20 @@ module _ (scope : Scope) where
         )
     value_light (Assign p e) begin =
         let place = place_items scope begin p in
-        let q = past begin place + 4 in
+        let q = value_begin (direct_of scope p) begin place in
         omega (
           arith,
-          both_count place (value_items scope q e) (store_code p),
-          store_count p,
+          assign_count (direct_of scope p) (direct_two scope p) p place (value_items scope q e),
           place_light p begin,
           value_light e q,
         )
     value_light (Update p o e) begin =
         let place = place_items scope begin p in
-        let q = past begin place + 4 in
+        let q = value_begin (direct_of scope p) begin place in
         omega (
           arith,
-          both_count place (value_items scope q e) (changed_code p (operator_code o)),
-          changed_count p (operator_code o),
+          update_count (direct_of scope p) (direct_two scope p) p place (value_items scope q e)
+              (operator_code o),
           operator_count o,
           place_light p begin,
           value_light e q,
@@ -269,9 +271,8 @@ module _ (scope : Scope) where
     value_light (Step p delta prefix) begin =
         omega (
           arith,
-          stepping_count (place_items scope begin p) (load_code p) (stepped_code p delta prefix),
-          load_count p,
-          stepped_count p delta prefix,
+          step_count (direct_of scope p) (direct_two scope p) p delta prefix
+              (place_items scope begin p),
           place_light p begin,
         )
     value_light (StepBy p f prefix) begin =

@@ -11,8 +11,11 @@ use Rattle.pawn_meaning.specs.Scope.{Scope, Extent, extent}
 use Rattle.pawn_meaning.specs.Need.{count_of}
 use Rattle.gen_sim.specs.Items.{Item, past}
 use Rattle.gen_sim.specs.Results.{temporaries_in}
-use Rattle.gen_sim.specs.SimpleCode.{operator_code, const_code, unary_code, binary_code, comma_code}
-use Rattle.gen_sim.specs.AccessCode.{read_code, assign_code, update_code, step_code, step_by_code}
+use Rattle.gen_sim.specs.SimpleCode.{operator_code, const_code, unary_code, comma_code}
+use Rattle.gen_sim.specs.AccessCode.{update_code, step_by_code}
+use Rattle.gen_sim.specs.DirectCode.{direct_of, read_by, value_begin, assign_by, update_by}
+use Rattle.gen_sim.specs.DirectCode.{step_by}
+use Rattle.gen_sim.specs.MovingCode.{is_quiet, both_by}
 use Rattle.gen_sim.specs.JumpCode.{other_at, cond_code, and_code, or_code}
 use Rattle.gen_sim.specs.PlaceItems.{object_code, slot_code, through_code}
 use Rattle.gen_sim.specs.IndexCode.{element_code, character_code, row_code, copy_code}
@@ -75,10 +78,12 @@ module _ (scope : Scope) where
     -- of an expression's value
     pub value_items : ℕ → Expr → List Item
     value_items begin (Const v) = const_code v
-    value_items begin (Read p) = read_code p (place_items begin p)
+    value_items begin (Read p) = read_by (direct_of scope p) p (place_items begin p)
     value_items begin (Unary o e) = unary_code o (value_items begin e)
     value_items begin (Binary o l r) =
-        let left = value_items begin l in binary_code o left (value_items (past begin left + 4) r)
+        let left = value_items begin l in
+        both_by (is_quiet scope r) left (value_items (past begin left + 4) r)
+        (operator_code o)
     value_items begin (Chain e links) =
         let first = value_items begin e in
         let p = past begin first in
@@ -95,15 +100,18 @@ module _ (scope : Scope) where
         cond_code begin condition first (value_items (other_at (past begin condition) first) b)
     value_items begin (Assign p e) =
         let place = place_items begin p in
-        assign_code p place (value_items (past begin place + 4) e)
+        let direct = direct_of scope p in
+        assign_by direct p place (value_items (value_begin direct begin place) e)
     value_items begin (Update p o e) =
         let place = place_items begin p in
-        update_code p place (value_items (past begin place + 4) e) (operator_code o)
+        let direct = direct_of scope p in
+        update_by direct p place (value_items (value_begin direct begin place) e) (operator_code o)
     value_items begin (UpdateBy p f swapped e convert) =
         let place = place_items begin p in
         update_code p place (value_items (past begin place + 4) e)
         (two_code f swapped ++ convert_code convert)
-    value_items begin (Step p delta prefix) = step_code p delta prefix (place_items begin p)
+    value_items begin (Step p delta prefix) =
+        step_by (direct_of scope p) p delta prefix (place_items begin p)
     value_items begin (StepBy p f prefix) = step_by_code p prefix (place_items begin p) (one_code f)
     value_items begin (Copy to from n) =
         let first = array_items begin to in

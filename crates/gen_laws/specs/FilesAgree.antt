@@ -40,7 +40,7 @@ pub record IsFileOf (program : Program) (amx : Amx) (entry : ℕ → ℕ) : Type
   pub few : All (λ (it : Automaton). length it.states < 2 ^ 31) program.automata
   pub numbered : length program.natives ≤ 2 ^ 31
   pub natives : (n : ℕ) → machine.name_of amx.natives n ≡ name_of program n
-  pub store : amx.store ≡ image (first_memory program) (data_pieces program)
+  pub stored : amx.store ≡ image (first_memory program) (data_pieces program)
   pub cells : All IsCell amx.store
   pub first : fetched amx.code 0 ≡ Some (read_as (with op.Halt (pos 0)))
   pub lie : (script : Script) (room limit f : ℕ) (function : Function)

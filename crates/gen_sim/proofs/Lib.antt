@@ -16,6 +16,9 @@ pub mod CopyLaws
 pub mod CopyNodes
 pub mod CutLaws
 pub mod DataLaws
+pub mod DirectChanges
+pub mod DirectLaws
+pub mod DirectNodes
 pub mod ElementNodes
 pub mod EndLaws
 pub mod Final
@@ -62,6 +65,7 @@ pub mod ParameterLaws
 pub mod PartLaws
 pub mod PieceLaws
 pub mod PlaceNodes
+pub mod QuietNodes
 pub mod SeenLaws
 pub mod Sim
 pub mod SimpleNodes

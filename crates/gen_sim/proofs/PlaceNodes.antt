@@ -78,7 +78,7 @@ module _ (x : Site) (v : View) (o : ℕ) where
       subst (λ sizes. PlacedIn x.program x.room v (Thing (Static o) sizes)
       (object_first x.program o)) it.sizes (object_placed x v o it.object laid it.there)
 
-  global_cell : Laid x.program x.room v → IsCellObject (slice_get x.program.objects o)
+  pub global_cell : Laid x.program x.room v → IsCellObject (slice_get x.program.objects o)
       → CellAt x.program x.room v (Static o) 0 (object_first x.program o)
   global_cell laid valid = record {
     sizes = 1 ∷ [];

@@ -16,7 +16,7 @@ use Rattle.amx_ops.specs.Access.{in_frame}
 use Rattle.amx_ops.specs.Moves.{Config}
 use Rattle.gen_sim.specs.Pieces.{Piece, Fixed, Thing, Each, total}
 use Rattle.gen_sim.specs.Places.{Apart, StandsIn}
-use Rattle.gen_sim.specs.View.{View, innermost, all_cells, low, IsOf, PlacedIn, RefersTo}
+use Rattle.gen_sim.specs.View.{View, innermost, all_cells, low, IsOf, PlacedIn, RefersTo, ParamAt}
 use Rattle.gen_sim.specs.Stands.{Stands}
 use Rattle.gen_sim.proofs.PieceLaws.{each_gives, total-append}
 use Rattle.gen_sim.proofs.MemLaws.{Reads, placed_inside, mem_read, below_top}
@@ -133,6 +133,48 @@ module _ (x : Site) (v : View) {pending : List ℤ} {p : ℕ} {w : World} {c : C
 
   -- ---- a parameter that refers
 
+  -- its own cell is at its offset, with the address of what it refers to
+  pub record ParamReads (slot cell : ℕ) : Type 0 where
+    pub first : ℕ
+    pub offset_is : in_frame c.state (pos (12 + 4 * slot)) ≡ 4 * first
+    pub reads : Reads c.state first (pos (4 * cell))
+
+  pub param_reads : (slot : ℕ) (r : Reference) (at : ParamAt x.program x.room v slot r)
+      → ParamReads slot at.cell
+  param_reads slot r at =
+      let piece = Fixed (pos (4 * at.cell) ∷ []) in
+      let first : ℕ = all_cells x.program x.room + total at.before - total v.high in
+      let size = s.mem.size in
+      let placed : PlacedIn x.program x.room v piece first = record {
+        where_it_is = inr (record {
+          behind = total at.before;
+          stands = record {
+            before = at.before;
+            after = at.after;
+            split = at.split;
+            first_is = refl;
+            not_before = each_piece (Apart piece) at.before (λ q. tt);
+            not_after = each_piece (Apart piece) at.after (λ q. tt);
+          };
+          apart = each_piece (Apart piece) (low x.program x.room v) (λ q. tt);
+          place = omega (arith, size);
+        });
+      } in
+      let r0 = mem_read s.mem placed 0 (pos (4 * at.cell)) refl in
+      let top = below_top s.mem placed first (omega arith) in
+      record {
+        first = first;
+        offset_is =
+            ap (λ n. wrapped_sum n (bits_of (pos (12 + 4 * slot)))) s.frame
+            ∙ frame_up v.frm (12 + 4 * slot) (omega (arith, at.place, size, top, s.laid.small))
+            ∙ omega (arith, at.place, size);
+        reads = subst (λ n. Reads c.state n (pos (4 * at.cell))) (omega arith) r0;
+      }
+
+  -- the world's parameter is the view's
+  pub through_is : (slot : ℕ) → through slot w.memory ≡ v.params (innermost v) slot
+  through_is slot = s.params (running w.memory) slot ∙ ap (λ k. v.params k slot) running_is
+
   module _ (slot : ℕ) {A : Type 0} {js : List Item} {Q : A → World → Config → Type 0} where
     loads_param : (go : Reference → Run A)
         → Lies x p (Plain (with op.LoadSPri (pos (12 + 4 * slot))) ∷ js)
@@ -146,36 +188,11 @@ module _ (x : Site) (v : View) {pending : List ℤ} {p : ℕ} {w : World} {c : C
     loads_param go l next None e = stray x s
     loads_param go l next (Some r) e =
         let at = s.laid.refs slot r e in
-        let piece = Fixed (pos (4 * at.cell) ∷ []) in
-        let first : ℕ = all_cells x.program x.room + total at.before - total v.high in
-        let size = s.mem.size in
-        let placed : PlacedIn x.program x.room v piece first = record {
-          where_it_is = inr (record {
-            behind = total at.before;
-            stands = record {
-              before = at.before;
-              after = at.after;
-              split = at.split;
-              first_is = refl;
-              not_before = each_piece (Apart piece) at.before (λ q. tt);
-              not_after = each_piece (Apart piece) at.after (λ q. tt);
-            };
-            apart = each_piece (Apart piece) (low x.program x.room v) (λ q. tt);
-            place = omega (arith, size);
-          });
-        } in
-        let r0 = mem_read s.mem placed 0 (pos (4 * at.cell)) refl in
-        let reads : Reads c.state first (pos (4 * at.cell)) =
-        subst (λ n. Reads c.state n (pos (4 * at.cell))) (omega arith) r0 in
-        let top = below_top s.mem placed first (omega arith) in
-        let address : in_frame c.state (pos (12 + 4 * slot)) ≡ 4 * first =
-        ap (λ n. wrapped_sum n (bits_of (pos (12 + 4 * slot)))) s.frame
-        ∙ frame_up v.frm (12 + 4 * slot) (omega (arith, at.place, size, top, s.laid.small))
-        ∙ omega (arith, at.place, size) in
+        let its = param_reads slot r at in
         let t : State = record c.state { pri = pos (4 * at.cell); cip = p + 8 } in
         one_item x (with op.LoadSPri (pos (12 + 4 * slot))) js w
         (goes x s (with op.LoadSPri (pos (12 + 4 * slot))) l.lie.0 t
-        (rw (address, reads.live, reads.value) refl)
+        (rw (its.offset_is, its.reads.live, its.reads.value) refl)
         (next r e at.cell at.refers (record c { state = t })
         (stands_on x.program x.room s (p + 8) t refl refl refl refl refl) refl))
 
@@ -189,9 +206,7 @@ module _ (x : Site) (v : View) {pending : List ℤ} {p : ℕ} {w : World} {c : C
         → DoesAt x (length (item_cells (Plain (with op.LoadSPri (pos (12 + 4 * slot))) ∷ js))) w c
         (then_do (look (through slot) w) go) Q
     param_loads go l next =
-        let same : through slot w.memory ≡ v.params (innermost v) slot =
-        s.params (running w.memory) slot ∙ ap (λ k. v.params k slot) running_is in
         subst (λ o. DoesAt x (length (item_cells
         (Plain (with op.LoadSPri (pos (12 + 4 * slot))) ∷ js))) w c
-        (then_do (or_stop o end.Stray w) go) Q) (sym same)
+        (then_do (or_stop o end.Stray w) go) Q) (sym (through_is slot))
         (loads_param go l next (v.params (innermost v) slot) refl)

@@ -16,6 +16,7 @@ use Rattle.amx_ops.specs.declared.op.Op.TheVariants as op
 use Rattle.amx_ops.specs.Instructions.{fetched}
 use Rattle.amx_ops.specs.Written.{Written, cells_of, read_as}
 use Rattle.amx_ops.specs.State.{State, Goes, Errs, push}
+use Rattle.amx_ops.specs.Access.{load, store}
 use Rattle.amx_ops.specs.Effects.{at_next}
 use Rattle.amx_ops.specs.Step.{act, act_on}
 use Rattle.amx_ops.specs.Moves.{Config, moved, move}
@@ -154,35 +155,79 @@ module _ (x : Site) where
       {p : ℕ} {w : World} {c : Config}
       (a : Stands x.program x.room v pending p w c) {name : Name} {i cell : ℕ}
       (at : CellAt x.program x.room v name i cell) where
-    -- LOAD.I: a cell is read at its address in PRI
-    pub load_does : c.state.pri ≡ pos (4 * cell)
-        → fetched x.amx.code p ≡ Some (read_as (with op.LoadI (pos 0))) → (go : ℤ → Run A)
-        → ((y : ℤ) (t : Config) → With x.program x.room v pending (p + 4) y w t
+    -- a cell is read by an instruction that loads at its address
+    pub load_by : (it : Written) → fetched x.amx.code p ≡ Some (read_as it)
+        → act x.amx it.op it.operand (p + 4 * length (cells_of it)) c.state
+        ≡ load c.state (4 * cell)
+        (λ z. at_next (p + 4 * length (cells_of it)) (record c.state { pri = z }))
+        → (go : ℤ → Run A)
+        → ((y : ℤ) (t : Config)
+        → With x.program x.room v pending (p + 4 * length (cells_of it)) y w t
         → t.state.alt ≡ c.state.alt → DoesAt x d w t (go y w) Q)
         → DoesAt x (1 + d) w c (then_do (or_stop (read (Cell name i) w.memory) end.Stray w) go) Q
-    load_does e f go next = by_value (read_cell name i w.memory) refl
+    load_by it f e go next = by_value (read_cell name i w.memory) refl
       where
         by_value : (o : Option ℤ) → read_cell name i w.memory ≡ o
             → DoesAt x (1 + d) w c (then_do (or_stop o end.Stray w) go) Q
         by_value None o = stray a
         by_value (Some y) o =
             let r = cell_reads x.program x.room a at y o in
-            let t : State = record c.state { pri = y; cip = p + 4 } in
-            goes a (with op.LoadI (pos 0)) f t (rw (e, r.live, r.value) refl)
+            let q : ℕ = p + 4 * length (cells_of it) in
+            let t : State = record c.state { pri = y; cip = q } in
+            let g : load c.state (4 * cell) (λ z. at_next q (record c.state { pri = z })) ≡ Goes t
+            = rw (r.live, r.value) refl in
+            goes a it f t (e ∙ g)
             (next y (record c { state = t }) (record {
-              stands = stands_on x.program x.room a (p + 4) t refl refl refl refl refl;
+              stands = stands_on x.program x.room a q t refl refl refl refl refl;
               value = refl;
               fits = r.fits;
             }) refl)
 
-    -- STOR.I: PRI is written at the address in ALT
-    pub store_does : (y : ℤ) → c.state.pri ≡ y → IsCell y → c.state.alt ≡ pos (4 * cell)
-        → fetched x.amx.code p ≡ Some (read_as (with op.StorI (pos 0))) → (go : Done → Run A)
-        → ((n : Memory) (t : Config) → With x.program x.room v pending (p + 4) y
+    -- or to ALT
+    pub load_alt_by : (it : Written) → fetched x.amx.code p ≡ Some (read_as it)
+        → act x.amx it.op it.operand (p + 4 * length (cells_of it)) c.state
+        ≡ load c.state (4 * cell)
+        (λ z. at_next (p + 4 * length (cells_of it)) (record c.state { alt = z }))
+        → (go : ℤ → Run A)
+        → ((y : ℤ) (t : Config) → IsCell y
+        → Stands x.program x.room v pending (p + 4 * length (cells_of it)) w t
+        → t.state.alt ≡ y → t.state.pri ≡ c.state.pri → DoesAt x d w t (go y w) Q)
+        → DoesAt x (1 + d) w c (then_do (or_stop (read (Cell name i) w.memory) end.Stray w) go) Q
+    load_alt_by it f e go next = by_value (read_cell name i w.memory) refl
+      where
+        by_value : (o : Option ℤ) → read_cell name i w.memory ≡ o
+            → DoesAt x (1 + d) w c (then_do (or_stop o end.Stray w) go) Q
+        by_value None o = stray a
+        by_value (Some y) o =
+            let r = cell_reads x.program x.room a at y o in
+            let q : ℕ = p + 4 * length (cells_of it) in
+            let t : State = record c.state { alt = y; cip = q } in
+            let g : load c.state (4 * cell) (λ z. at_next q (record c.state { alt = z })) ≡ Goes t
+            = rw (r.live, r.value) refl in
+            goes a it f t (e ∙ g)
+            (next y (record c { state = t }) r.fits
+            (stands_on x.program x.room a q t refl refl refl refl refl) refl refl)
+
+    -- LOAD.I: at its address in PRI
+    pub load_does : c.state.pri ≡ pos (4 * cell)
+        → fetched x.amx.code p ≡ Some (read_as (with op.LoadI (pos 0))) → (go : ℤ → Run A)
+        → ((y : ℤ) (t : Config) → With x.program x.room v pending (p + 4) y w t
+        → t.state.alt ≡ c.state.alt → DoesAt x d w t (go y w) Q)
+        → DoesAt x (1 + d) w c (then_do (or_stop (read (Cell name i) w.memory) end.Stray w) go) Q
+    load_does e f go next = load_by (with op.LoadI (pos 0)) f (rw e refl) go next
+
+    -- PRI is written by an instruction that stores at the cell's address
+    pub store_by : (it : Written) → (y : ℤ) → c.state.pri ≡ y → IsCell y
+        → fetched x.amx.code p ≡ Some (read_as it)
+        → act x.amx it.op it.operand (p + 4 * length (cells_of it)) c.state
+        ≡ store c.state (4 * cell) c.state.pri (at_next (p + 4 * length (cells_of it)))
+        → (go : Done → Run A)
+        → ((n : Memory) (t : Config)
+        → With x.program x.room v pending (p + 4 * length (cells_of it)) y
         (record w { memory = n }) t
         → DoesAt x d w t (go done (record w { memory = n })) Q)
         → DoesAt x (1 + d) w c (then_do (changed (write (Cell name i) y w.memory) w) go) Q
-    store_does y k fit e f go next = by_memory (write_cells name i (y ∷ []) w.memory) refl
+    store_by it y k fit f e go next = by_memory (write_cells name i (y ∷ []) w.memory) refl
       where
         by_memory : (o : Option Memory) → write_cells name i (y ∷ []) w.memory ≡ o
             → DoesAt x (1 + d) w c (then_do (changed o w) go) Q
@@ -192,16 +237,29 @@ module _ (x : Site) where
             omega (arith, at.cell_is, at.inside) in
             let live = live_in a.mem at.placed cell (omega (arith, at.cell_is)) inside in
             let j : 4 * cell / 4 ≡ cell = omega arith in
+            let q : ℕ = p + 4 * length (cells_of it) in
             let t : State =
-            record c.state { cells = slice_set c.state.cells cell y; cip = p + 4 } in
-            goes a (with op.StorI (pos 0)) f t (rw (e, live, k, j) refl)
+            record c.state { cells = slice_set c.state.cells cell y; cip = q } in
+            let g : store c.state (4 * cell) c.state.pri (at_next q) ≡ Goes t =
+            rw (live, k, j) refl in
+            goes a it f t (e ∙ g)
             (next n (record c { state = t }) (record {
               stands =
                   cell_written x.program x.room a at y fit n o
-                  (below_top a.mem at.placed cell inside) (p + 4) t refl refl refl refl refl;
+                  (below_top a.mem at.placed cell inside) q t refl refl refl refl refl;
               value = k;
               fits = fit;
             }))
+
+    -- STOR.I: at the address in ALT
+    pub store_does : (y : ℤ) → c.state.pri ≡ y → IsCell y → c.state.alt ≡ pos (4 * cell)
+        → fetched x.amx.code p ≡ Some (read_as (with op.StorI (pos 0))) → (go : Done → Run A)
+        → ((n : Memory) (t : Config) → With x.program x.room v pending (p + 4) y
+        (record w { memory = n }) t
+        → DoesAt x d w t (go done (record w { memory = n })) Q)
+        → DoesAt x (1 + d) w c (then_do (changed (write (Cell name i) y w.memory) w) go) Q
+    store_does y k fit e f go next =
+        store_by (with op.StorI (pos 0)) y k fit f (rw e refl) go next
 
   -- ---- indexes
 

@@ -5,6 +5,7 @@ pub mod CallCode
 pub mod ChainCode
 pub mod Code
 pub mod Contract
+pub mod DirectCode
 pub mod Does
 pub mod Enters
 pub mod Fits
@@ -19,6 +20,7 @@ pub mod Lies
 pub mod LinksCode
 pub mod LoopCode
 pub mod Mem
+pub mod MovingCode
 pub mod Next
 pub mod Pieces
 pub mod PlaceItems

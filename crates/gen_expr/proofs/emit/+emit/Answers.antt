@@ -8,7 +8,9 @@ use Rattle.pawn_meaning.specs.View.{scalar_view, array_view, expr_view, args_vie
 use Rattle.pawn_meaning.specs.declared.node.Link.{Link}
 use Rattle.amx_ops.specs.declared.op.Op.TheVariants as op
 use Rattle.gen_sim.specs.SimpleCode.{alone, taking, prefix_op, operator_code, const_code}
-use Rattle.gen_sim.specs.AccessCode.{load_code, store_code, changed_code, stepped_code, turned_code}
+use Rattle.gen_sim.specs.AccessCode.{load_code, changed_code, turned_code}
+use Rattle.gen_sim.specs.DirectCode.{direct_of}
+use Rattle.gen_sim.specs.MovingCode.{is_quiet}
 use Rattle.gen_sim.specs.JumpCode.{truth_code, choice_code, other_at}
 use Rattle.gen_sim.specs.IndexCode.{bounds_code, in_characters}
 use Rattle.gen_sim.specs.CallCode.{one_code, two_code, convert_code}
@@ -18,6 +20,9 @@ use Rattle.gen_expr.specs.Standing.{scope_of}
 use Rattle.gen_expr.proofs.GrowLaws.{then_grow, then_ok}
 use Rattle.gen_expr.proofs.PartLaws.{keeps_cells}
 use Rattle.gen_expr.specs.ChainItems.{chain_items}
+use Rattle.gen_expr.specs.DirectView.{perhaps_direct}
+use Rattle.gen_expr.proofs.TargetLaws.{then_read, then_step, then_write, then_update, then_operate}
+use Rattle.gen_expr.proofs.TargetLaws.{right_moved, right_beside}
 use Rattle.gen_expr.proofs.ArgLaws.{arg_grows, none_passed, all_passed, count_is}
 use Rattle.gen_expr.proofs.ChainLaws.{some_left, at_last, Linked, none_linked, none_chained}
 use Rattle.gen_expr.proofs.ChainLaws.{link_stepped, link_ended, all_in, all_ended_ok}
@@ -97,15 +102,31 @@ array_beside-returns t c =
     (λ q. array_items (scope_of c.args.frame.now) q (array_view c.args.a.now))
     c.in_ok-waits.ensures c.in_ok-both.ensures.code
 
+pub right-returns-in_ok-both : goal.right-returns-in_ok-both
+right-returns-in_ok-both t c =
+    let s = scope_of c.args.frame.now in
+    let right = expr_view c.args.e.now in
+    right_moved (is_quiet s right) c.args.b c.in_ok-moved.moved c.in_ok-both.both
+    (λ q. value_items s q right) (sym (c.is_quiet.ensures s) ∙ c.if-is_quiet.true)
+    c.in_ok-moved.ensures c.in_ok-both.ensures
+
+pub right-returns-in_ok-done : goal.right-returns-in_ok-done
+right-returns-in_ok-done t c =
+    let s = scope_of c.args.frame.now in
+    let right = expr_view c.args.e.now in
+    right_beside (is_quiet s right) c.args.b c.in_ok-both-2.both c.in_ok-done.done
+    (value_items s (4 * length c.args.b.code + 4) right)
+    (sym (c.is_quiet.ensures s) ∙ c.if-is_quiet.false) c.in_ok-both-2.ensures c.in_ok-done.ensures
+
 -- ---- values
 
-pub value-returns-in_ok-place-in-Read : goal.value-returns-in_ok-place-in-Read
-value-returns-in_ok-place-in-Read t c =
+pub value-returns-in_ok-target-in-Read : goal.value-returns-in_ok-target-in-Read
+value-returns-in_ok-target-in-Read t c =
     let s = scope_of c.args.frame.now in
-    rw c.in-Read.is (then_ok c.args.b _ _
-    (place_items s (4 * length c.args.b.code) (scalar_view c.in-Read.p))
-    (load_code (scalar_view c.in-Read.p))
-    c.in_ok-place-in-Read.ensures c.load.ensures)
+    let p = scalar_view c.in-Read.p in
+    rw c.in-Read.is (then_read (direct_of s p) _ p c.args.b _ _
+    (place_items s (4 * length c.args.b.code) p)
+    c.in_ok-target-in-Read.ensures.direct c.in_ok-target-in-Read.ensures.code c.read.ensures)
 
 pub value-returns-in_ok-value-in-Unary : goal.value-returns-in_ok-value-in-Unary
 value-returns-in_ok-value-in-Unary t c =
@@ -115,15 +136,15 @@ value-returns-in_ok-value-in-Unary t c =
     (alone (prefix_op c.in-Unary.o) ∷ [])
     (rw c.deref.ensures at c.in_ok-value-in-Unary.ensures) c.prefix.ensures)
 
-pub value-returns-in_ok-beside-in-Binary : goal.value-returns-in_ok-beside-in-Binary
-value-returns-in_ok-beside-in-Binary t c =
+pub value-returns-in_ok-right-in-Binary : goal.value-returns-in_ok-right-in-Binary
+value-returns-in_ok-right-in-Binary t c =
     let s = scope_of c.args.frame.now in
-    rw c.in-Binary.is (then_both c.args.b _ _ _
+    let right = expr_view c.in-Binary.y.value in
+    rw c.in-Binary.is (then_operate (is_quiet s right) c.args.b _ _ _
     (value_items s (4 * length c.args.b.code) (expr_view c.in-Binary.x.value))
-    (alone op.PopAlt ∷ operator_code c.in-Binary.o)
-    (λ q. value_items s q (expr_view c.in-Binary.y.value))
+    (operator_code c.in-Binary.o) (λ q. value_items s q right)
     (rw c.deref-in-Binary-2.ensures at c.in_ok-value-in-Binary.ensures)
-    (rw c.deref-in-Binary.ensures at c.in_ok-beside-in-Binary.ensures) c.between.ensures)
+    (rw c.deref-in-Binary.ensures at c.in_ok-right-in-Binary.ensures) c.operator.ensures)
 
 pub value-returns-in_ok-value-in-And : goal.value-returns-in_ok-value-in-And
 value-returns-in_ok-value-in-And t c =
@@ -157,25 +178,29 @@ value-returns-in_ok-second-in-Cond t c =
     (rw c.deref-in-Cond.ensures at c.in_ok-opened-in-Cond.ensures) c.in_ok-end-in-Cond.ensures
     (rw c.deref-in-Cond-3.ensures at c.in_ok-second-in-Cond.ensures) c.land.ensures)
 
-pub value-returns-in_ok-beside-in-Assign : goal.value-returns-in_ok-beside-in-Assign
-value-returns-in_ok-beside-in-Assign t c =
+pub value-returns-in_ok-operand-in-Assign : goal.value-returns-in_ok-operand-in-Assign
+value-returns-in_ok-operand-in-Assign t c =
     let s = scope_of c.args.frame.now in
-    rw c.in-Assign.is (then_both c.args.b _ _ _
-    (place_items s (4 * length c.args.b.code) (scalar_view c.in-Assign.p))
-    (alone op.PopAlt ∷ store_code (scalar_view c.in-Assign.p))
+    let p = scalar_view c.in-Assign.p in
+    rw c.in-Assign.is (then_write (direct_of s p) _ _ p c.args.b _ _ _
+    (place_items s (4 * length c.args.b.code) p)
     (λ q. value_items s q (expr_view c.in-Assign.x.value))
-    c.in_ok-place-in-Assign.ensures
-    (rw c.deref-in-Assign.ensures at c.in_ok-beside-in-Assign.ensures) c.stored.ensures)
+    c.in_ok-target-in-Assign.ensures.direct
+    (ap perhaps_direct c.in_ok-operand-in-Assign.ensures.direct)
+    c.in_ok-target-in-Assign.ensures.code
+    (rw c.deref-in-Assign.ensures at c.in_ok-operand-in-Assign.ensures.code) c.write.ensures)
 
-pub value-returns-in_ok-beside-in-Update : goal.value-returns-in_ok-beside-in-Update
-value-returns-in_ok-beside-in-Update t c =
+pub value-returns-in_ok-operand-in-Update : goal.value-returns-in_ok-operand-in-Update
+value-returns-in_ok-operand-in-Update t c =
     let s = scope_of c.args.frame.now in
-    rw c.in-Update.is (then_both c.args.b _ _ _
-    (place_items s (4 * length c.args.b.code) (scalar_view c.in-Update.p))
-    (alone op.PopAlt ∷ changed_code (scalar_view c.in-Update.p) (operator_code c.in-Update.o))
+    let p = scalar_view c.in-Update.p in
+    rw c.in-Update.is (then_update (direct_of s p) _ _ p (operator_code c.in-Update.o)
+    c.args.b _ _ _ (place_items s (4 * length c.args.b.code) p)
     (λ q. value_items s q (expr_view c.in-Update.x.value))
-    c.in_ok-place-in-Update.ensures
-    (rw c.deref-in-Update.ensures at c.in_ok-beside-in-Update.ensures) c.updated.ensures)
+    c.in_ok-target-in-Update.ensures.direct
+    (ap perhaps_direct c.in_ok-operand-in-Update.ensures.direct)
+    c.in_ok-target-in-Update.ensures.code
+    (rw c.deref-in-Update.ensures at c.in_ok-operand-in-Update.ensures.code) c.update.ensures)
 
 pub value-returns-in_ok-both-in-UpdateBy : goal.value-returns-in_ok-both-in-UpdateBy
 value-returns-in_ok-both-in-UpdateBy t c =
@@ -188,15 +213,15 @@ value-returns-in_ok-both-in-UpdateBy t c =
     c.in_ok-place-in-UpdateBy.ensures
     (rw c.deref-in-UpdateBy.ensures at c.in_ok-both-in-UpdateBy.ensures) c.updated_by.ensures)
 
-pub value-returns-in_ok-place-in-Step : goal.value-returns-in_ok-place-in-Step
-value-returns-in_ok-place-in-Step t c =
+pub value-returns-in_ok-target-in-Step : goal.value-returns-in_ok-target-in-Step
+value-returns-in_ok-target-in-Step t c =
     let s = scope_of c.args.frame.now in
     let p = scalar_view c.in-Step.p in
     let f : FitsSigned w32 c.in-Step.delta = search rules in
-    rw c.in-Step.is (then_ok c.args.b _ _ (place_items s (4 * length c.args.b.code) p)
-    (alone op.MoveAlt ∷ (load_code p ++ stepped_code p c.in-Step.delta c.in-Step.first))
-    c.in_ok-place-in-Step.ensures
-    (rw (to_z-of_z w32 c.in-Step.delta f) at c.stepped.ensures))
+    rw c.in-Step.is (then_step (direct_of s p) _ p c.in-Step.delta c.in-Step.first c.args.b _ _
+    (place_items s (4 * length c.args.b.code) p)
+    c.in_ok-target-in-Step.ensures.direct c.in_ok-target-in-Step.ensures.code
+    (rw (to_z-of_z w32 c.in-Step.delta f) at c.step.ensures))
 
 pub value-returns-in_ok-place-in-StepBy : goal.value-returns-in_ok-place-in-StepBy
 value-returns-in_ok-place-in-StepBy t c =

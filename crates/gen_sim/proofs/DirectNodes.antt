@@ -1,0 +1,84 @@
+-- Reads and assignments of a place that has instructions of its own.
+use Rattle.std.proofs.Common.{◌≡◌, ◌+◌, ◌≤◌, ℕ, ℤ, pos, List, [], ◌∷◌, ◌++◌, length, sum, refl, arith}
+use Rattle.pawn_cells.specs.Cells.{IsCell}
+use Rattle.pawn_meaning.specs.Program.{Scalar, Expr, Const, Read, Assign}
+use Rattle.pawn_meaning.specs.Scope.{Scope}
+use Rattle.pawn_meaning.specs.Memory.{read, write}
+use Rattle.pawn_meaning.specs.World.{World}
+use Rattle.pawn_meaning.specs.Run.{◌>>=◌, look, change}
+use Rattle.pawn_meaning.specs.Meaning.{place, value}
+use Rattle.pawn_meaning.specs.Need.{load}
+use Rattle.amx_ops.specs.declared.op.Op.TheVariants as op
+use Rattle.amx_ops.specs.Moves.{Config}
+use Rattle.gen_sim.specs.View.{View, kept, used}
+use Rattle.gen_sim.specs.Stands.{Stands, With}
+use Rattle.gen_sim.specs.Site.{Site, IsSite, Starts, DoesAt, scene_at}
+use Rattle.gen_sim.specs.Items.{Item, item_cells, past, LieIn, with}
+use Rattle.gen_sim.specs.Fits.{Fits}
+use Rattle.gen_sim.specs.Code.{CallsWithin, with_turns}
+use Rattle.gen_sim.specs.Contract.{ValueCode}
+use Rattle.gen_sim.specs.Lies.{Lies}
+use Rattle.gen_sim.specs.SimpleCode.{const_code}
+use Rattle.gen_sim.specs.DirectCode.{Direct, direct_load, direct_store}
+use Rattle.gen_sim.proofs.StepLaws.{given}
+use Rattle.gen_sim.proofs.ItemSteps.{item_sets}
+use Rattle.gen_sim.proofs.NodesPartLaws.{gives_of, does_as, then_items}
+use Rattle.gen_sim.proofs.AccessLaws.{Loaded, Stored}
+use Rattle.gen_sim.proofs.AccessNodes.{storing, storing_grows}
+use Rattle.gen_sim.proofs.DirectLaws.{DirectPlace, found_does, direct_loads, direct_stores}
+
+-- the items evaluate an expression, and leave ALT as it was
+pub record QuietCode (scope : Scope) (e : Expr) (begin : ℕ) (items : List Item) : Type 0 where
+  pub does : (x : Site) → IsSite x → x.program ≡ scope.program → (turns : ℕ)
+      → CallsWithin x turns → (v : View) → Fits x.program x.room scope v → LieIn x begin items
+      → Starts x (past begin items) → (pending : List ℤ)
+      → used x.program x.room v pending + load e ≤ kept x.program x.room + sum v.needs
+      → (w : World) (c : Config) → Stands x.program x.room v pending begin w c
+      → DoesAt x (length (item_cells items)) w c (value (scene_at x) (with_turns x turns) e w)
+      (Loaded x v pending (past begin items) c.state.alt)
+
+-- ALT isn't asked for
+pub quiet_value : (scope : Scope) (e : Expr) (begin : ℕ) (items : List Item)
+    → QuietCode scope e begin items → ValueCode scope e begin items
+quiet_value scope e begin items part = record {
+  does = λ x site same turns calls v fits lie starts pending deep w c s.
+      does_as x (length (item_cells items)) w (value (scene_at x) (with_turns x turns) e w)
+      (Loaded x v pending (past begin items) c.state.alt) (λ y n i k. k.0)
+      (part.does x site same turns calls v fits lie starts pending deep w c s);
+}
+
+module _ (scope : Scope) (begin : ℕ) where
+  pub const_quiet : (y : ℤ) → IsCell y → QuietCode scope (Const y) begin (const_code y)
+  const_quiet y fit = record {
+    does = λ x site same turns calls v fits lie starts pending deep w c s.
+        item_sets x (with op.ConstPri y) {js = []} s (record { lie = lie; starts = starts }) y c.state.alt
+        refl (λ t b m n. given x b (record { stands = b; value = m; fits = fit }, n));
+  }
+
+  pub read_quiet : (p : Scalar) (d : Direct) → DirectPlace scope p d
+      → QuietCode scope (Read p) begin (direct_load d)
+  read_quiet p d part = record {
+    does = λ x site same turns calls v fits lie starts pending deep w c s.
+        found_does x d s (place (scene_at x) (with_turns x turns) p w)
+        (part.finds x same (with_turns x turns) v fits s) (λ at. look (read at))
+        (λ at r. direct_loads x d at r begin w c s (record { lie = lie; starts = starts }));
+  }
+
+  pub assign_direct : (p : Scalar) (d : Direct) (e : Expr) (items : List Item)
+      → DirectPlace scope p d → ValueCode scope e begin items
+      → ValueCode scope (Assign p e) begin (items ++ direct_store d)
+  assign_direct p d e items part one = record {
+    does = λ x site same turns calls v fits lie starts pending deep w c s.
+        let fewer = with_turns x turns in
+        found_does x d s (place (scene_at x) fewer p w) (part.finds x same fewer v fits s)
+        (λ at. value (scene_at x) fewer e >>= storing at)
+        (λ at r. then_items x begin items (direct_store d)
+        (With x.program x.room v pending (past begin items))
+        (λ q. With x.program x.room v pending q) w (record { lie = lie; starts = starts })
+        (value (scene_at x) fewer e w) (storing at) (λ y u. (storing_grows at y).at u)
+        (λ l. one.does x site same turns calls v fits l.lie l.starts pending
+        (omega (arith, deep)) w c s)
+        (λ l y u t a. gives_of x (length (item_cells (direct_store d))) u (change (write at y) u)
+        (λ n. y) (Stored x v pending (past (past begin items) (direct_store d)) y) (λ n i j k. k)
+        (direct_stores x d at r y a.fits (past begin items) u t a.stands a.value l)));
+  }
