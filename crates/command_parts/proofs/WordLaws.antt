@@ -162,24 +162,13 @@ module _ {X : Type 0} (f : X → List ℕ) where
   help_more words [] word e more = absurd (false-eqb 0 0 more refl)
   help_more words (next ∷ rest) word e more = rw e refl
 
-  -- ---- options
+-- ---- options
 
-  pub options_open : (given : Options) (words rest : List X) (flag : X) → words ≡ flag ∷ rest
-      → length rest ≡ 0
-      → options_from given (map f words) ≡ None
-  options_open given words [] flag e none = rw e refl
-  options_open given words (value ∷ rest) flag e none = absurd (omega (arith, none))
-
-  pub options_more : (given more : Options) (words others rest : List X) (flag value : X)
-      (a b : List ℕ) → words ≡ flag ∷ others
-      → others ≡ value ∷ rest → a ≡ f flag → b ≡ f value → with_option a b given ≡ Some more
-      → options_from given (map f words) ≡ options_from more (map f rest)
-  options_more given more words others rest flag value a b e o n v w = rw (e, o, ← n, ← v, w) refl
-
-  pub options_none : (given : Options) (words : List X) → length words ≡ 0
-      → options_from given (map f words) ≡ Some given
-  options_none given [] e = refl
-  options_none given (word ∷ words) e = absurd (omega (arith, e))
+-- the first of some words
+pub options_front : {X : Type 0} (f : X → List ℕ) (given : Options) (words rest : List X)
+    (word : X) (flag : List ℕ) → words ≡ word ∷ rest → flag ≡ f word
+    → options_from given (map f words) ≡ options_from given (flag ∷ map f rest)
+options_front f given words rest word flag e n = rw (e, ← n) refl
 
 pub once_no : {A B : Type 0} (before : Option A) (given : Option B) → true ≡ is_some before
     → once before given ≡ None

@@ -121,6 +121,7 @@ run_with amx script image o =
       image = image;
       steps = unwrap_or o.steps DEFAULT_STEPS;
       entry = unwrap_or o.entry MAIN;
+      count = o.count;
     }))
 
 -- `run`: a program, its script, and the image that it may fall asleep to, then options
@@ -138,6 +139,7 @@ resume_with amx script image o =
       script = script;
       image = image;
       steps = unwrap_or o.steps DEFAULT_STEPS;
+      count = o.count;
     }))
 
 -- `resume`: a program, its script, and the image that it goes on from, then options
@@ -156,6 +158,7 @@ go_with src amx script o =
       script = script;
       steps = unwrap_or o.steps DEFAULT_STEPS;
       sleeps = unwrap_or o.sleeps DEFAULT_SLEEPS;
+      count = o.count;
     }))
 
 -- `go`: a source, the file of its program, and perhaps a script, then options

@@ -1,5 +1,6 @@
--- The options of commands, each a word that begins with two hyphens and a value.
-use Rattle.std.specs.Prelude.{◌&&◌, ℕ, List, [], ◌∷◌, Option, None, Some, codes, nat_le, bytes_eq}
+-- The options of commands, each a word that begins with two hyphens and a value; one has no value.
+use Rattle.std.specs.Prelude.{◌&&◌, ℕ, List, [], ◌∷◌, Bool, true, false, Option, None, Some, codes}
+use Rattle.std.specs.Prelude.{nat_le, bytes_eq}
 use Rattle.std.specs.Prelude.{option_map, option_and_then, if◌then◌else◌}
 use Rattle.std.specs.Fmt.{decimal}
 use Rattle.std.specs.Str.Parse.{digits_value}
@@ -8,7 +9,7 @@ use Rattle.command_parts.specs.declared.options.TheConstants.{MOST_STEPS, MOST_S
 
 -- before any option is read
 abbrev pub no_options : Options
-no_options = record { steps = None; sleeps = None; entry = None }
+no_options = record { steps = None; sleeps = None; entry = None; count = false }
 
 -- the number that a word is the decimal form of, without a zero at its front, where it isn't above
 -- a limit
@@ -44,9 +45,26 @@ with_option flag value given =
     else if bytes_eq flag (codes "--entry") then with_entry value given
     else None
 
+-- steps are told
+abbrev pub with_count : Options → Option Options
+with_count given = if given.count then None else Some (record given { count = true })
+
+-- the one option without a value
+abbrev pub is_count : List ℕ → Bool
+is_count word = bytes_eq word (codes "--count")
+
+-- all options of these words, behind those that were given, and behind a flag whose value is first
+-- among them, if there is one
+abbrev pub options_behind : Option (List ℕ) → Options → List (List ℕ) → Option Options
+options_behind None given [] = Some given
+options_behind (Some flag) given [] = None
+options_behind None given (word ∷ words) =
+    if is_count word
+    then option_and_then (λ more. options_behind None more words) (with_count given)
+    else options_behind (Some word) given words
+options_behind (Some flag) given (value ∷ words) =
+    option_and_then (λ more. options_behind None more words) (with_option flag value given)
+
 -- all options of these words, behind those that were given
 abbrev pub options_from : Options → List (List ℕ) → Option Options
-options_from given [] = Some given
-options_from given (flag ∷ []) = None
-options_from given (flag ∷ value ∷ words) =
-    option_and_then (λ more. options_from more words) (with_option flag value given)
+options_from given words = options_behind None given words

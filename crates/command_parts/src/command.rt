@@ -32,6 +32,8 @@ pub struct RunWords {
     pub steps: u64,
     /// `main`, or the name of a public.
     pub entry: Bytes,
+    /// Whether the steps that were done are told.
+    pub count: bool,
 }
 
 /// What `resume` is asked to do.
@@ -43,6 +45,8 @@ pub struct ResumeWords {
     pub image: Name,
     /// The most steps.
     pub steps: u64,
+    /// Whether the steps that were done are told.
+    pub count: bool,
 }
 
 /// What `go` is asked to do.
@@ -57,6 +61,8 @@ pub struct GoWords {
     pub steps: u64,
     /// How many sleeps it goes on behind.
     pub sleeps: u32,
+    /// Whether the steps that were done are told.
+    pub count: bool,
 }
 
 /// What `sample` is asked to do.

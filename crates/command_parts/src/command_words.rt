@@ -191,6 +191,7 @@ fn run_with(alloc: Global, words: ImageWords) -> Result<Command, WordsFault>
         steps,
         sleeps,
         entry,
+        count,
     } = options;
     if sleeps.is_some() {
         return Err(WordsFault::Bad);
@@ -202,6 +203,7 @@ fn run_with(alloc: Global, words: ImageWords) -> Result<Command, WordsFault>
         image,
         steps: steps.unwrap_or(DEFAULT_STEPS),
         entry,
+        count,
     }))
 }
 
@@ -226,6 +228,7 @@ fn resume_with(words: ImageWords) -> Result<Command, WordsFault>
         script,
         image,
         steps: options.steps.unwrap_or(DEFAULT_STEPS),
+        count: options.count,
     }))
 }
 
@@ -247,6 +250,7 @@ fn go_with(
         script,
         steps: options.steps.unwrap_or(DEFAULT_STEPS),
         sleeps: options.sleeps.unwrap_or(DEFAULT_SLEEPS),
+        count: options.count,
     }))
 }
 

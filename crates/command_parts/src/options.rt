@@ -1,9 +1,11 @@
-ghost use Rattle.std.specs.Prelude.{◌≡◌, ◌≤◌, ◌↔◌, map, IfSome, IsTrue};
+ghost use Rattle.std.specs.Prelude.{◌≡◌, ◌≤◌, ◌↔◌, ◌∷◌, None, map, length, IfOk, IfErr, IfSome};
+ghost use Rattle.std.specs.Prelude.{IsTrue};
 ghost use Rattle.std.specs.Fmt.{decimal};
 ghost use Rattle.std.specs.String.{string_bytes};
-ghost use Rattle.command_parts.specs.Reading.{Reads};
+ghost use Rattle.command_parts.specs.Reading.{IsBad, Reads};
 ghost use Rattle.command_parts.specs.Options.{no_options, number_up_to, options_from};
 ghost use Rattle.command_parts.specs.Options.{with_option, with_steps, with_sleeps, with_entry};
+ghost use Rattle.command_parts.specs.Options.{with_count};
 
 use super::command_words::WordsFault;
 use itoa::Buffer;
@@ -31,6 +33,7 @@ pub struct Options {
     pub steps: Option<u64>,
     pub sleeps: Option<u32>,
     pub entry: Option<Bytes>,
+    pub count: bool,
 }
 
 /// Reads options with their values, each at most once.
@@ -41,19 +44,42 @@ pub fn read_options(alloc: Global, words: &[String]) -> Result<Options, WordsFau
         steps: None,
         sleeps: None,
         entry: None,
+        count: false,
     };
     let mut rest = words;
     while let Some((flag, others)) = rest.split_first() {
-        let Some((value, others)) = others.split_first() else {
-            return Err(WordsFault::Bad);
-        };
-        options = options.with(alloc, flag.as_str(), value.as_str())?;
-        rest = others;
+        let (more, behind) = options.with_front(alloc, flag.as_str(), others)?;
+        options = more;
+        rest = behind;
     }
     Ok(options)
 }
 
 impl Options {
+    /// The options with the one that a word begins, and the words behind it and its value.
+    fn with_front<'w>(
+        self,
+        alloc: Global,
+        flag: &str,
+        others: &'w [String],
+    ) -> Result<(Options, &'w [String]), WordsFault>
+        ensures more { IfOk result (λ it. options_from self (flag.now ∷ map string_bytes others.now)
+            ≡ options_from it.0 (map string_bytes it.1.now)) }
+        ensures fewer { IfOk result (λ it. length it.1.now ≤ length others.now) }
+        ensures bad { IfErr result (λ fault. IsBad fault
+            (options_from self (flag.now ∷ map string_bytes others.now) ≡ None)) }
+    {
+        if flag == "--count" {
+            let counted = self.with_count()?;
+            return Ok((counted, others));
+        }
+        let Some((value, behind)) = others.split_first() else {
+            return Err(WordsFault::Bad);
+        };
+        let options = self.with(alloc, flag, value.as_str())?;
+        Ok((options, behind))
+    }
+
     /// The options with one more, which wasn't given before.
     fn with(self, alloc: Global, flag: &str, value: &str) -> Result<Options, WordsFault>
         ensures { Reads (with_option flag.now value.now self) result }
@@ -92,6 +118,16 @@ impl Options {
             return Err(WordsFault::Bad);
         };
         self.sleeps = Some(sleeps as u32);
+        Ok(self)
+    }
+
+    fn with_count(mut self) -> Result<Options, WordsFault>
+        ensures { Reads (with_count self) result }
+    {
+        if self.count {
+            return Err(WordsFault::Bad);
+        }
+        self.count = true;
         Ok(self)
     }
 

@@ -1,6 +1,6 @@
 //! Runs rows: commands over files in memory, each with what it prints and the number of its status.
-//! A row is a line of a file of `data/`; what all of them come to is held to `stdout`. The page of all
-//! numbers is held to what `explain` tells.
+//! A row is a line of a file of `data/`; what all of them come to is held to `stdout`. The page of
+//! all numbers is held to what `explain` tells.
 #![tactic(auto)]
 
 mod page;

@@ -1,7 +1,8 @@
 -- What is told of rows, from one of them on.
 use denote.Ref.{Bor}
 use Rattle.std.proofs.Common.{◌≡◌, ◌+◌, ◌<◌, ◌≤◌, ◌∙◌, ◌||◌, ℕ, List, [], ◌++◌, Bool, true, false}
-use Rattle.std.proofs.Common.{Option, None, Some, length, drop, find, get_or, is_some, ap, sym, refl}
+use Rattle.std.proofs.Common.{Option, None, Some, length, drop, find, get_or, is_some, ap, sym}
+use Rattle.std.proofs.Common.{refl}
 use Rattle.std.specs.Option.{option_or}
 use Rattle.std.proofs.Math.ListN.{drop_of_length-le}
 use Rattle.std.proofs.lemmas.Grind.{flat_map-append}
@@ -9,7 +10,7 @@ use Rattle.std.proofs.lemmas.List.{drop_more, at_drop_more}
 use Rattle.std.proofs.lemmas.List.Folds.{find-append}
 use Rattle.command_texts.specs.declared.kind.Kind.{Kind}
 use Rattle.command_texts.specs.Rows.{Row, row_by, rows_by, rows_in}
-use Rattle.command_texts.specs.Explained.{told, told_all, has_number}
+use Rattle.command_texts.specs.Explained.{row_text, rows_text, has_number}
 
 -- a row as the code holds it
 abbrev pub Held : Type 0
@@ -18,28 +19,28 @@ Held = Kind × ℕ × Bor (List ℕ) × Bor (List ℕ) × Bor (List ℕ)
 -- ---- what is told
 
 module _ (asked : Option ℕ) (all : List Held) (i : ℕ) where
-  pub told_from : (other : Held) → i < length all
-      → told_all asked (rows_by (drop i all))
-      ≡ told asked (row_by (get_or all i other)) ++ told_all asked (rows_by (drop (i + 1) all))
-  told_from other h =
-      ap (λ rest. told_all asked (rows_by rest)) (drop_more all i other h)
+  pub rows_from : (other : Held) → i < length all
+      → rows_text asked (rows_by (drop i all))
+      ≡ row_text asked (row_by (get_or all i other)) ++ rows_text asked (rows_by (drop (i + 1) all))
+  rows_from other h =
+      ap (λ rest. rows_text asked (rows_by rest)) (drop_more all i other h)
 
   -- nothing is left behind the last
-  pub told_end : length all ≤ i → told_all asked (rows_by (drop i all)) ≡ []
-  told_end h = ap (λ rest. told_all asked (rows_by rest)) (drop_of_length-le all h)
+  pub rows_end : length all ≤ i → rows_text asked (rows_by (drop i all)) ≡ []
+  rows_end h = ap (λ rest. rows_text asked (rows_by rest)) (drop_of_length-le all h)
 
 module _ (asked : Option ℕ) (tables : List (Bor (List Held))) (i : ℕ) where
   pub tables_from : (other : Bor (List Held)) → i < length tables
-      → told_all asked (rows_in (drop i tables))
-      ≡ told_all asked (rows_by (get_or tables i other).now)
-      ++ told_all asked (rows_in (drop (i + 1) tables))
+      → rows_text asked (rows_in (drop i tables))
+      ≡ rows_text asked (rows_by (get_or tables i other).now)
+      ++ rows_text asked (rows_in (drop (i + 1) tables))
   tables_from other h =
-      at_drop_more (λ rest. told_all asked (rows_in rest)) tables i other h
-      ∙ flat_map-append (told asked) (rows_by (get_or tables i other).now)
+      at_drop_more (λ rest. rows_text asked (rows_in rest)) tables i other h
+      ∙ flat_map-append (row_text asked) (rows_by (get_or tables i other).now)
       (rows_in (drop (i + 1) tables))
 
-  pub tables_end : length tables ≤ i → told_all asked (rows_in (drop i tables)) ≡ []
-  tables_end h = ap (λ rest. told_all asked (rows_in rest)) (drop_of_length-le tables h)
+  pub tables_end : length tables ≤ i → rows_text asked (rows_in (drop i tables)) ≡ []
+  tables_end h = ap (λ rest. rows_text asked (rows_in rest)) (drop_of_length-le tables h)
 
 -- ---- whether a row has a number
 

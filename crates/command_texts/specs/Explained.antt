@@ -24,8 +24,8 @@ head row =
     ++ (codes " " ++ (decimal row.number ++ (codes ": " ++ (row.says ++ codes "\n"))))
 
 -- behind that what gives it, and its cure
-abbrev pub whole : Row → List ℕ
-whole row =
+abbrev pub row_whole : Row → List ℕ
+row_whole row =
     head row
     ++ (codes "  for instance:\n    "
     ++ (row.instance ++ (codes "\n  cure: " ++ (row.cure ++ codes "\n"))))
@@ -35,17 +35,17 @@ abbrev pub has_number : ℕ → Row → Bool
 has_number number row = row.number == number
 
 -- what is told of a row: where a number is asked for, only of the rows with it
-abbrev pub told : Option ℕ → Row → List ℕ
-told None row = head row
-told (Some number) row = if has_number number row then whole row else []
+abbrev pub row_text : Option ℕ → Row → List ℕ
+row_text None row = head row
+row_text (Some number) row = if has_number number row then row_whole row else []
 
 -- of rows, one behind the other
-abbrev pub told_all : Option ℕ → List Row → List ℕ
-told_all asked rows = flat_map (told asked) rows
+abbrev pub rows_text : Option ℕ → List Row → List ℕ
+rows_text asked rows = flat_map (row_text asked) rows
 
 -- of all
 abbrev pub explained : Option ℕ → List ℕ
-explained asked = told_all asked rows
+explained asked = rows_text asked rows
 
 -- some row has this number
 abbrev pub is_explained : ℕ → Bool

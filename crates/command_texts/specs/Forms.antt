@@ -38,25 +38,25 @@ abbrev pub line : Form → List ℕ
 line it = it.form ++ codes "\n"
 
 -- behind that what it does
-abbrev pub whole : Form → List ℕ
-whole it = it.form ++ (codes "\n  " ++ (it.does ++ codes "\n"))
+abbrev pub form_whole : Form → List ℕ
+form_whole it = it.form ++ (codes "\n  " ++ (it.does ++ codes "\n"))
 
 -- the word is this one
 abbrev pub has_word : List ℕ → Form → Bool
 has_word word it = bytes_eq it.word word
 
 -- what is told of a command: where a word is asked for, only of that with it
-abbrev pub told : Option (List ℕ) → Form → List ℕ
-told None it = line it
-told (Some word) it = if has_word word it then whole it else []
+abbrev pub form_text : Option (List ℕ) → Form → List ℕ
+form_text None it = line it
+form_text (Some word) it = if has_word word it then form_whole it else []
 
 -- of commands, one behind the other
-abbrev pub told_all : Option (List ℕ) → List Form → List ℕ
-told_all asked all = flat_map (told asked) all
+abbrev pub forms_text : Option (List ℕ) → List Form → List ℕ
+forms_text asked all = flat_map (form_text asked) all
 
 -- of all
 abbrev pub helped : Option (List ℕ) → List ℕ
-helped asked = told_all asked forms
+helped asked = forms_text asked forms
 
 -- some command has this word
 abbrev pub is_word : List ℕ → Bool

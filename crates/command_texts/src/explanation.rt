@@ -2,7 +2,7 @@ ghost use Rattle.std.specs.Prelude.{◌≡◌, find, is_some};
 ghost use Rattle.pawn_outside.specs.Said.{Said};
 ghost use Rattle.command_texts.specs.Rows.{row_by, rows_by, rows_in};
 ghost use Rattle.command_texts.specs.Explained.{explained, head, has_number, is_explained};
-ghost use Rattle.command_texts.specs.Explained.{told, told_all, whole};
+ghost use Rattle.command_texts.specs.Explained.{row_text, rows_text, row_whole};
 
 use super::row::Row;
 use super::tables::tables;
@@ -18,7 +18,7 @@ pub fn explain<S: Sink>(asked: Option<u8>, out: &mut S) -> Result<(), SinkFault>
 
 /// Writes what is told of the rows of some tables.
 fn say_tables<S: Sink>(tables: &[&[Row]], asked: Option<u8>, out: &mut S) -> Result<(), SinkFault>
-    ensures { let text = told_all asked (rows_in tables.now) in
+    ensures { let text = rows_text asked (rows_in tables.now) in
         Said S.taken S.faults S.has_room out.old out.new text result }
 {
     for table in tables {
@@ -29,7 +29,7 @@ fn say_tables<S: Sink>(tables: &[&[Row]], asked: Option<u8>, out: &mut S) -> Res
 
 /// Writes what is told of some rows.
 fn say_table<S: Sink>(rows: &[Row], asked: Option<u8>, out: &mut S) -> Result<(), SinkFault>
-    ensures { let text = told_all asked (rows_by rows.now) in
+    ensures { let text = rows_text asked (rows_by rows.now) in
         Said S.taken S.faults S.has_room out.old out.new text result }
 {
     for row in rows {
@@ -40,7 +40,7 @@ fn say_table<S: Sink>(rows: &[Row], asked: Option<u8>, out: &mut S) -> Result<()
 
 /// Writes what is told of a row.
 fn say_row<S: Sink>(row: &Row, asked: Option<u8>, out: &mut S) -> Result<(), SinkFault>
-    ensures { let text = told asked (row_by row.now) in
+    ensures { let text = row_text asked (row_by row.now) in
         Said S.taken S.faults S.has_room out.old out.new text result }
 {
     match asked {
@@ -65,7 +65,7 @@ fn say_head<S: Sink>(row: &Row, out: &mut S) -> Result<(), SinkFault>
 
 /// Writes a row whole.
 fn say_whole<S: Sink>(row: &Row, out: &mut S) -> Result<(), SinkFault>
-    ensures { let text = whole (row_by row.now) in
+    ensures { let text = row_whole (row_by row.now) in
         Said S.taken S.faults S.has_room out.old out.new text result }
 {
     say_head(row, out)?;

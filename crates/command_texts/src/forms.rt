@@ -13,7 +13,7 @@ pub const FORMS: [Form; 13] = [
     ),
     (
         "go",
-        "go SRC AMX [SCRIPT] [--steps N] [--sleeps M]",
+        "go SRC AMX [SCRIPT] [--steps N] [--sleeps M] [--count]",
         "compiles a source, puts its file, and runs that",
     ),
     (
@@ -34,12 +34,12 @@ pub const FORMS: [Form; 13] = [
     ),
     (
         "run",
-        "run AMX SCRIPT IMAGE [--steps N] [--entry NAME]",
+        "run AMX SCRIPT IMAGE [--steps N] [--entry NAME] [--count]",
         "runs a file from an entry; where it sleeps, puts the image of its machine",
     ),
     (
         "resume",
-        "resume AMX SCRIPT IMAGE [--steps N]",
+        "resume AMX SCRIPT IMAGE [--steps N] [--count]",
         "goes on from an image",
     ),
     (

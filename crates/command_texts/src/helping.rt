@@ -1,7 +1,7 @@
 ghost use Rattle.std.specs.Prelude.{◌≡◌, find, is_some, option_map};
 ghost use Rattle.pawn_outside.specs.Said.{Said};
 ghost use Rattle.command_texts.specs.Forms.{form_by, forms_by, has_word, helped, is_word};
-ghost use Rattle.command_texts.specs.Forms.{told, told_all};
+ghost use Rattle.command_texts.specs.Forms.{form_text, forms_text};
 
 use super::forms::{Form, forms};
 use pawn_outside::{Sink, SinkFault, say};
@@ -16,7 +16,8 @@ pub fn help<S: Sink>(asked: Option<&str>, out: &mut S) -> Result<(), SinkFault>
 
 /// Writes what is told of some commands.
 fn say_forms<S: Sink>(forms: &[Form], asked: Option<&str>, out: &mut S) -> Result<(), SinkFault>
-    ensures { let text = told_all (option_map (λ word. word.now) asked.entry) (forms_by forms.now) in
+    ensures { let word = option_map (λ word. word.now) asked.entry in
+        let text = forms_text word (forms_by forms.now) in
         Said S.taken S.faults S.has_room out.old out.new text result }
 {
     for form in forms {
@@ -27,7 +28,8 @@ fn say_forms<S: Sink>(forms: &[Form], asked: Option<&str>, out: &mut S) -> Resul
 
 /// Writes what is told of a command.
 fn say_form<S: Sink>(it: &Form, asked: Option<&str>, out: &mut S) -> Result<(), SinkFault>
-    ensures { let text = told (option_map (λ word. word.now) asked.entry) (form_by it.now) in
+    ensures { let word = option_map (λ word. word.now) asked.entry in
+        let text = form_text word (form_by it.now) in
         Said S.taken S.faults S.has_room out.old out.new text result }
 {
     let form = it.1.as_bytes();

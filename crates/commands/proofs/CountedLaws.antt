@@ -1,35 +1,37 @@
--- A run of one segment, and its text with the counts behind it.
+-- A run, and its text with what stands behind it.
 use Rattle.std.proofs.Common.{◌≡◌, ◌≢◌, ◌∙◌, ◌++◌, ℕ, ℤ, pos, negsuc, List, [], Option, None, Some}
-use Rattle.std.proofs.Common.{Ok, Err, codes, refl, sym, ap, subst, append-nil, append_assoc}
+use Rattle.std.proofs.Common.{Ok, Err, codes, replicate, refl, sym, ap, subst, append-nil}
+use Rattle.std.proofs.Common.{append_assoc}
 use Rattle.pawn_outside.specs.Said.{Said}
-use Rattle.pawn_outside.specs.declared.fault.SinkFault.{SinkFault}
 use Rattle.pawn_outside.proofs.SaidLaws.{said_as, said_cut, said_then}
 use Rattle.host_script.specs.declared.script.Script.{Script}
 use Rattle.host_script.specs.declared.event.End.{End}
 use Rattle.host_script.specs.declared.event.End.TheVariants as end
 use Rattle.host_script.specs.Text.{end_text}
 use Rattle.amx_ops.specs.declared.amx.Amx.{Amx}
-use Rattle.amx_ops.specs.Moves.{Config, move}
-use Rattle.amx_ops.specs.Runs.{Segmented, Traced, Stop, Steps, Asleep, Over_by, segment}
+use Rattle.amx_ops.specs.Moves.{Config}
+use Rattle.amx_ops.specs.Runs.{Segmented, Traced, Stop, Steps, Asleep, Over_by, traced}
 use Rattle.amx_ops.specs.State.{State}
-use Rattle.amx_ops.specs.Trace.{Main, address_of, begun, loaded, trace_by}
+use Rattle.amx_ops.specs.Trace.{Main, address_of, loaded, trace_by}
 use Rattle.amx_machine.specs.Machine.{Machine, first}
 use Rattle.amx_machine.specs.Starts.{StartsSo, error_of, started}
 use Rattle.amx_machine.specs.declared.start.StartFault.{StartFault}
-use Rattle.host_run.specs.Segments.{Place, lines_of, segment_of, text_of}
+use Rattle.host_run.specs.Leaves.{Leaves}
+use Rattle.host_run.specs.Segments.{Place, lines_of, text_of}
 use Rattle.host_run.specs.Segments as host
 use Rattle.host_run.specs.Session.{Sessions, told}
-use Rattle.host_run.specs.Trace.{StopsAs, told_text}
+use Rattle.host_run.specs.Stands.{Stands}
+use Rattle.host_run.specs.Trace.{StopsAs, told_text, trace_on}
 use Rattle.host_run.specs.declared.end.SessionEnd.{SessionEnd}
 use Rattle.host_run.specs.declared.end.SessionEnd.TheVariants as session
 use Rattle.command_parts.specs.declared.status.Status.{Status}
 use Rattle.command_parts.specs.declared.status.Status.TheVariants as status
 use Rattle.command_parts.specs.Told.{Told, status_told}
-use Rattle.commands.specs.Counted.{HasCount, IsErrorTold, RunsOnce, TellsCounted, counts_text}
+use Rattle.commands.specs.Counted.{HasCount, IsErrorTold, RunsTrace, before}
 use Rattle.commands.specs.Counted.{rest_of, status_by}
 use Rattle.commands.specs.Finishes.{status_of_stop, stop_line}
-use Rattle.commands.specs.Played.{trace_of}
-use Rattle.commands.proofs.PlayLaws.{at_main, no_room}
+use Rattle.commands.specs.Played.{TellsTrace, trace_of}
+use Rattle.commands.proofs.PlayLaws.{fails, goes_on, no_room}
 
 -- ---- what a session leaves out of the text
 
@@ -80,24 +82,24 @@ told_whole (session.Asleep value tag) h = refl
 told_whole session.Steps h = refl
 told_whole session.SinkFault h = absurd (h refl)
 
--- ---- its text with the counts
+-- ---- its text with what stands behind it
 
 module _ {S : Type 0} {taken : S → Option (List ℕ)} {faults : S → ℕ} {has_room : S → ℕ → Type 0}
-    (t : Traced Config End) (begun out : S) (cells steps : ℕ) (e : SessionEnd)
-    (runs : RunsOnce (Said taken faults has_room) t begun out steps e) where
+    (t : Traced Config End) (begun out : S) (back : ℕ → List ℕ) (steps : ℕ) (e : SessionEnd)
+    (runs : RunsTrace (Said taken faults has_room) t begun out steps e) where
   -- all was told, and the rest of it behind
   pub counted : (new : S) (given : Status) (line : Told) (answer : Status)
       → Some given ≡ status_by e
-      → Said taken faults has_room out new (rest_of e ++ counts_text cells steps) line
+      → Said taken faults has_room out new (rest_of e ++ back steps) line
       → answer ≡ status_told given line
-      → TellsCounted (Said taken faults has_room) cells t begun new answer
+      → TellsTrace t (before (back t.steps) (Said taken faults has_room)) begun new answer
   counted new given line answer is written same =
       let whole = no_cut e given is in
       let lines = lines_of t.config.events in
       let text =
-      regrouped lines (host.stop_text t.stop) (rest_of e) (counts_text cells steps)
-      ∙ ap (λ l. (lines ++ l) ++ counts_text cells steps) (left_by t.stop e runs.stop whole)
-      ∙ ap (λ n. (lines ++ stop_line t.stop) ++ counts_text cells n)
+      regrouped lines (host.stop_text t.stop) (rest_of e) (back steps)
+      ∙ ap (λ l. (lines ++ l) ++ back steps) (left_by t.stop e runs.stop whole)
+      ∙ ap (λ n. (lines ++ stop_line t.stop) ++ back n)
       (count_is e t.steps steps whole runs.steps) in
       let P : Told → Type 0 =
       λ r. Said taken faults has_room begun out (told_text t) r in
@@ -110,11 +112,13 @@ module _ {S : Type 0} {taken : S → Option (List ℕ)} {faults : S → ℕ} {ha
 
   -- the sink failed
   pub cut_counted : None ≡ status_by e
-      → TellsCounted (Said taken faults has_room) cells t begun out status.SinkFault
+      → TellsTrace t (before (back t.steps) (Said taken faults has_room)) begun out
+      status.SinkFault
   cut_counted is = by e is runs where
     by : (e : SessionEnd) → None ≡ status_by e
-        → RunsOnce (Said taken faults has_room) t begun out steps e
-        → TellsCounted (Said taken faults has_room) cells t begun out status.SinkFault
+        → RunsTrace (Said taken faults has_room) t begun out steps e
+        → TellsTrace t (before (back t.steps) (Said taken faults has_room)) begun out
+        status.SinkFault
     by (session.Done value) is it = absurd (cc is)
     by (session.Exit value tag) is it = absurd (cc is)
     by (session.Error code) is it = absurd (cc is)
@@ -124,15 +128,28 @@ module _ {S : Type 0} {taken : S → Option (List ℕ)} {faults : S → ℕ} {ha
         let lines = lines_of t.config.events in
         let more = left_out t.stop in
         let text =
-        regrouped lines (host.stop_text t.stop) more.0 (counts_text cells t.steps)
-        ∙ ap (λ l. (lines ++ l) ++ counts_text cells t.steps) more.1 in
+        regrouped lines (host.stop_text t.stop) more.0 (back t.steps)
+        ∙ ap (λ l. (lines ++ l) ++ back t.steps) more.1 in
         record {
           told = Err (record {});
           written =
-              said_as text (said_cut (more.0 ++ counts_text cells t.steps) (Err (record {})) refl
-              it.written);
+              said_as text (said_cut (more.0 ++ back t.steps) (Err (record {})) refl it.written);
           is = refl;
         }
+
+-- the status of a run is never that of the files
+pub by_no_fault : (e : SessionEnd) (given : Status) → Some given ≡ status_by e
+    → given ≢ status.FileFault
+by_no_fault (session.Done value) given is = λ f. absurd (cc (is, f))
+by_no_fault (session.Exit value tag) given is = λ f. absurd (cc (is, f))
+by_no_fault (session.Error code) given is = λ f. absurd (cc (is, f))
+by_no_fault (session.Asleep value tag) given is = λ f. absurd (cc (is, f))
+by_no_fault session.Steps given is = λ f. absurd (cc (is, f))
+by_no_fault session.SinkFault given is = absurd (cc is)
+
+pub by_no_sink : (e : SessionEnd) (given : Status) → Some given ≡ status_by e
+    → e ≢ session.SinkFault
+by_no_sink e given is = no_cut e given is
 
 -- ---- a session is a run
 
@@ -158,76 +175,101 @@ counts_as segments taken after bound old count (session.Asleep value tag) new it
 counts_as segments taken after bound old count session.Steps new it = it.stands.steps
 counts_as segments taken after bound old count session.SinkFault new it = tt
 
--- the segment of a machine that was started is the file's trace
-module _ (old : Machine) (is_first : old ≡ first old.amx)
-    (main : address_of old.amx Main ≡ Some old.amx.entry) (script : Script) (steps : ℕ) where
-  abbrev by : Option State → Traced Config End
-  by o = trace_by old.amx script (loaded old.amx old.amx.room) o steps []
+-- where it stands unless the sink failed
+pub stands : (segments : ℕ → Segmented Config End) (taken after : Option (List ℕ)) (bound : ℕ)
+    (old : Place) (count : ℕ) (given : SessionEnd) (new : Place) → given ≢ session.SinkFault
+    → Sessions segments taken after bound old count given new
+    → Stands old (segments bound) count new
+stands segments taken after bound old count (session.Done value) new whole it = it.stands
+stands segments taken after bound old count (session.Exit value tag) new whole it = it.stands
+stands segments taken after bound old count (session.Error code) new whole it = it.stands
+stands segments taken after bound old count (session.Asleep value tag) new whole it = it.stands
+stands segments taken after bound old count session.Steps new whole it = it.stands
+stands segments taken after bound old count session.SinkFault new whole it = absurd (whole refl)
 
-  abbrev made : Amx → State → Segmented Config End
-  made amx s = segment (move amx script) steps 0 (begun s)
+pub session_runs : {S : Type 0} {taken : S → Option (List ℕ)} {faults : S → ℕ}
+    {has_room : S → ℕ → Type 0} {out last : S} (segments : ℕ → Segmented Config End) (bound : ℕ)
+    (old : Place) (count : ℕ) (given : SessionEnd) (new : Place)
+    → Sessions segments (taken out) (taken last) bound old count given new
+    → Said taken faults has_room out last (text_of (segments bound)) (told given)
+    → RunsTrace (Said taken faults has_room) (traced bound (segments bound)) out last count given
+session_runs {taken = taken} {out = out} {last = last} segments bound old count given new it said =
+    record {
+      written = said;
+      stop = stops_as segments (taken out) (taken last) bound old count given new it;
+      steps = counts_as segments (taken out) (taken last) bound old count given new it;
+    }
 
-  module _ {S : Type 0} {taken : S → Option (List ℕ)} {faults : S → ℕ}
-      {has_room : S → ℕ → Type 0} {out last : S} where
-    pub runs_once : (new : Machine) (count : ℕ) (given : SessionEnd) (left : Place)
-        → started old (negsuc 0) [] ≡ Some new.state → new.amx ≡ old.amx
-        → Sessions (segment_of script (record { machine = new; position = 0 })) (taken out)
-        (taken last) steps (record { machine = new; position = 0 }) count given left
-        → Said taken faults has_room out last
-        (text_of (segment_of script (record { machine = new; position = 0 }) steps)) (told given)
-        → RunsOnce (Said taken faults has_room) (trace_of old.amx script steps 0) out last count
-        given
-    runs_once new count given left e same it said =
-        let place : Place = record { machine = new; position = 0 } in
-        let segments = segment_of script place in
-        let Once : Traced Config End → Type 0 =
-        λ t. RunsOnce (Said taken faults has_room) t out last count given in
-        let now : Once (record {
-          stop = (segments steps).stop;
-          config = (segments steps).config;
-          bound = steps;
-          steps = (segments steps).steps;
-        }) = record {
-          written = said;
-          stop = stops_as segments (taken out) (taken last) steps place count given left it;
-          steps = counts_as segments (taken out) (taken last) steps place count given left it;
-        } in
-        let P : Amx → Type 0 = λ amx. Once (record {
-          stop = (made amx new.state).stop;
-          config = (made amx new.state).config;
-          bound = steps;
-          steps = (made amx new.state).steps;
-        }) in
-        subst Once (ap by (sym (sym (at_main old is_first main) ∙ e)))
-        (subst P same now)
+-- ---- a run over sleeps
 
-    -- without a start it is error 3
-    pub fails_once : (fault : StartFault) (new : Machine) (code : ℤ) (given : SessionEnd)
-        → StartsSo {T = Unit {0}} old (negsuc 0) [] (Err fault) new → code ≡ error_of fault
-        → IsErrorTold code given
+counts_leaving : (script : Script) (m : Machine) (steps sleeps count : ℕ) (given : SessionEnd)
+    (new : Place) → Leaves script m steps sleeps count given new
+    → HasCount (trace_on script m steps sleeps).steps count given
+counts_leaving script m steps sleeps count (session.Done value) new it = it.steps
+counts_leaving script m steps sleeps count (session.Exit value tag) new it = it.steps
+counts_leaving script m steps sleeps count (session.Error code) new it = it.steps
+counts_leaving script m steps sleeps count (session.Asleep value tag) new it = it.steps
+counts_leaving script m steps sleeps count session.Steps new it = it.steps
+counts_leaving script m steps sleeps count session.SinkFault new it = tt
+
+-- without a start it is error 3
+module _ {S : Type 0} {taken : S → Option (List ℕ)} {faults : S → ℕ} {has_room : S → ℕ → Type 0}
+    {out last : S} (amx : Amx) (script : Script) (idle : State) (bound : ℕ) (bounds : List ℕ)
+  where
+    pub error_runs : (given : SessionEnd) (code : ℤ) → code ≡ pos 3 → IsErrorTold code given
         → Said taken faults has_room out last (end_text (end.Error code)) (told given)
-        → RunsOnce (Said taken faults has_room) (trace_of old.amx script steps 0) out last 0 given
-    fails_once fault new code given failed is told_so said =
-        let none = no_room old is_first main script steps 0 fault new failed in
-        let Once : Traced Config End → Type 0 =
-        λ t. RunsOnce (Said taken faults has_room) t out last 0 given in
-        subst Once (ap by (sym (sym (at_main old is_first main) ∙ none.0)))
-        (by_end given code (is ∙ none.1) told_so said)
-      where
-        by_end : (given : SessionEnd) (code : ℤ) → code ≡ pos 3 → IsErrorTold code given
-            → Said taken faults has_room out last (end_text (end.Error code)) (told given)
-            → RunsOnce (Said taken faults has_room) (by None) out last 0 given
-        by_end (session.Done value) code e h said = absurd h
-        by_end (session.Exit value tag) code e h said = absurd h
-        by_end (session.Error other) code e h said = record {
-          written = said_as (ap (λ z. end_text (end.Error z)) e) said;
-          stop = ap (λ z. Over_by (end.Error z)) (sym (h ∙ e));
-          steps = refl;
-        }
-        by_end (session.Asleep value tag) code e h said = absurd h
-        by_end session.Steps code e h said = absurd h
-        by_end session.SinkFault code e h said = record {
-          written = said_as (ap (λ z. end_text (end.Error z)) e) said;
-          stop = tt;
-          steps = tt;
-        }
+        → RunsTrace (Said taken faults has_room) (trace_by amx script idle None bound bounds) out
+        last 0 given
+    error_runs (session.Done value) code e h said = absurd h
+    error_runs (session.Exit value tag) code e h said = absurd h
+    error_runs (session.Error other) code e h said = record {
+      written = said_as (ap (λ z. end_text (end.Error z)) e) said;
+      stop = ap (λ z. Over_by (end.Error z)) (sym (h ∙ e));
+      steps = refl;
+    }
+    error_runs (session.Asleep value tag) code e h said = absurd h
+    error_runs session.Steps code e h said = absurd h
+    error_runs session.SinkFault code e h said = record {
+      written = said_as (ap (λ z. end_text (end.Error z)) e) said;
+      stop = tt;
+      steps = tt;
+    }
+
+-- the trace of a machine that was started is the file's
+module _ (old : Machine) (is_first : old ≡ first old.amx)
+    (main : address_of old.amx Main ≡ Some old.amx.entry) (script : Script) (steps sleeps : ℕ)
+  where
+    pub runs_on : {S : Type 0} {taken : S → Option (List ℕ)} {faults : S → ℕ}
+        {has_room : S → ℕ → Type 0} {out last : S} (new : Machine) (count : ℕ) (given : SessionEnd)
+        (left : Place) → started old (negsuc 0) [] ≡ Some new.state → new.amx ≡ old.amx
+        → Said taken faults has_room out last (told_text (trace_on script new steps sleeps))
+        (told given)
+        → StopsAs (trace_on script new steps sleeps).stop given
+        → Leaves script new steps sleeps count given left
+        → RunsTrace (Said taken faults has_room) (trace_of old.amx script steps sleeps) out last
+        count given
+    runs_on {taken = taken} {faults = faults} {has_room = has_room} {out = out} {last = last} new count given left e same said stop
+        leaves =
+        let P : Traced Config End → Type 0 =
+        λ t. RunsTrace (Said taken faults has_room) t out last count given in
+        subst P (sym (goes_on old is_first main script steps sleeps new e same)) (record {
+          written = said;
+          stop = stop;
+          steps = counts_leaving script new steps sleeps count given left leaves;
+        })
+
+    pub fails_at_once : {S : Type 0} {taken : S → Option (List ℕ)} {faults : S → ℕ}
+        {has_room : S → ℕ → Type 0} {out last : S} (fault : StartFault) (new : Machine) (code : ℤ)
+        (given : SessionEnd) → StartsSo {T = Unit {0}} old (negsuc 0) [] (Err fault) new
+        → code ≡ error_of fault → IsErrorTold code given
+        → Said taken faults has_room out last (end_text (end.Error code)) (told given)
+        → RunsTrace (Said taken faults has_room) (trace_of old.amx script steps sleeps) out last 0
+        given
+    fails_at_once {taken = taken} {faults = faults} {has_room = has_room} {out = out} {last = last} fault new code given failed is
+        told_so said =
+        let none = no_room old is_first main script steps sleeps fault new failed in
+        let P : Traced Config End → Type 0 =
+        λ t. RunsTrace (Said taken faults has_room) t out last 0 given in
+        subst P (sym (fails old is_first main script steps sleeps none.0))
+        (error_runs old.amx script (loaded old.amx old.amx.room) steps (replicate sleeps steps) given
+        code (is ∙ none.1) told_so said)

@@ -1,6 +1,6 @@
 -- A command that answers that it fell asleep has put its image; and one that no fault stopped has
 -- written its whole text.
-use Rattle.std.proofs.Common.{◌≡◌, ◌≢◌, ◌∙◌, ℕ, List, Option, Ok, Err, refl, sym, ap, subst}
+use Rattle.std.proofs.Common.{◌≡◌, ◌≢◌, ℕ, List, Option, Ok, Err, refl, sym, ap, subst}
 use Rattle.pawn_outside.specs.Held.{Held, with_put}
 use Rattle.host_script.specs.declared.event.End.{End}
 use Rattle.host_script.specs.declared.event.End.TheVariants as end
@@ -96,7 +96,7 @@ not_put_free (puts.no_memory same) = good.no_memory
 
 -- ---- how a command ends
 
-end_awake : (e : End) → status_of_end e ≢ status.Asleep
+pub end_awake : (e : End) → status_of_end e ≢ status.Asleep
 end_awake (end.Done value) = λ e. absurd (cc e)
 end_awake (end.Exit value tag) = λ e. absurd (cc e)
 end_awake (end.Error code) = λ e. absurd (cc e)
@@ -126,18 +126,18 @@ by_kept {S} {writes} {held} {after} {image} {digest} {stop} {c} {mid} {new} {byt
 by_kept is saved e (unkept cause answer none tells) =
     absurd (subst has_stop e (not_told cause tells))
 
-fell_by : {S : Type 0} {writes : Writes S} {held after : Option Held} {image digest : List ℕ}
+fell_by : {S : Type 0} {tells writes : Writes S} {held after : Option Held} {image digest : List ℕ}
     {stop : Stop End} {c : Config} {old new : S} {answer : Status} → answer ≡ status.Asleep
-    → Finishes writes held after image digest stop c old new answer
+    → Finishes tells writes held after image digest stop c old new answer
     → Fell held after image digest stop c
 fell_by e (cut_off fault wrote same) = absurd (cc e)
-fell_by {S} {writes} {held} {after} {image} {digest} {stop} e (ended other wrote same) =
+fell_by {S} {tells} {writes} {held} {after} {image} {digest} {stop} e (ended other wrote same) =
     absurd (awake stop other e)
 fell_by e (asleep mid bytes answer is wrote saved keeps) = by_kept is saved e keeps
 
-pub fell : {S : Type 0} {writes : Writes S} {held after : Option Held} {image digest : List ℕ}
+pub fell : {S : Type 0} {tells writes : Writes S} {held after : Option Held} {image digest : List ℕ}
     {stop : Stop End} {c : Config} {old new : S}
-    → Finishes writes held after image digest stop c old new status.Asleep
+    → Finishes tells writes held after image digest stop c old new status.Asleep
     → Fell held after image digest stop c
 fell it = fell_by refl it
 
@@ -147,21 +147,22 @@ pub record WroteAll {S : Type 0} (writes : Writes S) (stop : Stop End) (c : Conf
   pub text : writes old new (run_text c stop) (Ok tt)
   pub answer_is : answer ≡ status_of_stop stop
 
-whole_kept : {S : Type 0} {writes : Writes S} {held after : Option Held} {image : List ℕ}
+whole_kept : {S : Type 0} {tells writes : Writes S} {held after : Option Held} {image : List ℕ}
     {stop : Stop End} {c : Config} {old mid new : S} {bytes : List ℕ} {answer : Status}
-    → stop ≡ Asleep → writes old mid (run_text c stop) (Ok tt)
+    → stop ≡ Asleep → tells old mid (run_text c stop) (Ok tt)
     → Keeps writes held after image bytes mid new answer → IsUnfailing answer
-    → WroteAll writes stop c old new answer
-whole_kept {S} {writes} {held} {after} {image} {stop} {c} {old} is wrote (kept put same) none =
-    let P : S → Type 0 = λ s. writes old s (run_text c stop) (Ok tt) in
+    → WroteAll tells stop c old new answer
+whole_kept {S} {tells} {writes} {held} {after} {image} {stop} {c} {old} is wrote (kept put same)
+    none =
+    let P : S → Type 0 = λ s. tells old s (run_text c stop) (Ok tt) in
     record { text = subst P (sym same) wrote; answer_is = sym (ap status_of_stop is) }
 whole_kept is wrote (unkept cause answer other tells) none =
     absurd (free_by cause tells.told (not_put_free other) (subst IsUnfailing tells.is none))
 
-pub wrote_all : {S : Type 0} {writes : Writes S} {held after : Option Held}
+pub wrote_all : {S : Type 0} {tells writes : Writes S} {held after : Option Held}
     {image digest : List ℕ} {stop : Stop End} {c : Config} {old new : S} {answer : Status}
-    → Finishes writes held after image digest stop c old new answer → IsUnfailing answer
-    → WroteAll writes stop c old new answer
+    → Finishes tells writes held after image digest stop c old new answer → IsUnfailing answer
+    → WroteAll tells stop c old new answer
 wrote_all (cut_off fault wrote same) none = absurd (none.sink refl)
 wrote_all (ended other wrote same) none = record { text = wrote; answer_is = refl }
 wrote_all (asleep mid bytes answer is wrote saved keeps) none = whole_kept is wrote keeps none

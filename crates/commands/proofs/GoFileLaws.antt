@@ -25,7 +25,7 @@ use Rattle.command_parts.specs.ValidFile.{IsValidFileOf, IsValidFile}
 use Rattle.command_parts.specs.Put.{NotPut}
 use Rattle.command_parts.specs.Told.{Writes, TellsStop}
 use Rattle.command_parts.proofs.FaultCountLaws.{stop_no_fault, told_other}
-use Rattle.commands.specs.Finishes.{status_of_end, status_of_stop}
+use Rattle.commands.specs.Finishes.{run_text, status_of_end, status_of_stop}
 use Rattle.commands.specs.declared.goes.Prepared.{Prepared}
 use Rattle.command_parts.specs.declared.command.GoWords.{GoWords}
 use Rattle.commands.specs.Lines.{warning_lines}
@@ -33,11 +33,13 @@ use Rattle.commands.specs.Made.{NoSource}
 use Rattle.commands.specs.Goes.{IsGood, NotGood, no_source, no_natives, behind, Prepares, Makes}
 use Rattle.commands.specs.Goes.{Goes}
 use Rattle.commands.specs.Natives.{HasNatives, LacksNatives}
+use Rattle.commands.specs.Played.{trace_of}
 use Rattle.commands.specs.ReadyFile.{wants_memory}
 use Rattle.commands.specs.RunsFile.{RunsFile, stopped, ran}
 use Rattle.commands.proofs.FileLaws.{meant}
 use Rattle.commands.proofs.MadeLaws.{made_valid, only_memory, same_file}
 use Rattle.commands.proofs.FileReadyLaws.{ready_no_fault}
+use Rattle.commands.proofs.UsedLaws.{used_behind}
 
 -- ---- its files
 
@@ -77,32 +79,32 @@ status_no_fault Asleep = λ e. absurd (cc e)
 status_no_fault (Over_by e) = end_no_fault e
 
 module _ {S : Type 0} {writes : Writes S} {old new : S} where
-  pub run_no_fault : (amx : Amx) (script : Script) (steps sleeps : ℕ) (answer : Status)
-      → RunsFile writes amx script steps sleeps old new answer
+  pub run_no_fault : (amx : Amx) (script : Script) (words : GoWords) (answer : Status)
+      → RunsFile writes amx script words old new answer
       → answer ≢ status.FileFault
-  run_no_fault amx script steps sleeps answer (stopped stop none tells) =
+  run_no_fault amx script words answer (stopped stop none tells) =
       stop_no_fault stop answer (ready_no_fault none) tells
-  run_no_fault amx script steps sleeps answer (ran main served tells) =
+  run_no_fault amx script words answer (ran main served tells) =
       λ e. told_other _ tells.told (status_no_fault _) (sym tells.is ∙ e)
 
   -- of bytes that are a valid file
-  pub reads_none : (bytes lent : List ℕ) (script : Script) (steps sleeps : ℕ) (stop : Stop)
+  pub reads_none : (bytes lent : List ℕ) (script : Script) (words : GoWords) (stop : Stop)
       (answer : Status) → lent ≡ bytes → IsValidFileOf lent (Err stop)
       → TellsStop stop writes old new answer → (amx : Amx) → IsValidFile bytes amx
-      → RunsFile writes amx script steps sleeps old new answer
-  reads_none bytes lent script steps sleeps stop answer same none tells amx valid =
+      → RunsFile writes amx script words old new answer
+  reads_none bytes lent script words stop answer same none tells amx valid =
       let P : List ℕ → Type 0 = λ b. IsValidFileOf b (Err stop) in
       let Q : Stop → Type 0 = λ s. TellsStop s writes old new answer in
       stopped NoMemory wants_memory (subst Q (only_memory amx valid stop (subst P same none)) tells)
 
-  pub reads_same : (bytes lent : List ℕ) (script : Script) (steps sleeps : ℕ) (read : Amx)
+  pub reads_same : (bytes lent : List ℕ) (script : Script) (words : GoWords) (read : Amx)
       (answer : Status) → lent ≡ bytes → IsValidFileOf lent (Ok read)
-      → RunsFile writes read script steps sleeps old new answer → (amx : Amx)
+      → RunsFile writes read script words old new answer → (amx : Amx)
       → IsValidFile bytes amx
-      → RunsFile writes amx script steps sleeps old new answer
-  reads_same bytes lent script steps sleeps read answer same valid_read runs amx valid =
+      → RunsFile writes amx script words old new answer
+  reads_same bytes lent script words read answer same valid_read runs amx valid =
       let P : List ℕ → Type 0 = λ b. IsValidFileOf b (Ok read) in
-      let Q : Amx → Type 0 = λ a. RunsFile writes a script steps sleeps old new answer in
+      let Q : Amx → Type 0 = λ a. RunsFile writes a script words old new answer in
       subst Q (same_file amx valid read (subst P same valid_read)) runs
 
   -- ---- the put
@@ -119,8 +121,8 @@ module _ {S : Type 0} {writes : Writes S} {old new : S} where
       (answer : Status) → name ≡ words.amx
       → lent ≡ it.compiled.bytes → after ≡ with_put held name lent
       → ((amx : Amx) → IsValidFile it.compiled.bytes amx
-      → RunsFile (behind (warning_lines it.compiled.warnings) writes) amx it.script words.steps
-      words.sleeps old new answer)
+      → RunsFile (behind (warning_lines it.compiled.warnings) writes) amx it.script words old
+      new answer)
       → Makes writes words it held after old new answer
   makes_put words it held after name lent answer e same kept runs =
       λ amx valid. inr (record {
@@ -158,13 +160,12 @@ module _ {S : Type 0} {writes : Writes S} {old new : S} where
 module _ {S : Type 0} {taken : S → Option (List ℕ)} {faults : S → ℕ} {has_room : S → ℕ → Type 0}
     {old new : S}
     (warnings lent : List Warning) (same : lent ≡ warnings) (script : Script)
-    (steps sleeps : ℕ) where
+    (words : GoWords) where
   -- a file that is run behind them
   pub runs_behind : {mid : S} (amx : Amx) (answer : Status)
       → Said taken faults has_room old mid (warning_lines lent) (Ok tt)
-      → RunsFile (Said taken faults has_room) amx script steps sleeps mid new answer
-      → RunsFile (behind (warning_lines warnings) (Said taken faults has_room)) amx script steps
-      sleeps old new answer
+      → RunsFile (Said taken faults has_room) amx script words mid new answer
+      → RunsFile (behind (warning_lines warnings) (Said taken faults has_room)) amx script words old new answer
   runs_behind amx answer told (stopped stop none tells) =
       let first = said_as (ap warning_lines same) told in
       stopped stop none (record {
@@ -174,17 +175,19 @@ module _ {S : Type 0} {taken : S → Option (List ℕ)} {faults : S → ℕ} {ha
       })
   runs_behind amx answer told (ran main served tells) =
       let first = said_as (ap warning_lines same) told in
+      let t = trace_of amx script words.steps words.sleeps in
       ran main served (record {
         told = tells.told;
-        written = said_then first tells.written;
+        written =
+            used_behind words.count t.steps new (run_text t.config t.stop) tells.told first
+            tells.written;
         is = tells.is;
       })
 
   -- none is run where the sink failed
   pub runs_cut : (amx : Amx) (fault : SinkFault)
       → Said taken faults has_room old new (warning_lines lent) (Err fault)
-      → RunsFile (behind (warning_lines warnings) (Said taken faults has_room)) amx script steps
-      sleeps old new status.SinkFault
+      → RunsFile (behind (warning_lines warnings) (Said taken faults has_room)) amx script words old new status.SinkFault
   runs_cut amx fault told =
       let first = said_as (ap warning_lines same) told in
       stopped NoMemory wants_memory (record {

@@ -19,10 +19,9 @@ use Rattle.commands.specs.PutFile.{Unput}
 use Rattle.commands.specs.Lines.{warning_lines}
 use Rattle.commands.specs.Goes.{Goes, GoesGood, NotGood, RunsPut, behind}
 use Rattle.commands.specs.Natives.{HasNatives}
-use Rattle.commands.specs.Played.{TellsTrace, trace_of}
 use Rattle.commands.specs.ReadyFile.{NotReady, no_main, no_native, wants_memory}
 use Rattle.commands.specs.Served.{AreServed, unregistered, no_memory}
-use Rattle.commands.specs.RunsFile.{RunsFile, stopped, ran}
+use Rattle.commands.specs.RunsFile.{RunsFile, TellsRun, stopped, ran}
 use Rattle.commands.proofs.FileLaws.{main_address}
 use Rattle.commands.specs.Good.{IsFree}
 use Rattle.commands.specs.GoodGo.{IsServedSource, IsGone, GoodIsGone}
@@ -50,13 +49,13 @@ only_memory amx script stop main served (no_native cause there no_memory) = refl
 only_memory amx script stop main served wants_memory = refl
 
 module _ {S : Type 0} (writes : Writes S) (old new : S) (answer : Status) where
-  runs : (amx : Amx) (script : Script) (steps sleeps : ℕ) → address_of amx Main ≡ Some amx.entry
+  runs : (amx : Amx) (script : Script) (words : GoWords) → address_of amx Main ≡ Some amx.entry
       → AreServed amx script
-      → RunsFile writes amx script steps sleeps old new answer
+      → RunsFile writes amx script words old new answer
       → TellsStop NoMemory writes old new answer
-      ⊎ TellsTrace (trace_of amx script steps sleeps) writes old new answer
-  runs amx script steps sleeps main served (ran there has tells) = inr tells
-  runs amx script steps sleeps main served (stopped stop none tells) =
+      ⊎ TellsRun writes amx script words old new answer
+  runs amx script words main served (ran there has tells) = inr tells
+  runs amx script words main served (stopped stop none tells) =
       let P : Stop → Type 0 = λ s. TellsStop s writes old new answer in
       inl (subst P (only_memory amx script stop main served none) tells)
 
@@ -93,7 +92,7 @@ module _ {S : Type 0} (writes : Writes S) (old new : S) (answer : Status) (map :
         comes = inr (
           is.kept,
           runs (behind (warning_lines it.prepared.compiled.warnings) writes) old new answer has.amx
-              it.prepared.script words.steps words.sleeps
+              it.prepared.script words
               (main_address made.program has.amx has.agrees source.main entry) served is.runs,
         );
       }

@@ -24,8 +24,8 @@ pub mod SampleLaws
 pub mod SegmentFinishLaws
 pub mod SegmentReadyLaws
 pub mod ServedNativeLaws
-pub mod SessionFinishLaws
 pub mod SourceGoLaws
 pub mod SourceStopLaws
 pub mod StartLaws
 pub mod UsageLaws
+pub mod UsedLaws

@@ -1,10 +1,8 @@
 -- A machine that is ready, its start, and the trace from there on.
-use Rattle.std.proofs.Common.{◌≡◌, ◌∙◌, ℕ, ℤ, pos, negsuc, [], Option, None, Some, Err, replicate}
+use Rattle.std.proofs.Common.{◌≡◌, ◌∙◌, ℕ, pos, negsuc, [], Option, None, Some, Err, replicate}
 use Rattle.std.proofs.Common.{option_and_then, refl, sym, ap, subst}
 use Rattle.host_script.specs.declared.script.Script.{Script}
 use Rattle.host_script.specs.declared.event.End.{End}
-use Rattle.host_script.specs.declared.event.End.TheVariants as end
-use Rattle.host_script.specs.Text.{end_text}
 use Rattle.amx_ops.specs.declared.amx.Amx.{Amx}
 use Rattle.amx_ops.specs.State.{State}
 use Rattle.amx_ops.specs.Moves.{Config}
@@ -16,11 +14,8 @@ use Rattle.amx_machine.specs.declared.mode.Mode.TheVariants as mode
 use Rattle.amx_machine.specs.declared.start.StartFault.{StartFault}
 use Rattle.amx_machine.specs.declared.start.StartFault.TheVariants as fault
 use Rattle.host_run.specs.Stands.{IsAwake}
-use Rattle.command_parts.specs.declared.status.Status.{Status}
-use Rattle.command_parts.specs.declared.status.Status.TheVariants as status
-use Rattle.command_parts.specs.Told.{Told, Writes, status_told}
 use Rattle.host_run.specs.Trace.{trace_on}
-use Rattle.commands.specs.Played.{trace_of, TellsTrace}
+use Rattle.commands.specs.Played.{trace_of}
 
 pub idle : (m : Machine) → m ≡ first m.amx → IsIdle m.mode
 idle m is = let P : Machine → Type 0 = λ it. IsIdle it.mode in subst P (sym is) tt
@@ -52,7 +47,7 @@ module _ (old : Machine) (is_first : old ≡ first old.amx)
         subst P (sym same) (ap by (sym at_main ∙ e))
 
     -- without a start it is error 3
-    fails : started old (negsuc 0) [] ≡ None → trace_of old.amx script steps sleeps ≡ by None
+    pub fails : started old (negsuc 0) [] ≡ None → trace_of old.amx script steps sleeps ≡ by None
     fails e = ap by (sym at_main ∙ e)
 
     pub no_room : (f : StartFault) (new : Machine)
@@ -60,16 +55,3 @@ module _ (old : Machine) (is_first : old ≡ first old.amx)
         → (started old (negsuc 0) [] ≡ None) × (error_of f ≡ pos 3)
     no_room fault.Index new it = absurd (cc (main, it.0))
     no_room fault.Stack new it = (it.1, refl)
-
-    pub tells_at_once : {S : Type 0} {writes : Writes S} {begun out : S} (f : StartFault)
-        (new : Machine) (code : ℤ) (told : Told) (answer : Status)
-        → StartsSo {T = Unit {0}} old (negsuc 0) [] (Err f) new → code ≡ error_of f
-        → writes begun out (end_text (end.Error code)) told
-        → answer ≡ status_told status.Ended told
-        → TellsTrace (trace_of old.amx script steps sleeps) writes begun out answer
-    tells_at_once {S} {writes} {begun} {out} f new code told answer failed is line e =
-        let none = no_room f new failed in
-        let P : ℤ → Type 0 = λ z. writes begun out (end_text (end.Error z)) told in
-        let Q : Traced Config End → Type 0 = λ t. TellsTrace t writes begun out answer in
-        subst Q (sym (fails none.0)) (record
-        { told = told; written = subst P (is ∙ none.1) line; is = e })

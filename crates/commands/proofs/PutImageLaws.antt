@@ -1,7 +1,8 @@
 -- An image that a command put is taken by the next `resume`.
-use Rattle.std.proofs.Common.{◌≡◌, ◌⊎◌, ◌∙◌, ◌+◌, ◌-◌, ◌*◌, ◌/◌, ◌≤◌, ◌++◌, inl, inr, ℕ, ℤ, List, []}
-use Rattle.std.proofs.Common.{Option, None, Some, Ok, Err, length, take, drop, replicate, option_and_then}
-use Rattle.std.proofs.Common.{refl, pos, sym, ap, subst, arith, length-append, length-drop}
+use Rattle.std.proofs.Common.{◌≡◌, ◌∙◌, ◌+◌, ◌-◌, ◌*◌, ◌/◌, ◌≤◌, inl, inr, ℕ, ℤ, List, []}
+use Rattle.std.proofs.Common.{Option, None, Some, Ok, Err, length, take, drop, replicate}
+use Rattle.std.proofs.Common.{option_and_then, refl, pos, sym, ap, subst, arith, length-append}
+use Rattle.std.proofs.Common.{length-drop}
 use Rattle.std.proofs.lemmas.List.{length-take, length-replicate}
 use Rattle.std.proofs.lemmas.List.Elements.{All-nil}
 use Rattle.std.specs.FinMap.{get, insert}
@@ -12,11 +13,11 @@ use Rattle.host_script.specs.declared.script.Script.{Script}
 use Rattle.host_script.specs.declared.event.End.{End}
 use Rattle.amx_ops.specs.declared.amx.Amx.{Amx}
 use Rattle.amx_ops.specs.Keeps.{IsRunnable}
-use Rattle.amx_ops.specs.Moves.{Config, move}
+use Rattle.amx_ops.specs.Moves.{Config}
 use Rattle.amx_ops.specs.Runs.{Stop, Asleep, Traced}
 use Rattle.amx_ops.specs.State.{State}
 use Rattle.amx_ops.specs.States.{IsState, IsRestorable}
-use Rattle.amx_ops.specs.Trace.{Entry, address_of, loaded, start_at, begun, trace_by}
+use Rattle.amx_ops.specs.Trace.{address_of, loaded, start_at, begun, trace_by}
 use Rattle.amx_ops.specs.Writable.{memory_limit}
 use Rattle.amx_ops.proofs.KeepsLaws.{keeps_states}
 use Rattle.amx_step.specs.Machine.{cell_count}
@@ -24,11 +25,10 @@ use Rattle.amx_format.specs.Limits.{IsWithinLimits}
 use Rattle.amx_image.specs.declared.version.Version.TheVariants.{Live}
 use Rattle.amx_image.specs.Image.{IsImage, stored}
 use Rattle.script_reader.proofs.RangeLaws.{read_is_script}
-use Rattle.run_laws.specs.RestorableSleeps.{segment_of, FallsAsleep, IsAtEnd}
+use Rattle.run_laws.specs.RestorableSleeps.{segment_of, FallsAsleep}
 use Rattle.run_laws.proofs.SizeLaws.{segment_sized}
 use Rattle.run_laws.proofs.SleepLaws.{sleeps_are_restorable_lem}
 use Rattle.command_parts.specs.declared.program.Program.{Program}
-use Rattle.command_parts.specs.declared.status.Status.{Status}
 use Rattle.command_parts.specs.declared.status.Status.TheVariants as status
 use Rattle.command_parts.specs.Program.{IsProgram}
 use Rattle.command_parts.specs.ScriptFile.{IsScriptOf}
@@ -40,7 +40,7 @@ use Rattle.commands.specs.Prepared.{IsServed}
 use Rattle.commands.specs.PutIsResumed.{GoesOnBehind, PutIsResumed}
 use Rattle.commands.specs.Resumes.{GoesOn, Resumes, ResumesProgram, ResumesImage, ResumesState}
 use Rattle.commands.specs.Restored.{IsImageOf}
-use Rattle.commands.specs.Runs.{IsStopped, Runs, RunsEntry, RunsProgram, program_trace}
+use Rattle.commands.specs.Runs.{Runs, RunsEntry, RunsProgram, program_trace}
 use Rattle.commands.proofs.DoneLaws.{good_is_resumed}
 use Rattle.commands.proofs.FallLaws.{Fell, fell, stop_not_asleep}
 use Rattle.commands.proofs.GoodLaws.{same, same_bytes}

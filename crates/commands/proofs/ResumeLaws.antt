@@ -4,6 +4,7 @@ use Rattle.std.proofs.Common.{length, refl, sym, ap, subst, arith}
 use Rattle.pawn_outside.specs.Held.{Held, Tells}
 use Rattle.host_script.specs.declared.event.End.{End}
 use Rattle.host_script.specs.Ranges.{IsScript}
+use Rattle.host_script.specs.declared.script.Script.{Script}
 use Rattle.amx_ops.specs.declared.amx.Amx.{Amx}
 use Rattle.amx_ops.specs.Keeps.{IsRunnable}
 use Rattle.amx_ops.specs.State.{State}
@@ -28,7 +29,7 @@ use Rattle.command_parts.specs.Program.{IsProgram, NoProgram}
 use Rattle.command_parts.specs.Told.{Writes, TellsStop}
 use Rattle.commands.specs.declared.ready_segment.ReadySegment.{ReadySegment}
 use Rattle.commands.specs.Finishes.{Finishes}
-use Rattle.commands.specs.Prepared.{CanRun, HasAll}
+use Rattle.commands.specs.Prepared.{CanRun, HasAll, Unserved}
 use Rattle.commands.specs.ReadySegment.{IsReadySegment, place_of}
 use Rattle.commands.specs.declared.resumes.TheConstants.{IMAGE_LIMIT}
 use Rattle.command_parts.specs.declared.command.ResumeWords.{ResumeWords}
@@ -36,6 +37,7 @@ use Rattle.commands.specs.Restored.{IsImageOf, IsRestored}
 use Rattle.commands.specs.Resumes.{segment_from, ResumesState, ResumesImage, ResumesProgram}
 use Rattle.commands.specs.Resumes.{Resumes, wants_memory}
 use Rattle.commands.specs.declared.wake.WakeFault.TheVariants as wake
+use Rattle.commands.specs.Used.{with_used}
 use Rattle.commands.specs.Wakes.{NotWoken}
 use Rattle.commands.proofs.PreparedLaws.{unserved_no_fault}
 
@@ -47,7 +49,7 @@ module _ (program : Program) (m : Machine) (position : ℕ) (ready : ReadySegmen
   state_is : ready.machine.state ≡ m.state
   state_is = ap (λ (it : Machine). it.state) has.machine
 
-  pub is_ready : CanRun program.file → IsScript program.script → IsReadySegment program ready
+  pub is_ready : CanRun program.file → IsScript program.script → IsReadySegment ready
   is_ready can script =
       let size : length ready.machine.state.cells ≡ length m.state.cells =
       ap (λ (s : State). length s.cells) state_is in
@@ -55,8 +57,10 @@ module _ (program : Program) (m : Machine) (position : ℕ) (ready : ReadySegmen
       record {
         awake =
             subst IsAwake (sym (ap (λ (it : Machine). it.mode) has.machine ∙ restored.sleeps)) tt;
-        script = script;
-        bound = has.bound ∙ ap (λ (amx : Amx). bound_of program.script amx.natives) (sym file_is);
+        script = subst IsScript (sym has.script) script;
+        bound =
+            has.bound ∙ ap (λ (amx : Amx). bound_of program.script amx.natives) (sym file_is)
+            ∙ ap (λ script. bound_of script ready.machine.amx.natives) (sym has.script);
         runnable = subst IsRunnable (sym file_is) can.runnable;
         state =
             subst (λ s. IsState ready.machine.amx s) (sym state_is)
@@ -73,6 +77,18 @@ module _ (program : Program) (m : Machine) (position : ℕ) (ready : ReadySegmen
       ∙ ap (λ s. segment (move program.file program.script) bound 0 (from s ready.at)) state_is
       ∙ ap (λ p. segment (move program.file program.script) bound 0 (from m.state p))
       has.position_is
+
+-- what is ready for a machine of the file is ready for the program
+module _ (program : Program) (m : Machine) (file : m.amx ≡ program.file) where
+  abbrev with_file : Amx → Program
+  with_file amx = record { file = amx; digest = program.digest; script = program.script }
+
+  pub has_all : {position : ℕ} {ready : ReadySegment} → HasAll (with_file m.amx) m position ready
+      → HasAll program m position ready
+  has_all {position} {ready} has = subst (λ amx. HasAll (with_file amx) m position ready) file has
+
+  pub unserved : {stop : Stop} → Unserved (with_file m.amx) stop → Unserved program stop
+  unserved {stop} none = subst (λ amx. Unserved (with_file amx) stop) file none
 
 -- what bytes are for a machine that was loaded they are for its file
 pub image_of : (program : Program) {bytes : List ℕ} {m : Machine} {s : State} {position : ℕ}
@@ -111,22 +127,32 @@ module _ {S : Type 0} {writes : Writes S} {old new : S} where
       (ready : ReadySegment) (image : List ℕ) (held after : Option Held)
       (answer : Status) → IsRunnable program.file → HasAll program m position ready
       → IsRestored program.file m → image ≡ words.image
-      → (let made = segment_of program.script (place_of ready) words.steps in
-      Finishes writes held after image program.digest made.stop made.config old new answer)
+      → (let made = segment_of ready.script (place_of ready) words.steps in
+      Finishes (with_used words.count made.steps writes) writes held after image ready.digest
+      made.stop made.config old new answer)
       → ResumesState writes program words m.state position held after old new answer
   goes_on program words m position ready image held after answer runs has restored named it =
       let P : Segmented Config End → Type 0 =
-      λ made. Finishes writes held after words.image program.digest made.stop
-      made.config old new answer in
+      λ made. Finishes (with_used words.count made.steps writes) writes held after words.image
+      program.digest made.stop made.config old new answer in
       let Q : List ℕ → Type 0 = λ i.
       (let made = segment_of program.script (place_of ready) words.steps in
-      Finishes writes held after i program.digest made.stop made.config old new answer) in
+      Finishes (with_used words.count made.steps writes) writes held after i program.digest
+      made.stop made.config old new answer) in
+      let R : Script → Type 0 = λ script.
+      (let made = segment_of script (place_of ready) words.steps in
+      Finishes (with_used words.count made.steps writes) writes held after image ready.digest
+      made.stop made.config old new answer) in
+      let D : List ℕ → Type 0 = λ digest.
+      (let made = segment_of program.script (place_of ready) words.steps in
+      Finishes (with_used words.count made.steps writes) writes held after image digest made.stop
+      made.config old new answer) in
       inr (record {
         runnable = runs;
         served = has.served;
         finishes =
             subst P (segment_is program m position ready has restored words.steps)
-            (subst Q named it);
+            (subst Q named (subst D has.digest (subst R has.script it)));
       })
 
   -- it isn't woken, and the line of the stop is told

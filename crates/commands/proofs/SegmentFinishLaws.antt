@@ -1,94 +1,73 @@
--- A segment that was written ends the command: by its end, at its bound, at a sleep, or cut off by
--- the sink.
-use Rattle.std.proofs.Common.{◌≡◌, ◌≢◌, ◌∙◌, ◌++◌, ℕ, List, [], Option, Ok, Err, codes, refl, sym}
-use Rattle.std.proofs.Common.{ap, subst, append-nil}
+-- A trace that is told ends the command: at a sleep with its image behind it, or else at once.
+use Rattle.std.proofs.Common.{◌≡◌, ◌≢◌, ◌∙◌, ℕ, List, Option, Ok, Err, refl, sym, ap, subst}
 use Rattle.pawn_outside.specs.Held.{Held}
-use Rattle.pawn_outside.specs.Said.{Said}
-use Rattle.pawn_outside.specs.declared.fault.SinkFault.{SinkFault}
-use Rattle.pawn_outside.proofs.SaidLaws.{said_as, said_then, said_cut}
-use Rattle.host_script.specs.Text.{end_text}
 use Rattle.host_script.specs.declared.event.End.{End}
 use Rattle.amx_ops.specs.Moves.{Config}
-use Rattle.amx_ops.specs.Runs.{Stop, Steps, Asleep, Over_by, Segmented}
-use Rattle.host_run.specs.Segments.{lines_of, text_of}
-use Rattle.host_run.specs.Segments as host
+use Rattle.amx_ops.specs.Runs.{Stop, Steps, Asleep, Over_by, Traced}
 use Rattle.amx_image.specs.declared.version.Version.TheVariants.{Live}
 use Rattle.amx_image.specs.Image.{IsImage}
 use Rattle.command_parts.specs.declared.status.Status.{Status}
 use Rattle.command_parts.specs.declared.status.Status.TheVariants as status
+use Rattle.command_parts.specs.Told.{Told, Writes, status_told}
 use Rattle.commands.specs.Finishes.{Finishes, cut_off, ended, asleep, Keeps, run_text}
-use Rattle.commands.specs.Finishes.{status_of_end, status_of_stop}
-use Rattle.command_parts.specs.Told.{Told, status_told}
+use Rattle.commands.specs.Finishes.{status_of_stop}
+use Rattle.commands.specs.Played.{TellsTrace}
+use Rattle.commands.proofs.FallLaws.{end_awake}
 
--- ---- its text
+-- only a sleep that was told has its status
+asleep_by : (told : Told) (stop : Stop End) → status.Asleep ≡ status_told (status_of_stop stop) told
+    → stop ≡ Asleep
+asleep_by (Ok done) Steps e = absurd (cc e)
+asleep_by (Ok done) Asleep e = refl
+asleep_by (Ok done) (Over_by x) e = absurd (end_awake x (sym e))
+asleep_by (Err fault) stop e = absurd (cc e)
 
--- what follows the text of a segment
-abbrev rest : Stop End → List ℕ
-rest Steps = codes "steps\n"
-rest Asleep = []
-rest (Over_by e) = []
+pub ended_awake : (told : Told) → status_told status.Ended told ≢ status.Asleep
+ended_awake (Ok done) = λ e. absurd (cc e)
+ended_awake (Err fault) = λ e. absurd (cc e)
 
-whole_text : (c : Config) (stop : Stop End)
-    → (lines_of c.events ++ host.stop_text stop) ++ rest stop ≡ run_text c stop
-whole_text c Steps = ap (λ text. text ++ codes "steps\n") (append-nil (lines_of c.events))
-whole_text c Asleep = append-nil (lines_of c.events ++ [])
-whole_text c (Over_by e) = append-nil (lines_of c.events ++ end_text e)
+module _ {S : Type 0} (tells : Writes S) (t : Traced Config End) where
+  -- it stopped asleep
+  pub stops_asleep : {old new : S} → TellsTrace t tells old new status.Asleep → t.stop ≡ Asleep
+  stops_asleep it = asleep_by it.told t.stop it.is
 
-all_text : (c : Config) (stop : Stop End) → stop ≢ Steps
-    → lines_of c.events ++ host.stop_text stop ≡ run_text c stop
-all_text c Steps h = absurd (h refl)
-all_text c Asleep h = refl
-all_text c (Over_by e) h = refl
+  module _ {old new : S} where
+    whole_by : (told : Told) → status.Asleep ≡ status_told (status_of_stop t.stop) told
+        → tells old new (run_text t.config t.stop) told
+        → tells old new (run_text t.config t.stop) (Ok tt)
+    whole_by (Ok done) e written = written
+    whole_by (Err fault) e written = absurd (cc e)
 
--- ---- its end
+    -- and its text was written whole
+    pub wrote_asleep : TellsTrace t tells old new status.Asleep
+        → tells old new (run_text t.config t.stop) (Ok tt)
+    wrote_asleep it = whole_by it.told it.is it.written
 
-module _ {S : Type 0} (taken : S → Option (List ℕ)) (faults : S → ℕ) (has_room : S → ℕ → Type 0)
-    (held after : Option Held)
-    (image digest : List ℕ) (made : Segmented Config End) where
+module _ {S : Type 0} (tells writes : Writes S) (held after : Option Held)
+    (image digest : List ℕ) (t : Traced Config End) where
   abbrev IsFinish : S → S → Status → Type 0
   IsFinish old new answer =
-      Finishes (Said taken faults has_room) held after image digest made.stop made.config old
-      new answer
+      Finishes tells writes held after image digest t.stop t.config old new answer
 
-  pub over : {old new : S} (e : End) (answer : Status) → made.stop ≡ Over_by e
-      → status_of_end e ≡ answer
-      → Said taken faults has_room old new (text_of made) (Ok tt) → after ≡ held
-      → IsFinish old new answer
-  over {old} {new} e answer is same said kept =
-      subst (IsFinish old new) (ap status_of_stop is ∙ same)
-      (ended (λ f. absurd (cc (is, f)))
-      (said_as (all_text made.config made.stop (λ f. absurd (cc (is, f)))) said) kept)
+  ends_by : {old new : S} (told : Told) (answer : Status)
+      → tells old new (run_text t.config t.stop) told
+      → answer ≡ status_told (status_of_stop t.stop) told → answer ≢ status.Asleep
+      → after ≡ held → IsFinish old new answer
+  ends_by {old} {new} (Ok done) answer written is other kept =
+      subst (IsFinish old new) (sym is)
+      (ended (λ e. other (is ∙ ap status_of_stop e)) written kept)
+  ends_by {old} {new} (Err fault) answer written is other kept =
+      subst (IsFinish old new) (sym is) (cut_off fault written kept)
 
-  pub cut : {old new : S} (fault : SinkFault)
-      → Said taken faults has_room old new (text_of made) (Err fault) → after ≡ held
-      → IsFinish old new status.SinkFault
-  cut fault said kept =
-      cut_off fault (said_as (whole_text made.config made.stop)
-      (said_cut (rest made.stop) (Err fault) refl said)) kept
+  -- any status but that of a sleep
+  pub ends : {old new : S} (answer : Status) → TellsTrace t tells old new answer
+      → answer ≢ status.Asleep → after ≡ held → IsFinish old new answer
+  ends answer it other kept = ends_by it.told answer it.written it.is other kept
 
-  pub steps : {old mid new : S} (told : Told) (answer : Status) → made.stop ≡ Steps
-      → answer ≡ status_told status.Steps told
-      → Said taken faults has_room old mid (text_of made) (Ok tt)
-      → Said taken faults has_room mid new (codes "steps\n") told → after ≡ held
-      → IsFinish old new answer
-  steps {old} {mid} {new} told answer is same said line kept =
-      let text =
-      ap (λ more. text_of made ++ more) (sym (ap rest is))
-      ∙ whole_text made.config made.stop in
-      by told same (said_as text (said_then said line)) where
-        by : (told : Told) → answer ≡ status_told status.Steps told
-            → Said taken faults has_room old new (run_text made.config made.stop) told
-            → IsFinish old new answer
-        by (Ok done) e whole =
-            subst (IsFinish old new) (ap status_of_stop is ∙ sym e)
-            (ended (λ f. absurd (cc (is, f))) whole kept)
-        by (Err fault) e whole = subst (IsFinish old new) (sym e) (cut_off fault whole kept)
-
-  pub sleeps : {old mid new : S} (bytes : List ℕ) (answer : Status) → made.stop ≡ Asleep
-      → Said taken faults has_room old mid (text_of made) (Ok tt)
-      → IsImage Live made.config.state made.config.position digest bytes
-      → Keeps (Said taken faults has_room) held after image bytes mid new answer
-      → IsFinish old new answer
-  sleeps {old} {mid} bytes answer is said saved keeps =
-      asleep mid bytes answer is (said_as
-      (all_text made.config made.stop (λ f. absurd (cc (is, f)))) said) saved keeps
+  -- or a sleep, behind which the image is kept or not
+  pub sleeps : {old mid new : S} (bytes : List ℕ) (answer : Status)
+      → TellsTrace t tells old mid status.Asleep
+      → IsImage Live t.config.state t.config.position digest bytes
+      → Keeps writes held after image bytes mid new answer → IsFinish old new answer
+  sleeps {old} {mid} bytes answer it saved keeps =
+      asleep mid bytes answer (stops_asleep tells t it) (wrote_asleep tells t it) saved keeps

@@ -91,16 +91,17 @@ module _ (program : Program) (ready : ReadySegment) (prepared : IsPrepared progr
 
   pub is_ready : (address : ℤ) → start_at ready.machine.amx address [] ready.machine.state
       ≡ Some m.state → IsState program.file m.state
-      → IsReadySegment program (record ready { machine = m })
+      → IsReadySegment (record ready { machine = m })
   is_ready address started state =
       let size = started_sized ready.machine.amx address ready.machine.state m.state started in
       let room = prepared.room in
       let loaded = ap (λ (it : Machine). length it.state.cells) prepared.machine in
       record {
         awake = subst IsAwake (sym running) tt;
-        script = script;
+        script = subst IsScript (sym prepared.script) script;
         bound =
-            prepared.bound ∙ ap (λ (amx : Amx). bound_of program.script amx.natives) (sym file_is);
+            prepared.bound ∙ ap (λ (amx : Amx). bound_of program.script amx.natives) (sym file_is)
+            ∙ ap (λ script. bound_of script m.amx.natives) (sym prepared.script);
         runnable = subst IsRunnable (sym file_is) can.runnable;
         state = subst (λ amx. IsState amx m.state) (sym file_is) state;
         room = omega (arith, size, loaded, room);

@@ -1,13 +1,14 @@
 -- A start, and the trace from there.
-use Rattle.std.proofs.Common.{◌≡◌, ◌∙◌, ℕ, ℤ, pos, List, [], Option, None, Some, Ok, Err}
+use Rattle.std.proofs.Common.{◌≡◌, ◌≢◌, ◌∙◌, ℕ, ℤ, pos, List, [], Bool, Option, None, Some, Ok, Err}
 use Rattle.std.proofs.Common.{option_and_then, refl, sym, ap, subst}
 use Rattle.pawn_outside.specs.Held.{Held}
+use Rattle.pawn_outside.specs.Said.{Said}
 use Rattle.host_script.specs.declared.event.End.{End}
 use Rattle.host_script.specs.declared.event.End.TheVariants as end
 use Rattle.host_script.specs.Text.{end_text}
 use Rattle.amx_ops.specs.State.{State}
 use Rattle.amx_ops.specs.Moves.{Config, move}
-use Rattle.amx_ops.specs.Runs.{Stop, Segmented, Traced, Over_by, segment}
+use Rattle.amx_ops.specs.Runs.{Segmented, Traced, segment, traced}
 use Rattle.amx_ops.specs.Trace.{start_at, loaded, begun, trace_by}
 use Rattle.amx_machine.specs.Machine.{Machine}
 use Rattle.amx_machine.specs.Starts.{StartsSo, address_by, started, error_of}
@@ -18,15 +19,22 @@ use Rattle.command_parts.specs.declared.status.Status.TheVariants as status
 use Rattle.command_parts.specs.declared.program.Program.{Program}
 use Rattle.host_script.specs.Ranges.{IsScript}
 use Rattle.host_run.specs.Segments.{segment_of}
+use Rattle.host_run.specs.Session.{told}
+use Rattle.host_run.specs.declared.end.SessionEnd.{SessionEnd}
 use Rattle.commands.specs.declared.ready_segment.ReadySegment.{ReadySegment}
 use Rattle.command_parts.specs.declared.command.RunWords.{RunWords}
 use Rattle.commands.specs.Entry.{IsEntryOf}
-use Rattle.commands.specs.Finishes.{Finishes, ended, cut_off}
+use Rattle.commands.specs.Counted.{IsErrorTold, RunsTrace}
+use Rattle.commands.specs.Finishes.{Finishes}
+use Rattle.commands.specs.Played.{TellsTrace}
 use Rattle.commands.specs.Prepared.{CanRun, IsPrepared}
 use Rattle.commands.specs.ReadySegment.{IsReadySegment}
 use Rattle.commands.specs.Runs.{RunsEntry, program_trace}
-use Rattle.command_parts.specs.Told.{Told, Writes, status_told}
+use Rattle.commands.specs.Used.{with_used}
+use Rattle.command_parts.specs.Told.{Writes}
+use Rattle.commands.proofs.CountedLaws.{error_runs}
 use Rattle.commands.proofs.EntryLaws.{started_is}
+use Rattle.commands.proofs.SegmentFinishLaws.{ended_awake, ends}
 use Rattle.commands.proofs.SegmentReadyLaws.{is_ready}
 
 module _ (m : Machine) (number : ℤ) (address : ℤ)
@@ -46,57 +54,37 @@ module _ (m : Machine) (number : ℤ) (address : ℤ)
   no_room T fault.Stack new it = (sym at_address ∙ it.1, refl)
 
 module _ {S : Type 0} (writes : Writes S) (held : Option Held) (image : List ℕ) (program : Program)
-    (address : ℤ) (bound : ℕ) (old new : S) where
+    (address : ℤ) (count : Bool) (bound : ℕ) (old new : S) where
   abbrev idle : State
   idle = loaded program.file program.file.room
 
   abbrev traced_by : Option State → Traced Config End
   traced_by o = trace_by program.file program.script idle o bound []
 
-  abbrev IsFinish : Option Held → Stop End → Config → Status → Type 0
-  IsFinish after stop c answer =
-      Finishes writes held after image program.digest stop c old new answer
+  abbrev IsFinish : Option Held → Traced Config End → Status → Type 0
+  IsFinish after t answer =
+      Finishes (with_used count t.steps writes) writes held after image program.digest t.stop
+      t.config old new answer
 
   -- it ends in error 3, where nothing was shown
-  ends_by : (o : Option State) (told : Told) (answer : Status) → o ≡ None
-      → writes old new (end_text (end.Error (pos 3))) told
-      → answer ≡ status_told status.Ended told
-      → IsFinish held (traced_by o).stop (traced_by o).config answer
-  ends_by None (Ok done) answer e line is =
-      let P : Status → Type 0 = IsFinish held (Over_by (end.Error (pos 3))) (begun idle) in
-      subst P (sym is) (ended (λ f. absurd (cc f)) line refl)
-  ends_by None (Err fault) answer e line is =
-      let P : Status → Type 0 = IsFinish held (Over_by (end.Error (pos 3))) (begun idle) in
-      subst P (sym is) (cut_off fault line refl)
-  ends_by (Some s) told answer e line is = absurd (cc e)
-
-  pub ends_at_once : (told : Told) (answer : Status) → start_at program.file address [] idle ≡ None
-      → writes old new (end_text (end.Error (pos 3))) told → answer ≡ status_told status.Ended told
-      → (let trace = program_trace program address bound in IsFinish held trace.stop
-      trace.config answer)
-  ends_at_once told answer e line is =
-      ends_by (start_at program.file address [] idle) told answer e line is
+  pub ends_at_once : (answer : Status) → start_at program.file address [] idle ≡ None
+      → TellsTrace (traced_by None) (with_used count 0 writes) old new answer
+      → IsFinish held (program_trace program address bound) answer
+  ends_at_once answer e tells =
+      let other : answer ≢ status.Asleep = λ f. ended_awake tells.told (sym tells.is ∙ f) in
+      subst (λ o. IsFinish held (traced_by o) answer) (sym e)
+      (ends (with_used count 0 writes) writes held held image program.digest (traced_by None) answer
+      tells other refl)
 
   -- or as its segment does
   abbrev made : State → Segmented Config End
   made s = segment (move program.file program.script) bound 0 (begun s)
 
-  segment_by : (o : Option State) (after : Option Held) (answer : Status) (s : State) → o ≡ Some s
-      → IsFinish after (made s).stop (made s).config answer
-      → IsFinish after (traced_by o).stop (traced_by o).config answer
-  segment_by None after answer s e it = absurd (cc e)
-  segment_by (Some t) after answer s e it =
-      let same : t ≡ s = cc e in
-      let P : State → Type 0 = λ u. IsFinish after (made u).stop (made u).config answer in
-      subst P (sym same) it
-
   pub ends_so : (after : Option Held) (answer : Status) (s : State)
       → start_at program.file address [] idle ≡ Some s
-      → IsFinish after (made s).stop (made s).config answer
-      → (let trace = program_trace program address bound in IsFinish after trace.stop
-      trace.config answer)
-  ends_so after answer s e it =
-      segment_by (start_at program.file address [] idle) after answer s e it
+      → IsFinish after (traced bound (made s)) answer
+      → IsFinish after (program_trace program address bound) answer
+  ends_so after answer s e it = subst (λ o. IsFinish after (traced_by o) answer) (sym e) it
 
 -- ---- a machine of a program
 
@@ -116,7 +104,7 @@ module _ (program : Program) (ready : ReadySegment) (name : List ℕ) (number : 
     from_there = starts_there ready.machine number there.0 at_there (Unit {0}) tt m begins
 
     pub ready_at : CanRun program.file → IsScript program.script
-        → IsReadySegment program (record ready { machine = m })
+        → IsReadySegment (record ready { machine = m })
     ready_at can script =
         let state =
         started_is program.file (loaded program.file program.file.room) m.state there.0
@@ -142,7 +130,7 @@ pub ready_there : (program : Program) (ready : ReadySegment) (name : List ℕ) (
     → IsPrepared program ready → CanRun program.file
     → IsScript program.script → IsEntryOf program.file name (Some number) → (m : Machine)
     → StartsSo {T = Unit {0}} ready.machine number [] (Ok tt) m
-    → IsReadySegment program (record ready { machine = m })
+    → IsReadySegment (record ready { machine = m })
 ready_there program ready name number prepared can script there m begins =
     ready_at program ready name number prepared there m begins can script
 
@@ -155,17 +143,19 @@ pub finishes_there : {S : Type 0} (writes : Writes S) (program : Program) (ready
     →
     (let made = segment_of program.script (record { machine = m; position = ready.at })
     words.steps in
-    Finishes writes held after image program.digest made.stop made.config old new answer)
+    Finishes (with_used words.count made.steps writes) writes held after image program.digest
+    made.stop made.config old new answer)
     → RunsEntry writes program words held after old new answer
-finishes_there writes program ready words number can prepared there m begins image named held after old
-    new answer it =
+finishes_there writes program ready words number can prepared there m begins image named held after
+    old new answer it =
     let P : Segmented Config End → Type 0 =
-    λ made. Finishes writes held after words.image program.digest made.stop made.config
-    old new answer in
+    λ made. Finishes (with_used words.count made.steps writes) writes held after words.image
+    program.digest made.stop made.config old new answer in
     let Q : List ℕ → Type 0 = λ i.
     (let made = segment_of program.script (record { machine = m; position = ready.at })
     words.steps in
-    Finishes writes held after i program.digest made.stop made.config old new answer) in
+    Finishes (with_used words.count made.steps writes) writes held after i program.digest
+    made.stop made.config old new answer) in
     let same =
     segment_is program ready words.entry number prepared there m begins words.steps in
     record {
@@ -174,36 +164,46 @@ finishes_there writes program ready words number can prepared there m begins ima
       entry = there.1;
       served = prepared.served;
       finishes =
-          ends_so writes held words.image program there.0 words.steps old new after
+          ends_so writes held words.image program there.0 words.count words.steps old new after
           answer m.state
           (start_is program ready words.entry number prepared there m begins)
           (subst P same (subst Q named it));
     }
 
-pub finishes_at_once : {S : Type 0} (writes : Writes S) (program : Program) (ready : ReadySegment)
-    (words : RunWords) (number : ℤ)
+-- without room it is error 3
+module _ (program : Program) (ready : ReadySegment) (words : RunWords) (number : ℤ)
     (can : CanRun program.file) (prepared : IsPrepared program ready)
-    (there : IsEntryOf program.file words.entry (Some number)) (f : StartFault)
-    (m : Machine)
-    → StartsSo {T = Unit {0}} ready.machine number [] (Err f) m → (code : ℤ) → code ≡ error_of f
-    → (held : Option Held) (old new : S) (told : Told)
-    (answer : Status) → writes old new (end_text (end.Error code)) told
-    → answer ≡ status_told status.Ended told
-    → RunsEntry writes program words held held old new answer
-finishes_at_once {S} writes program ready words number can prepared there f m failed code e held old new
-    told answer line is =
-    let none =
-    no_room ready.machine number there.0
-    (at_there program ready words.entry number prepared there)
-    (Unit {0}) f m failed in
-    let P : ℤ → Type 0 = λ z. writes old new (end_text (end.Error z)) told in
-    record {
-      runnable = can.runnable;
-      address = there.0;
-      entry = there.1;
-      served = prepared.served;
-      finishes =
-          ends_at_once writes held words.image program there.0 words.steps old new told answer
-          (idle_there program ready words.entry number prepared there None none.0)
-          (subst P (e ∙ none.1) line) is;
-    }
+    (there : IsEntryOf program.file words.entry (Some number)) (f : StartFault) (m : Machine)
+    (failed : StartsSo {T = Unit {0}} ready.machine number [] (Err f) m) where
+  abbrev none : Traced Config End
+  none =
+      trace_by program.file program.script (loaded program.file program.file.room) None words.steps
+      []
+
+  fails : (start_at ready.machine.amx there.0 [] ready.machine.state ≡ None)
+      × (error_of f ≡ pos 3)
+  fails =
+      no_room ready.machine number there.0
+      (at_there program ready words.entry number prepared there) (Unit {0}) f m failed
+
+  pub runs_nowhere : {S : Type 0} {taken : S → Option (List ℕ)} {faults : S → ℕ}
+      {has_room : S → ℕ → Type 0} {out last : S} (code : ℤ) (given : SessionEnd)
+      → code ≡ error_of f → IsErrorTold code given
+      → Said taken faults has_room out last (end_text (end.Error code)) (told given)
+      → RunsTrace (Said taken faults has_room) none out last 0 given
+  runs_nowhere code given e is said =
+      error_runs program.file program.script (loaded program.file program.file.room) words.steps []
+      given code (e ∙ fails.1) is said
+
+  pub finishes_at_once : {S : Type 0} (writes : Writes S) (held : Option Held) (old new : S)
+      (answer : Status) → TellsTrace none (with_used words.count 0 writes) old new answer
+      → RunsEntry writes program words held held old new answer
+  finishes_at_once writes held old new answer tells = record {
+    runnable = can.runnable;
+    address = there.0;
+    entry = there.1;
+    served = prepared.served;
+    finishes =
+        ends_at_once writes held words.image program there.0 words.count words.steps old new
+        answer (idle_there program ready words.entry number prepared there None fails.0) tells;
+  }

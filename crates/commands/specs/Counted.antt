@@ -1,5 +1,5 @@
--- A run of one segment, and how it is told with its counts: the cells of the code, and the steps that
--- were done.
+-- A run, and how it is told with its counts: the cells of the code, and the steps that were
+-- done.
 use Rattle.std.specs.Prelude.{◌≡◌, ◌++◌, ℕ, ℤ, List, [], Option, None, Some, codes}
 use Rattle.std.specs.Fmt.{decimal}
 use Rattle.host_script.specs.Script.{plain}
@@ -46,7 +46,7 @@ HasCount steps count session.Steps = count ≡ steps
 HasCount steps count session.SinkFault = Unit {0}
 
 -- a trace was run, and its text written but for the line of a bound that is used up
-pub record RunsOnce {S : Type 0} (writes : Writes S) (t : Traced Config End) (old new : S)
+pub record RunsTrace {S : Type 0} (writes : Writes S) (t : Traced Config End) (old new : S)
     (count : ℕ) (end : SessionEnd) : Type 0 where
   pub written : writes old new (told_text t) (told end)
   pub stop : StopsAs t.stop end

@@ -49,16 +49,16 @@ pub data Keeps {S : Type 0} (writes : Writes S) (held after : Option Held) (imag
       → Keeps writes held after image bytes old new answer
 
 -- the sink fails in the text, and no file is put; or the text is written, and only at a sleep is
--- the image put behind it
-pub data Finishes {S : Type 0} (writes : Writes S) (held after : Option Held)
+-- the image put behind it; `tells` is how the text is written, `writes` the line of a stop
+pub data Finishes {S : Type 0} (tells writes : Writes S) (held after : Option Held)
     (image digest : List ℕ) (stop : Stop End) (c : Config)
     (old new : S) : Status → Type 0 where
-  cut_off : (fault : SinkFault) → writes old new (run_text c stop) (Err fault) → after ≡ held
-      → Finishes writes held after image digest stop c old new status.SinkFault
-  ended : stop ≢ Asleep → writes old new (run_text c stop) (Ok tt) → after ≡ held
-      → Finishes writes held after image digest stop c old new (status_of_stop stop)
+  cut_off : (fault : SinkFault) → tells old new (run_text c stop) (Err fault) → after ≡ held
+      → Finishes tells writes held after image digest stop c old new status.SinkFault
+  ended : stop ≢ Asleep → tells old new (run_text c stop) (Ok tt) → after ≡ held
+      → Finishes tells writes held after image digest stop c old new (status_of_stop stop)
   asleep : (mid : S) (bytes : List ℕ) (answer : Status) → stop ≡ Asleep
-      → writes old mid (run_text c stop) (Ok tt)
+      → tells old mid (run_text c stop) (Ok tt)
       → IsImage Live c.state c.position digest bytes
       → Keeps writes held after image bytes mid new answer
-      → Finishes writes held after image digest stop c old new answer
+      → Finishes tells writes held after image digest stop c old new answer

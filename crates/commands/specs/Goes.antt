@@ -45,8 +45,8 @@ behind front writes = λ old new text told. writes old new (front ++ text) told
 pub record RunsPut {S : Type 0} (writes : Writes S) (words : GoWords) (amx : Amx) (it : Prepared)
     (held after : Option Held) (old new : S) (answer : Status) : Type 0 where
   pub kept : after ≡ with_put held words.amx it.compiled.bytes
-  pub runs : RunsFile (behind (warning_lines it.compiled.warnings) writes) amx it.script words.steps
-      words.sleeps old new answer
+  pub runs : RunsFile (behind (warning_lines it.compiled.warnings) writes) amx it.script words old
+      new answer
 
 -- it isn't put, or it is put and run
 abbrev pub MayPut : {S : Type 0} → Writes S → GoWords → Amx → Prepared → Option Held → Option Held

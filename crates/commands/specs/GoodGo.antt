@@ -15,7 +15,7 @@ use Rattle.commands.specs.Runs.{IsStopped}
 use Rattle.command_parts.specs.declared.command.GoWords.{GoWords}
 use Rattle.commands.specs.Goes.{Goes, GoesGood, behind}
 use Rattle.commands.specs.Natives.{HasNatives}
-use Rattle.commands.specs.Played.{TellsTrace, trace_of}
+use Rattle.commands.specs.RunsFile.{TellsRun}
 use Rattle.commands.specs.Good.{IsFree}
 
 -- a source that has a program with a main, all of whose natives a script serves
@@ -36,8 +36,8 @@ pub record IsGone {S : Type 0} (writes : Writes S) (words : GoWords) (held after
       ⊎ ((after ≡ with_put held words.amx it.prepared.compiled.bytes)
       × (TellsStop NoMemory (behind (warning_lines it.prepared.compiled.warnings) writes) old
       new answer
-      ⊎ TellsTrace (trace_of it.good.made.has.amx it.prepared.script words.steps words.sleeps)
-      (behind (warning_lines it.prepared.compiled.warnings) writes) old new answer))
+      ⊎ TellsRun (behind (warning_lines it.prepared.compiled.warnings) writes)
+      it.good.made.has.amx it.prepared.script words old new answer))
 
 -- over files that tell what they hold
 pub record GoodIsGone {S : Type 0} (writes : Writes S) : Type 0 where

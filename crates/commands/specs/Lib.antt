@@ -32,4 +32,5 @@ pub mod Served
 pub mod Unfailing
 pub mod UsageText
 pub mod Usages
+pub mod Used
 pub mod Wakes

@@ -40,6 +40,8 @@ pub record CanRun (amx : Amx) : Type 0 where
 pub record HasAll (program : Program) (m : Machine) (position : ℕ) (ready : ReadySegment) : Type 0
   where
     pub machine : ready.machine ≡ m
+    pub digest : ready.digest ≡ program.digest
+    pub script : ready.script ≡ program.script
     pub bound : ready.bound ≡ bound_of program.script program.file.natives
     pub position_is : ready.at ≡ position
     pub room : CELLS + 4 * length m.state.cells ≤ ready.buffer.room

@@ -1,5 +1,5 @@
--- An image that `run` or `resume` put is taken by the next `resume`, but for a fault of the files or
--- want of memory, and unless its sleep was the code's last instruction.
+-- An image that `run` or `resume` put is taken by the next `resume`, but for a fault of the files
+-- or want of memory, and unless its sleep was the code's last instruction.
 use Rattle.std.specs.Prelude.{◌≡◌, ◌⊎◌, ℕ, ℤ, List, Option, Some}
 use Rattle.pawn_outside.specs.Held.{Held}
 use Rattle.amx_ops.specs.Moves.{Config}

@@ -24,6 +24,7 @@ use Rattle.commands.specs.declared.resumes.TheConstants.{IMAGE_LIMIT}
 use Rattle.command_parts.specs.declared.command.ResumeWords.{ResumeWords}
 use Rattle.commands.specs.ImageLine.{TellsImage}
 use Rattle.commands.specs.Restored.{IsImageOf}
+use Rattle.commands.specs.Used.{with_used}
 
 -- from a state and a position on, with one bound
 abbrev pub segment_from : Program → State → ℕ → ℕ → Segmented Config End
@@ -40,7 +41,8 @@ pub record GoesOn {S : Type 0} (writes : Writes S) (program : Program) (words : 
   pub runnable : IsRunnable program.file
   pub served : IsServed program
   pub finishes : let made = segment_from program s position words.steps in
-      Finishes writes held after words.image program.digest made.stop made.config old new answer
+      Finishes (with_used words.count made.steps writes) writes held after words.image
+      program.digest made.stop made.config old new answer
 
 -- it goes on, or a native isn't served
 abbrev pub ResumesState : {S : Type 0} → Writes S → Program → ResumeWords → State → ℕ → Option Held

@@ -13,6 +13,7 @@ use Rattle.command_parts.specs.declared.command.RunWords.{RunWords}
 use Rattle.commands.specs.Entry.{address_named}
 use Rattle.commands.specs.Finishes.{Finishes}
 use Rattle.commands.specs.Prepared.{IsServed, NoStart}
+use Rattle.commands.specs.Used.{with_used}
 use Rattle.command_parts.specs.Program.{IsProgram, NoProgram}
 use Rattle.command_parts.specs.Told.{Writes, TellsStop}
 
@@ -40,8 +41,8 @@ pub record RunsEntry {S : Type 0} (writes : Writes S) (program : Program) (words
   pub entry : address_named program.file words.entry ≡ Some address
   pub served : IsServed program
   pub finishes : let trace = program_trace program address words.steps in
-      Finishes writes held after words.image program.digest trace.stop trace.config old
-      new answer
+      Finishes (with_used words.count trace.steps writes) writes held after words.image
+      program.digest trace.stop trace.config old new answer
 
 -- it runs, or something keeps it from its start
 abbrev pub RunsProgram : {S : Type 0} → Writes S → Program → RunWords → Option Held → Option Held

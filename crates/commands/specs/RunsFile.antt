@@ -5,16 +5,24 @@ use Rattle.amx_ops.specs.declared.amx.Amx.{Amx}
 use Rattle.amx_ops.specs.Trace.{Main, address_of}
 use Rattle.command_parts.specs.declared.status.Status.{Status}
 use Rattle.command_parts.specs.declared.stop.Stop.{Stop}
+use Rattle.command_parts.specs.declared.command.GoWords.{GoWords}
 use Rattle.command_parts.specs.Told.{Writes, TellsStop}
 use Rattle.commands.specs.Played.{TellsTrace, trace_of}
 use Rattle.commands.specs.ReadyFile.{NotReady}
 use Rattle.commands.specs.Served.{AreServed}
+use Rattle.commands.specs.Used.{with_used}
 
--- with so many steps in each segment, and so many sleeps from which it goes on
-pub data RunsFile {S : Type 0} (writes : Writes S) (amx : Amx) (script : Script) (steps sleeps : ℕ)
+-- its trace is told, with the steps of all its segments where they are asked for
+abbrev pub TellsRun : {S : Type 0} → Writes S → Amx → Script → GoWords → S → S → Status → Type 0
+TellsRun writes amx script words old new answer =
+    let t = trace_of amx script words.steps words.sleeps in
+    TellsTrace t (with_used words.count t.steps writes) old new answer
+
+-- with so many steps in each segment, and so many sleeps from which it goes on, as the words say
+pub data RunsFile {S : Type 0} (writes : Writes S) (amx : Amx) (script : Script) (words : GoWords)
     (old new : S) (answer : Status) : Type 0 where
   stopped : (stop : Stop) → NotReady amx script stop → TellsStop stop writes old new answer
-      → RunsFile writes amx script steps sleeps old new answer
+      → RunsFile writes amx script words old new answer
   ran : address_of amx Main ≡ Some amx.entry → AreServed amx script
-      → TellsTrace (trace_of amx script steps sleeps) writes old new answer
-      → RunsFile writes amx script steps sleeps old new answer
+      → TellsRun writes amx script words old new answer
+      → RunsFile writes amx script words old new answer

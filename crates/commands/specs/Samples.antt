@@ -50,17 +50,17 @@ pub data RunsSample {S : Type 0} (writes : Writes S) (amx : Amx) (old new : S)
       → RunsSample writes amx old new answer
 
 -- it is put, and what was put is run
-pub record RunsPut {S : Type 0} (writes : Writes S) (name bytes : List ℕ) (amx : Amx)
+pub record PutsSample {S : Type 0} (writes : Writes S) (name bytes : List ℕ) (amx : Amx)
     (held after : Option Held) (old new : S) (answer : Status) : Type 0 where
   pub kept : after ≡ with_put held name bytes
   pub runs : RunsSample writes amx old new answer
 
 -- it isn't put, or it is put and run
-abbrev pub MayPut : {S : Type 0} → Writes S → List ℕ → List ℕ → Amx → Option Held → Option Held
-    → S → S → Status → Type 0
-MayPut writes name bytes amx held after old new answer =
+abbrev pub MayPutSample : {S : Type 0} → Writes S → List ℕ → List ℕ → Amx → Option Held
+    → Option Held → S → S → Status → Type 0
+MayPutSample writes name bytes amx held after old new answer =
     Unput writes name held after old new answer
-    ⊎ RunsPut writes name bytes amx held after old new answer
+    ⊎ PutsSample writes name bytes amx held after old new answer
 
 -- ---- the whole command
 
@@ -71,7 +71,7 @@ pub record SamplesGood {S : Type 0} (writes : Writes S) (words : SampleWords)
   pub made : IsSample words.functions it
   pub meant : (function : ℕ) → made.program.entry ≡ Some function
       → IsMeant made.program function made.has.amx plain DEFAULT_STEPS 0
-  pub puts : MayPut writes words.amx it.bytes made.has.amx held after old new answer
+  pub puts : MayPutSample writes words.amx it.bytes made.has.amx held after old new answer
 
 -- nothing is put where there is no file
 abbrev pub Samples : {S : Type 0} → Writes S → SampleWords → Option Held → Option Held → S → S
@@ -86,4 +86,5 @@ Samples writes words held after old new answer =
 abbrev pub MakesSample : {S : Type 0} → Writes S → List ℕ → List ℕ → Option Held → Option Held
     → S → S → Status → Type 0
 MakesSample writes name bytes held after old new answer =
-    (amx : Amx) → IsValidFile bytes amx → MayPut writes name bytes amx held after old new answer
+    (amx : Amx) → IsValidFile bytes amx
+    → MayPutSample writes name bytes amx held after old new answer

@@ -1,10 +1,9 @@
 -- Whether a script serves the natives of a file.
-use Rattle.std.specs.Prelude.{◌≡◌, ℕ, List, None, Some, Result, Ok, Err}
+use Rattle.std.specs.Prelude.{◌≡◌, ℕ, None, Some, Result, Ok, Err}
 use Rattle.host_script.specs.declared.script.Script.{Script}
 use Rattle.amx_ops.specs.declared.amx.Amx.{Amx}
 use Rattle.amx_ops.specs.Moves.{name_of}
-use Rattle.host_run.specs.Bound.{bound_of, unserved}
-use Rattle.host_run.specs.declared.bound.BoundNative.{BoundNative}
+use Rattle.host_run.specs.Bound.{Bound, bound_of, unserved}
 use Rattle.command_parts.specs.declared.stop.Stop.{Stop}
 use Rattle.command_parts.specs.declared.stop.Stop.TheVariants.{Unregistered, NoMemory}
 
@@ -21,6 +20,6 @@ pub data HasUnserved (amx : Amx) (script : Script) : Stop → Type 0 where
 -- ---- what the calls answer
 
 -- the natives were bound, or one isn't served
-abbrev pub AreBound : Amx → Script → Result (List BoundNative) Stop → Type 0
+abbrev pub AreBound : Amx → Script → Result Bound Stop → Type 0
 AreBound amx script (Ok bound) = AreServed amx script × (bound ≡ bound_of script amx.natives)
 AreBound amx script (Err stop) = HasUnserved amx script stop

@@ -4,7 +4,7 @@ use Rattle.std.specs.Fmt.{decimal}
 use Rattle.std.specs.List.{flat_map}
 use Rattle.pawn_usage.specs.declared.answer.Usage.{Usage}
 use Rattle.pawn_usage.specs.declared.answer.Usage.TheVariants.{Bound, Recursive}
-use Rattle.commands.specs.declared.usage_lines.TheConstants.{SPARE_CELLS}
+use Rattle.pawn_usage.specs.SpareCells.{spare_cells}
 
 -- the name of a function by its number, behind a blank
 abbrev pub name_text : List (List ℕ) → ℕ → List ℕ
@@ -16,7 +16,7 @@ chain_line front names chain = front ++ (flat_map (name_text names) chain ++ cod
 
 -- the room that runs without a lack of stack
 abbrev pub stack_line : ℕ → List ℕ
-stack_line cells = codes "stack " ++ (decimal (cells + SPARE_CELLS) ++ codes "\n")
+stack_line cells = codes "stack " ++ (decimal (cells + spare_cells) ++ codes "\n")
 
 -- by the names of the program's functions
 abbrev pub usage_text : List (List ℕ) → Usage → List ℕ

@@ -53,9 +53,9 @@ pub fn good_is_resumed<S: Sink>()
     ensures { GoodIsResumed (Said S.taken S.faults S.has_room) }
 {}
 
-/// Where files tell what they hold: an image that `run` or `resume` put is no faulty one for the next
-/// `resume`, which goes on from that sleep, but for a fault of the files or want of memory, and
-/// unless the sleep was the code's last instruction.
+/// Where files tell what they hold: an image that `run` or `resume` put is no faulty one for the
+/// next `resume`, which goes on from that sleep, but for a fault of the files or want of memory,
+/// and unless the sleep was the code's last instruction.
 pub fn put_is_resumed<S: Sink>()
     ensures { PutIsResumed (Said S.taken S.faults S.has_room) }
 {}

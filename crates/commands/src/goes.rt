@@ -82,8 +82,8 @@ fn tell_and_run<S: Sink>(alloc: Global, prepared: &Prepared, words: &GoWords, ou
     // Of bytes that are a valid file.
     ensures answer { (amx : Amx) → IsValidFile prepared.now.compiled.bytes amx →
         RunsFile (behind (warning_lines prepared.now.compiled.warnings)
-        (Said S.taken S.faults S.has_room)) amx prepared.now.script words.now.steps
-        words.now.sleeps out.old out.new result }
+        (Said S.taken S.faults S.has_room)) amx prepared.now.script words.now out.old out.new
+        result }
     ensures fault { ¬ (result ≡ Status.FileFault) }
 {
     match say_warnings(prepared.compiled.warnings.as_slice(), out) {
@@ -98,12 +98,12 @@ fn run_bytes<S: Sink>(alloc: Global, prepared: &Prepared, words: &GoWords, out: 
 
     // Of bytes that are a valid file.
     ensures answer { (amx : Amx) → IsValidFile prepared.now.compiled.bytes amx →
-        RunsFile (Said S.taken S.faults S.has_room) amx prepared.now.script words.now.steps
-        words.now.sleeps out.old out.new result }
+        RunsFile (Said S.taken S.faults S.has_room) amx prepared.now.script words.now out.old
+        out.new result }
     ensures fault { ¬ (result ≡ Status.FileFault) }
 {
     match valid_file(alloc, prepared.compiled.bytes.as_slice()) {
-        Ok(file) => run_file(alloc, &file, &prepared.script, words, out),
+        Ok(file) => run_file(alloc, file, &prepared.script, words, out),
         Err(stop) => tell_stop(stop, out),
     }
 }

@@ -13,20 +13,16 @@ use std::alloc::Global;
 
 /// A file's machine before any start, and its natives bound to a script.
 #[derive(Drop)]
-pub struct ReadyFile<'v> {
-    pub machine: Machine<'v>,
+pub struct ReadyFile {
+    pub machine: Machine,
     pub bound: Bound,
 }
 
 /// Looks main up, then the natives in a script, and makes a machine.
-pub fn make_ready<'v>(
-    alloc: Global,
-    file: &'v Verified,
-    script: &Script,
-) -> Result<ReadyFile<'v>, Stop>
+pub fn make_ready(alloc: Global, file: Verified, script: &Script) -> Result<ReadyFile, Stop>
     requires script { IsScript script.now }
-    requires natives { length file.now.natives < 2 ^ 31 }
-    ensures { Readies file.now script.now result }
+    requires natives { length file.natives < 2 ^ 31 }
+    ensures { Readies file script.now result }
 {
     match main_at(file.amx().entry) {
         None => Err(no_entry(alloc, &MAIN)),
@@ -42,12 +38,12 @@ fn main_at(address: i32) -> Option<i32>
 }
 
 /// Binds the natives, and makes a machine.
-fn serve<'v>(alloc: Global, file: &'v Verified, script: &Script) -> Result<ReadyFile<'v>, Stop>
+fn serve(alloc: Global, file: Verified, script: &Script) -> Result<ReadyFile, Stop>
     requires script { IsScript script.now }
-    requires natives { length file.now.natives < 2 ^ 31 }
-    ensures { ServesFile file.now script.now result }
+    requires natives { length file.natives < 2 ^ 31 }
+    ensures { ServesFile file script.now result }
 {
-    let bound = bind_natives(alloc, file, script)?;
+    let bound = bind_natives(alloc, &file, script)?;
     let machine = Machine::load(alloc, file)?;
     Ok(ReadyFile { machine, bound })
 }

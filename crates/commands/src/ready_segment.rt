@@ -3,22 +3,29 @@ ghost use Rattle.amx_format.specs.Limits.{IsWithinLimits};
 ghost use Rattle.pawn_outside.specs.Said.{Said};
 ghost use Rattle.host_run.specs.Segments.{segment_of};
 ghost use Rattle.command_parts.specs.Calls.{CommandCalls};
+ghost use Rattle.command_parts.specs.declared.program.Program.{Program};
 ghost use Rattle.commands.specs.Finishes.{Finishes, Keeps};
 ghost use Rattle.commands.specs.Prepared.{IsReadyFor};
 ghost use Rattle.commands.specs.ReadySegment.{IsReadySegment, place_of};
+ghost use Rattle.commands.specs.Used.{with_used};
 
 use super::bind::bind_natives;
+use super::counted::tell_run;
 use amx_image::{ImageBuffer, save_into};
 use amx_machine::Machine;
-use command_parts::{Program, Status, Stop, put, tell_stop, told};
-use host_run::{Bound, SessionEnd, session};
-use pawn_outside::{Files, Sink, say};
+use command_parts::{Status, Stop, put, tell_stop};
+use host_run::{Bound, session};
+use host_script::Script;
+use pawn_outside::{Files, Sink};
 use std::alloc::Global;
 
 /// A machine of a program, with all that a segment of it takes.
 #[derive(Drop)]
-pub struct ReadySegment<'p> {
-    pub machine: Machine<'p>,
+pub struct ReadySegment {
+    pub machine: Machine,
+    /// Of the machine's file.
+    pub digest: [u8; 32],
+    pub script: Script,
     pub bound: Bound,
     /// The script's position.
     pub at: u32,
@@ -26,61 +33,65 @@ pub struct ReadySegment<'p> {
     pub buffer: ImageBuffer,
 }
 
-/// Binds the natives of a program to its machine at a position of the script, and takes room for an
-/// image.
-pub fn ready_at<'p>(
+/// Binds the natives of a machine to a script at a position of it, and takes room for an image.
+pub fn ready_at(
     alloc: Global,
-    machine: Machine<'p>,
+    machine: Machine,
+    digest: [u8; 32],
+    script: Script,
     at: u32,
-    program: &Program,
-) -> Result<ReadySegment<'p>, Stop>
-    requires limits { IsWithinLimits program.now.file }
-    requires script { IsScript program.now.script }
-    ensures { IsReadyFor program.now machine.entry at result }
+) -> Result<ReadySegment, Stop>
+    requires limits { IsWithinLimits machine.amx }
+    requires script { IsScript script }
+    ensures { let program : Program =
+        record { file = machine.amx; digest = digest; script = script } in
+        IsReadyFor program machine at result }
 {
-    let bound = bind_natives(alloc, &program.file, &program.script)?;
+    let bound = bind_natives(alloc, machine.verified(), &script)?;
     let buffer = ImageBuffer::new(alloc, &machine)?;
     Ok(ReadySegment {
         machine,
+        digest,
+        script,
         bound,
         at,
         buffer,
     })
 }
 
-/// Runs a machine that is running or at a sleep for so many steps at most, writes its trace, and
-/// puts its image where it falls asleep. Only the put may want memory.
+/// Runs a machine that is running or at a sleep for so many steps at most, writes its trace, with
+/// how many were done where that is asked for, and puts its image where it falls asleep. Only the
+/// put may want memory.
 pub fn run_on<F: Files, S: Sink>(
-    ready: ReadySegment<'_>,
-    program: &Program,
+    ready: ReadySegment,
     steps: u64,
+    count: bool,
     image: &str,
     files: &mut F,
     out: &mut S,
 ) -> Status
-    requires { IsReadySegment program.now ready }
-    ensures answer { let made = segment_of program.now.script (place_of ready.entry) steps in
-        Finishes (Said S.taken S.faults S.has_room) (F.held files.old) (F.held files.new)
-        image.now program.now.digest made.stop made.config out.old out.new result }
+    requires { IsReadySegment ready }
+    ensures answer { let made = segment_of ready.script (place_of ready) steps in
+        Finishes (with_used count made.steps (Said S.taken S.faults S.has_room))
+        (Said S.taken S.faults S.has_room) (F.held files.old) (F.held files.new) image.now
+        ready.digest made.stop made.config out.old out.new result }
     ensures calls { CommandCalls F.faults F.never_fails files.old files.new result }
 {
     let ReadySegment {
         mut machine,
-        bound,
+        digest,
+        script,
+        mut bound,
         mut at,
         mut buffer,
     } = ready;
-    let (_, end) = session(&mut machine, &bound, &program.script, &mut at, steps, out);
-    match end {
-        SessionEnd::Done(_) => Status::Ok,
-        SessionEnd::Exit { .. } => Status::Ok,
-        SessionEnd::Error(_) => Status::Ended,
-        SessionEnd::Steps => told(Status::Steps, say(out, &[b"steps\n"])),
-        SessionEnd::SinkFault => Status::SinkFault,
-        SessionEnd::Asleep { .. } => {
-            save_into(&machine, at, &program.digest, &mut buffer);
+    let (used, end) = session(&mut machine, &mut bound, &script, &mut at, steps, out);
+    match tell_run(end, count, u128::from(used), out) {
+        Status::Asleep => {
+            save_into(&machine, at, &digest, &mut buffer);
             keep(image, buffer.bytes(), files, out)
         }
+        status => status,
     }
 }
 

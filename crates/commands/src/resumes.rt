@@ -28,7 +28,7 @@ pub fn resume<F: Files, S: Sink>(
     ensures calls { CommandCalls F.faults F.never_fails files.old files.new result }
 {
     match read_program(alloc, words.amx.as_str(), words.script.as_str(), files) {
-        Ok(program) => resume_program(alloc, &program, words, files, out),
+        Ok(program) => resume_program(alloc, program, words, files, out),
         Err(stop) => tell_stop(stop, out),
     }
 }
@@ -36,14 +36,14 @@ pub fn resume<F: Files, S: Sink>(
 /// Reads the image of a program, wakes a machine at it, and goes on.
 fn resume_program<F: Files, S: Sink>(
     alloc: Global,
-    program: &Program,
+    program: Program,
     words: &ResumeWords,
     files: &mut F,
     out: &mut S,
 ) -> Status
-    requires limits { IsWithinLimits program.now.file }
-    requires script { IsScript program.now.script }
-    ensures answer { ResumesProgram (Said S.taken S.faults S.has_room) program.now words.now
+    requires limits { IsWithinLimits program.file }
+    requires script { IsScript program.script }
+    ensures answer { ResumesProgram (Said S.taken S.faults S.has_room) program words.now
         (F.held files.old) (F.held files.new) out.old out.new result }
     ensures calls { CommandCalls F.faults F.never_fails files.old files.new result }
 {
@@ -55,7 +55,7 @@ fn resume_program<F: Files, S: Sink>(
         Err(stop) => return tell_stop(stop, out),
     };
     match wake(alloc, image.as_slice(), program) {
-        Ok(ready) => run_on(ready, program, words.steps, name, files, out),
+        Ok(ready) => run_on(ready, words.steps, words.count, name, files, out),
         Err(WakeFault::Stop(stop)) => tell_stop(stop, out),
         Err(WakeFault::Image(fault)) => tell_image(fault, out),
     }

@@ -6,15 +6,16 @@ ghost use Rattle.amx_machine.specs.Machine.{first};
 ghost use Rattle.command_parts.specs.Calls.{CommandCalls};
 ghost use Rattle.commands.specs.Entry.{IsEntryOf};
 ghost use Rattle.commands.specs.Prepared.{CanRun, IsPrepared, IsReadyFor};
+ghost use Rattle.commands.specs.ReadySegment.{program_of};
 ghost use Rattle.commands.specs.Runs.{Runs, RunsProgram, RunsEntry};
 
+use super::counted::{say_error, tell_run};
 use super::entry::entry_of;
 use super::ready_segment::{ReadySegment, ready_at, run_on};
 use amx_machine::Machine;
 use amx_ops::Amx;
 use amx_verify::Verified;
-use command_parts::{Program, RunWords, Status, Stop, no_entry, read_program, tell_stop, told};
-use host_script::{End, say_end};
+use command_parts::{Program, RunWords, Status, Stop, no_entry, read_program, tell_stop};
 use pawn_outside::{Files, Sink};
 use std::alloc::Global;
 
@@ -26,7 +27,7 @@ pub fn run<F: Files, S: Sink>(alloc: Global, words: &RunWords, files: &mut F, ou
     ensures calls { CommandCalls F.faults F.never_fails files.old files.new result }
 {
     match read_program(alloc, words.amx.as_str(), words.script.as_str(), files) {
-        Ok(program) => run_program(alloc, &program, words, files, out),
+        Ok(program) => run_program(alloc, program, words, files, out),
         Err(stop) => tell_stop(stop, out),
     }
 }
@@ -34,20 +35,20 @@ pub fn run<F: Files, S: Sink>(alloc: Global, words: &RunWords, files: &mut F, ou
 /// Runs a program.
 fn run_program<F: Files, S: Sink>(
     alloc: Global,
-    program: &Program,
+    program: Program,
     words: &RunWords,
     files: &mut F,
     out: &mut S,
 ) -> Status
-    requires limits { IsWithinLimits program.now.file }
-    requires script { IsScript program.now.script }
-    ensures answer { RunsProgram (Said S.taken S.faults S.has_room) program.now words.now
+    requires limits { IsWithinLimits program.file }
+    requires script { IsScript program.script }
+    ensures answer { RunsProgram (Said S.taken S.faults S.has_room) program words.now
         (F.held files.old) (F.held files.new) out.old out.new result }
     ensures calls { CommandCalls F.faults F.never_fails files.old files.new result }
 {
     match entry_of(runnable(&program.file), words.entry.as_slice()) {
         Some(entry) => match prepare(alloc, program) {
-            Ok(ready) => start(ready, entry, program, words, files, out),
+            Ok(ready) => start(ready, entry, words, files, out),
             Err(stop) => tell_stop(stop, out),
         },
         None => tell_stop(no_entry(alloc, words.entry.as_slice()), out),
@@ -67,36 +68,40 @@ pub fn runnable(file: &Verified) -> &Amx
 }
 
 /// Loads a machine, and makes it ready.
-fn prepare(alloc: Global, program: &Program) -> Result<ReadySegment<'_>, Stop>
-    requires limits { IsWithinLimits program.now.file }
-    requires script { IsScript program.now.script }
-    ensures { IsReadyFor program.now (first program.now.file) 0 result }
+fn prepare(alloc: Global, program: Program) -> Result<ReadySegment, Stop>
+    requires limits { IsWithinLimits program.file }
+    requires script { IsScript program.script }
+    ensures { IsReadyFor program (first program.file) 0 result }
 {
-    let machine = Machine::load(alloc, &program.file)?;
-    ready_at(alloc, machine, 0, program)
+    let Program {
+        file,
+        digest,
+        script,
+    } = program;
+    let machine = Machine::load(alloc, file)?;
+    ready_at(alloc, machine, digest, script, 0)
 }
 
 /// Starts a machine and runs it. It ends in an error where the start finds no room.
 fn start<F: Files, S: Sink>(
-    ready: ReadySegment<'_>,
+    ready: ReadySegment,
     entry: i32,
-    program: &Program,
     words: &RunWords,
     files: &mut F,
     out: &mut S,
 ) -> Status
-    requires can { CanRun program.now.file }
-    requires script { IsScript program.now.script }
-    requires prepared { IsPrepared program.now ready }
-    requires there { IsEntryOf program.now.file words.now.entry (Some entry) }
-    ensures answer { RunsEntry (Said S.taken S.faults S.has_room) program.now words.now
+    requires can { CanRun ready.machine.amx }
+    requires script { IsScript ready.script }
+    requires prepared { IsPrepared (program_of ready) ready }
+    requires there { IsEntryOf ready.machine.amx words.now.entry (Some entry) }
+    ensures answer { RunsEntry (Said S.taken S.faults S.has_room) (program_of ready) words.now
         (F.held files.old) (F.held files.new) out.old out.new result }
     ensures calls { CommandCalls F.faults F.never_fails files.old files.new result }
 {
     let mut ready = ready;
     let image = words.image.as_str();
     match ready.machine.start(entry, &[]) {
-        Ok(()) => run_on(ready, program, words.steps, image, files, out),
-        Err(fault) => told(Status::Ended, say_end(out, End::Error(fault.code()))),
+        Ok(()) => run_on(ready, words.steps, words.count, image, files, out),
+        Err(fault) => tell_run(say_error(fault.code(), out), words.count, 0, out),
     }
 }

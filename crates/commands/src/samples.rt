@@ -10,8 +10,9 @@ ghost use Rattle.commands.specs.Made.{IsMade};
 ghost use Rattle.commands.specs.Samples.{MakesSample, RunsSample, Samples, sample_files};
 ghost use Rattle.commands.specs.Samples.{sample_name};
 
-use super::counted::{run_once, tell_counted};
+use super::counted::tell_counted;
 use super::natives::plain;
+use super::play::run_ready;
 use super::ready_file::make_ready;
 use super::sources::compiled_source;
 use amx_format::Encoding;
@@ -89,15 +90,15 @@ fn run_bytes<S: Sink>(alloc: Global, bytes: &[u8], out: &mut S) -> Status
     ensures fault { ¬ (result ≡ Status.FileFault) }
 {
     match valid_file(alloc, bytes) {
-        Ok(file) => run_plain(alloc, &file, out),
+        Ok(file) => run_plain(alloc, file, out),
         Err(stop) => tell_stop(stop, out),
     }
 }
 
 /// Runs a file under the plain script.
-fn run_plain<S: Sink>(alloc: Global, file: &Verified, out: &mut S) -> Status
-    requires natives { length file.now.natives < 2 ^ 31 }
-    ensures { RunsSample (Said S.taken S.faults S.has_room) file.now out.old out.new result }
+fn run_plain<S: Sink>(alloc: Global, file: Verified, out: &mut S) -> Status
+    requires natives { length file.natives < 2 ^ 31 }
+    ensures { RunsSample (Said S.taken S.faults S.has_room) file out.old out.new result }
 {
     match plain(alloc) {
         Ok(script) => run_under(alloc, file, &script, out),
@@ -106,16 +107,16 @@ fn run_plain<S: Sink>(alloc: Global, file: &Verified, out: &mut S) -> Status
 }
 
 /// Runs a file under a script, which is the plain one.
-fn run_under<S: Sink>(alloc: Global, file: &Verified, script: &Script, out: &mut S) -> Status
+fn run_under<S: Sink>(alloc: Global, file: Verified, script: &Script, out: &mut S) -> Status
     requires script { IsScript script.now }
     requires is_plain { script.now ≡ plain }
-    requires natives { length file.now.natives < 2 ^ 31 }
-    ensures { RunsSample (Said S.taken S.faults S.has_room) file.now out.old out.new result }
+    requires natives { length file.natives < 2 ^ 31 }
+    ensures { RunsSample (Said S.taken S.faults S.has_room) file out.old out.new result }
 {
+    let cells = file.amx().code.len();
     match make_ready(alloc, file, script) {
         Ok(ready) => {
-            let cells = file.amx().code.len();
-            let (steps, end) = run_once(ready, script, DEFAULT_STEPS, out);
+            let (steps, end) = run_ready(ready, script, DEFAULT_STEPS, 0, out);
             tell_counted(end, steps, cells, out)
         }
         Err(stop) => tell_stop(stop, out),

@@ -1,6 +1,7 @@
-ghost use Rattle.std.specs.Prelude.{◌≡◌, ◌++◌, codes, unwrap_or, slice_get, []};
+ghost use Rattle.std.specs.Prelude.{◌≡◌, ◌+◌, ◌++◌, codes, unwrap_or, slice_get, []};
 ghost use Rattle.std.specs.List.{flat_map};
 ghost use Rattle.pawn_outside.specs.Said.{Said};
+ghost use Rattle.pawn_usage.specs.SpareCells.{spare_cells};
 ghost use Rattle.commands.specs.UsageText.{chain_line, name_text, stack_line, usage_text};
 
 use itoa::Buffer;
@@ -9,7 +10,7 @@ use pawn_outside::{Sink, SinkFault, say};
 use pawn_usage::Usage;
 
 /// The cells that a machine's room has above the need of the calls that are alive.
-pub const SPARE_CELLS: u128 = 16;
+const SPARE_CELLS: u128 = 16;
 
 /// Writes the room that a program runs in without a lack of stack, and the chain of calls that
 /// needs the most of it; or a chain that comes back to one of its functions.
@@ -42,8 +43,15 @@ fn say_stack<S: Sink>(cells: u64, out: &mut S) -> Result<(), SinkFault>
     ensures { Said S.taken S.faults S.has_room out.old out.new (stack_line cells) result }
 {
     let mut digits = Buffer::new();
-    let room = digits.format(u128::from(cells) + SPARE_CELLS).as_bytes();
+    let room = digits.format(room_for(cells)).as_bytes();
     say(out, &[b"stack ", room, b"\n"])
+}
+
+/// The room in which calls that need so many cells never lack stack.
+fn room_for(cells: u64) -> u128
+    ensures { result ≡ cells + spare_cells }
+{
+    u128::from(cells) + SPARE_CELLS
 }
 
 /// Writes a line with the names of a chain's functions.

@@ -51,17 +51,18 @@ impl From<ImageFault> for WakeFault {
 }
 
 /// A machine of a program, set to the state of an image, with all that it takes to go on.
-pub fn wake<'p>(
-    alloc: Global,
-    image: &[u8],
-    program: &'p Program,
-) -> Result<ReadySegment<'p>, WakeFault>
-    requires limits { IsWithinLimits program.now.file }
-    requires script { IsScript program.now.script }
-    ensures { Wakes program.now image.now result }
+pub fn wake(alloc: Global, image: &[u8], program: Program) -> Result<ReadySegment, WakeFault>
+    requires limits { IsWithinLimits program.file }
+    requires script { IsScript program.script }
+    ensures { Wakes program image.now result }
 {
-    let mut machine = Machine::load(alloc, &program.file)?;
-    let at = restore_into(&mut machine, &program.file, &program.digest, image)?;
-    let ready = ready_at(alloc, machine, at, program)?;
+    let Program {
+        file,
+        digest,
+        script,
+    } = program;
+    let mut machine = Machine::load(alloc, file)?;
+    let at = restore_into(&mut machine, &digest, image)?;
+    let ready = ready_at(alloc, machine, digest, script, at)?;
     Ok(ready)
 }

@@ -1,1 +1,2 @@
 pub mod ServesLaws
+pub mod StartLaws

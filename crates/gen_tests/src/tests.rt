@@ -1,4 +1,5 @@
 mod arrays;
+mod call_rows;
 mod data;
 mod frames;
 mod generated_nodes;

@@ -1,6 +1,6 @@
 -- What stops a call: its words, or the file that it reads; and what a call tells of a valid file.
-use Rattle.std.proofs.Common.{◌≡◌, ◌≢◌, ◌∙◌, inl, inr, ℕ, List as ListOf, Option, Ok, Err, refl, sym}
-use Rattle.std.proofs.Common.{subst}
+use Rattle.std.proofs.Common.{◌≡◌, ◌≢◌, ◌∙◌, inl, inr, ℕ, List as ListOf, Option, Ok, Err, refl}
+use Rattle.std.proofs.Common.{sym, subst}
 use Rattle.pawn_outside.specs.Held.{Held}
 use Rattle.amx_ops.specs.declared.amx.Amx.{Amx}
 use Rattle.command_parts.specs.declared.command.Command.{Command}

@@ -42,6 +42,7 @@ pub record IsNamedOfTree (tree : PlainTree) (dynamic : ℤ) (it : Named) : Type 
   pub names_are : it.names ≡ function_names tree
   pub named : AreNames (program_view it.checked.program) it.names
 
+-- a tree is such a program, or breaks a rule of types
 abbrev pub ChecksTree : PlainTree → ℤ → Result Named CheckFault → Type 0
 ChecksTree tree dynamic (Ok it) = IsNamedOfTree tree dynamic it
 ChecksTree tree dynamic (Err (check.Source kind place)) =
@@ -54,6 +55,7 @@ pub record IsNamedOfTokens (ts : List Token) (dynamic : ℤ) (it : Named) : Type
   pub names_are : it.names ≡ function_names is.tree
   pub named : AreNames (program_view it.checked.program) it.names
 
+-- tokens are such a program, or they break a rule of syntax, or their tree one of types
 abbrev pub ChecksTokens : List Token → ℤ → Result Named CheckFault → Type 0
 ChecksTokens ts dynamic (Ok it) = IsNamedOfTokens ts dynamic it
 ChecksTokens ts dynamic (Err (check.Source kind place)) = BreaksTokens ts dynamic kind place
@@ -65,6 +67,7 @@ pub record IsNamedOf (lines : Lines) (it : Named) : Type 0 where
   pub names_are : it.names ≡ function_names is.typed.tree
   pub named : AreNames (program_view it.checked.program) it.names
 
+-- lines are such a program, or they break a rule at that place
 abbrev pub Checks : Lines → Result Named CheckFault → Type 0
 Checks lines (Ok it) = IsNamedOf lines it
 Checks lines (Err (check.Source kind place)) = Breaks lines kind place

@@ -22,8 +22,8 @@ use pawn_outside::Files;
 use pawn_pre::{Lines, preprocess};
 use std::alloc::Global;
 
-/// Compiles the source of a name, over the files that it includes: its program, and the bytes of the
-/// program's file, plain or compact.
+/// Compiles the source of a name, over the files that it includes: its program, and the bytes of
+/// the program's file, plain or compact.
 ///
 /// # Errors
 ///
@@ -47,8 +47,9 @@ pub fn compile<F: Files>(
     }
 }
 
-/// The program of the source of a name, over the files that it includes: its lines, their tokens, the
-/// tree of these, and its typed program. Each layer is asked only where the one before it accepted.
+/// The program of the source of a name, over the files that it includes: its lines, their tokens,
+/// the tree of these, and its typed program. Each layer is asked only where the one before it
+/// accepted.
 ///
 /// # Errors
 ///

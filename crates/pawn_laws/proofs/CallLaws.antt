@@ -63,7 +63,7 @@ module _ {S : Type 0} (writes : Writes S) (names : Names) (program : Program) (s
   -- a call ended as its segment does
   abbrev EndsSo : Held → Call S → Config → Type 0
   EndsSo held call c =
-      Finishes writes (Some held) (Some call.after) names.image program.digest
+      Finishes writes writes (Some held) (Some call.after) names.image program.digest
       (stop_at call.steps c) (made call.steps c) call.old call.new call.answer
 
   -- a segment and what is written from images behind it
@@ -119,7 +119,7 @@ module _ {S : Type 0} (writes : Writes S) (names : Names) (program : Program) (s
 
     it : Fell (Some held) (Some call.after) names.image program.digest (stop_at call.steps c) d
     it =
-        fell (subst (λ a. Finishes writes (Some held) (Some call.after) names.image program.digest
+        fell (subst (λ a. Finishes writes writes (Some held) (Some call.after) names.image program.digest
         (stop_at call.steps c) d call.old call.new a) asleep ends)
 
     restorable : IsRestorable file d.state
@@ -217,7 +217,7 @@ module _ {S : Type 0} (writes : Writes S) (names : Names) (program : Program) (s
 
     abbrev EndsAs : Traced Config End → Type 0
     EndsAs t =
-        Finishes writes (Some held) (Some run.after) names.image program.digest t.stop t.config
+        Finishes writes writes (Some held) (Some run.after) names.image program.digest t.stop t.config
         run.old run.new run.answer
 
     told_none : EndsAs (traced_by [] None) → (calls : List (Call S)) → calls ≡ resumes
@@ -244,7 +244,7 @@ module _ {S : Type 0} (writes : Writes S) (names : Names) (program : Program) (s
     told_none ends (next ∷ calls) same (asleep, resumed, unfailing, others) =
         let t = traced_by [] None in
         let f =
-        fell (subst (λ a. Finishes writes (Some held) (Some run.after) names.image program.digest
+        fell (subst (λ a. Finishes writes writes (Some held) (Some run.after) names.image program.digest
         t.stop t.config run.old run.new a) asleep ends) in
         absurd (cc (f.is_asleep))
 

@@ -12,10 +12,11 @@ lines_below line (suc n) = lines_below line n ++ line n
 abbrev pub numbered : List ℕ → ℕ → List ℕ → List ℕ
 numbered front n back = front ++ (decimal n ++ back)
 
--- the head of a function, and its body
+-- the head of a function by its number
 abbrev pub head_text : ℕ → List ℕ
 head_text n = numbered (codes "f") n (codes "(x) { ")
 
+-- its body: what it does to the array from its number and its parameter on, and what it returns
 abbrev pub body_text : ℕ → List ℕ
 body_text n =
     numbered (codes "new s = ") n

@@ -3,7 +3,7 @@ use Rattle.std.proofs.Common.{◌≡◌, ◌+◌, ℕ, List, [], ◌∷◌, ◌+
 use Rattle.std.specs.Prelude.{reverse}
 use Rattle.std.proofs.lemmas.List.{reverse-append}
 use Rattle.pawn_meaning.specs.Program.{Program}
-use Rattle.pawn_usage.specs.Chains.{Calls, IsStart, Follows, IsChain, need_at, chain_need}
+use Rattle.pawn_usage.specs.Chains.{Calls, IsStart, Follows, IsChain, chain_need}
 
 module _ (program : Program) where
   -- a chain with its last function first

@@ -1,13 +1,12 @@
--- With the cells of the greatest chain and 16 more the stack is never short.
-use Rattle.std.proofs.Common.{◌≡◌, ◌⊎◌, inl, inr, ◌+◌, ◌<◌, ◌≤◌, ℕ, zero, suc, ℤ, pos, List, [], ◌∷◌}
-use Rattle.std.proofs.Common.{◌++◌, Option, None, Some, false, refl, sym, ap, subst, ◌∙◌, arith, length}
+-- With the cells of the greatest chain and some to spare the stack is never short.
+use Rattle.std.proofs.Common.{◌≡◌, ◌⊎◌, inl, inr, ◌+◌, ◌≤◌, ℕ, zero, suc, List, [], ◌∷◌}
+use Rattle.std.proofs.Common.{◌++◌, Some, false, sym, ap, subst, ◌∙◌, arith}
 use Rattle.std.proofs.Common.{slice_get, map}
 use Rattle.std.specs.Prelude.{Contains, reverse, option_map}
 use Rattle.std.proofs.lemmas.Option.{slice_get-map, slice_get_within, get_or_from_slice_get}
 use Rattle.std.proofs.lemmas.List.Elements.{Contains-append_left, Contains-append_right}
 use Rattle.std.proofs.lemmas.List.Elements.{Contains-push}
 use Rattle.host_script.specs.declared.script.Script.{Script}
-use Rattle.host_script.specs.declared.event.End.TheVariants.{Error}
 use Rattle.pawn_meaning.specs.Program.{Program, Public}
 use Rattle.pawn_meaning.specs.World as world
 use Rattle.pawn_meaning.specs.Told.{meaning, scene_of}
@@ -17,10 +16,11 @@ use Rattle.amx_ops.specs.declared.amx.Amx.{Amx}
 use Rattle.amx_ops.specs.Trace.{Entry, Main}
 use Rattle.amx_ops.specs.Trace as trace
 use Rattle.gen_agrees.specs.Agrees.{Agrees, function_of}
-use Rattle.gen_agrees.specs.AgreesOn.{Mark, is_cut, IsLost, Is, IsShort}
+use Rattle.gen_agrees.specs.AgreesOn.{Mark, is_cut, IsLost, IsShort}
 use Rattle.pawn_usage.specs.Called.{at_most_one}
 use Rattle.pawn_usage.specs.Chains.{starts, chain_need}
 use Rattle.pawn_usage.specs.IsUsage.{IsBound}
+use Rattle.pawn_usage.specs.SpareCells.{spare_cells}
 use Rattle.pawn_usage.specs.UsageIsEnough.{IsEnough, EndsByScript, UsageIsEnough}
 use Rattle.pawn_usage.proofs.ChainLaws.{IsLive, live_is_chain, need_reverse}
 use Rattle.pawn_usage.proofs.LiveCalls.{whole_told}
@@ -70,7 +70,7 @@ module _ (program : Program) (cells : ℕ) (chain : List ℕ) (bound : IsBound p
       peak : (limit : ℕ) → (meaning program script f limit).peak ≤ cells
       peak limit = (whole_told (scene_of program script limit) f start).peak_is cells live_below
 
-      not_short : (count room : ℕ) → cells + 16 ≤ room
+      not_short : (count room : ℕ) → cells + spare_cells ≤ room
           → IsShort (meaning program script f) count room → ⊥
       not_short count room h short =
           let told = meaning program script f short.limit in

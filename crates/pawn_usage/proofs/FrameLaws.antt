@@ -1,17 +1,14 @@
 -- What happens to memory keeps the functions and the needs of the calls that are alive.
 use Rattle.std.proofs.Common.{◌≡◌, ℕ, ℤ, List, [], ◌∷◌, Option, None, Some, Bool, true, false, refl}
-use Rattle.std.proofs.Common.{sym, ap, ◌∙◌, length, ◌==◌, nat_lt, nat_le, slice_set, map, take}
+use Rattle.std.proofs.Common.{sym, ap, ◌∙◌, length, ◌==◌, nat_lt, slice_set}
 use Rattle.std.proofs.Common.{if◌then◌else◌}
-use Rattle.std.specs.Prelude.{◌&&◌}
 use Rattle.host_script.specs.NativeCall.{Put}
-use Rattle.pawn_arrays.specs.Sizes.{elements_in}
-use Rattle.pawn_cells.specs.Cells.{bits_of, with_char}
 use Rattle.pawn_meaning.specs.Memory.{Memory, Frame, Object, Name, Static, Local, Temporary, Holds}
 use Rattle.pawn_meaning.specs.Memory.{Owns, Place, Cell, Character, Reference, needs_of, frame_at}
 use Rattle.pawn_meaning.specs.Memory.{with_frame_at, with_slot, object_at, with_object, put, put_in}
 use Rattle.pawn_meaning.specs.Memory.{write_cells, read_cell, read_cells, write_character, write}
-use Rattle.pawn_meaning.specs.Memory.{copy_of, copied, made_in, made, running, with_temporary}
-use Rattle.pawn_meaning.specs.Memory.{cut_heap, switched}
+use Rattle.pawn_meaning.specs.Memory.{copy_of, copied, made_in, made, running}
+use Rattle.pawn_meaning.specs.Memory.{switched}
 use Rattle.pawn_meaning.specs.Natives.{Spot, with_writes}
 use Rattle.pawn_meaning.specs.World.{chain_of}
 

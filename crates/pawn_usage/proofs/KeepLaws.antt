@@ -1,7 +1,7 @@
 -- What each step of a run keeps: the chain of the calls that are alive, and that all chains that came
 -- into being are chains of the program.
-use Rattle.std.proofs.Common.{◌≡◌, ◌+◌, ◌≤◌, ◌<◌, ℕ, ℤ, List, [], ◌∷◌, ◌++◌, Option, None, Some, Bool}
-use Rattle.std.proofs.Common.{true, false, refl, sym, ap, subst, ◌∙◌, arith, nat_lt, map, max, length}
+use Rattle.std.proofs.Common.{◌≡◌, ◌+◌, ◌≤◌, ℕ, ℤ, List, [], ◌∷◌, Option, None, Some, Bool}
+use Rattle.std.proofs.Common.{true, false, refl, sym, ap, subst, ◌∙◌, arith, nat_lt, map, length}
 use Rattle.std.specs.Prelude.{All, sum}
 use Rattle.std.proofs.lemmas.List.Sums.{sum_by-cons}
 use Rattle.std.proofs.lemmas.List.Elements.{All-push}
@@ -13,9 +13,9 @@ use Rattle.host_script.specs.NativeCall.{Called, Ends_there, Answers, native_cal
 use Rattle.pawn_meaning.specs.Program.{Program}
 use Rattle.pawn_meaning.specs.Memory.{Memory, Frame, needs_of, live_need, cut_heap}
 use Rattle.pawn_meaning.specs.World.{World, chain_of, said, entered, left, but_first}
-use Rattle.pawn_meaning.specs.Run.{Outcome, Gives, Stops, More, Run, Done, done, then_do, ◌>>=◌}
+use Rattle.pawn_meaning.specs.Run.{Outcome, Gives, Stops, More, Run, then_do, ◌>>=◌}
 use Rattle.pawn_meaning.specs.Run.{give, stop, or_stop, choose, turn, look, changed, change, say}
-use Rattle.pawn_meaning.specs.Run.{enter, leave, with_frame, with_heap}
+use Rattle.pawn_meaning.specs.Run.{leave, with_frame, with_heap}
 use Rattle.pawn_meaning.specs.Natives.{Held, Spot, see, with_writes, finished, after_call}
 use Rattle.pawn_meaning.specs.Natives.{call_native}
 use Rattle.pawn_usage.specs.Chains.{need_at, chain_need}

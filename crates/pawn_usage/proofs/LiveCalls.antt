@@ -1,22 +1,21 @@
 -- Along a whole run, of any program from main or a public function.
-use Rattle.std.proofs.Common.{◌≡◌, ◌≤◌, ◌<◌, ℕ, zero, suc, List, [], ◌∷◌, Option, None, Some, refl}
-use Rattle.std.proofs.Common.{arith, slice_get, map}
+use Rattle.std.proofs.Common.{◌≡◌, ◌≤◌, ℕ, zero, suc, List, [], ◌∷◌, Option, None, Some, refl}
+use Rattle.std.proofs.Common.{arith, slice_get}
 use Rattle.std.specs.Prelude.{All, Contains, reverse}
 use Rattle.std.proofs.lemmas.Option.{slice_get_within}
 use Rattle.std.proofs.lemmas.List.Elements.{All-nil, All-weaker}
-use Rattle.host_script.specs.declared.script.Script.{Script}
 use Rattle.host_script.specs.declared.event.End.TheVariants as end
-use Rattle.pawn_meaning.specs.Program.{Stmt, Slot, Function, Program}
-use Rattle.pawn_meaning.specs.World.{World, first_world}
+use Rattle.pawn_meaning.specs.Program.{Stmt, Slot, Function}
+use Rattle.pawn_meaning.specs.World.{first_world}
 use Rattle.pawn_meaning.specs.Run.{Outcome, Gives, Stops, More}
 use Rattle.pawn_meaning.specs.Meaning.{Scene, run}
-use Rattle.pawn_meaning.specs.Told.{nested, entry_run, without_params, entry_or_stray, whole}
-use Rattle.pawn_meaning.specs.Told.{told_of, scene_of, meaning}
+use Rattle.pawn_meaning.specs.Told.{nested, without_params, entry_or_stray, whole}
+use Rattle.pawn_meaning.specs.Told.{told_of, scene_of}
 use Rattle.pawn_usage.specs.Called.{called_by}
-use Rattle.pawn_usage.specs.Chains.{starts, IsStart, IsChain, chain_need}
+use Rattle.pawn_usage.specs.Chains.{starts, IsChain, chain_need}
 use Rattle.pawn_usage.specs.LiveCallsAreChains.{LiveCallsAreChains}
 use Rattle.pawn_usage.proofs.ChainLaws.{IsLive, live_is_chain}
-use Rattle.pawn_usage.proofs.KeepLaws.{Good, Stands, Kept, Keeps, after_keeps, stop_keeps, more_keeps}
+use Rattle.pawn_usage.proofs.KeepLaws.{Good, Kept, Keeps, after_keeps, stop_keeps, more_keeps}
 use Rattle.pawn_usage.proofs.NodesKeep.{Allowed, run_keeps, enter_keeps}
 
 nested_keeps : (scene : Scene) (n : ℕ) (live : List ℕ) (s : Stmt)

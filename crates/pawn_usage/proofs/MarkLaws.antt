@@ -1,19 +1,18 @@
 -- Marks that change one by one, each forward, keep what they say of the functions.
-use Rattle.std.proofs.Common.{◌≡◌, ◌⊎◌, inl, inr, ◌+◌, ◌*◌, ◌-◌, ◌<◌, ◌≤◌, ℕ, zero, suc, List, [], ◌∷◌}
-use Rattle.std.proofs.Common.{◌++◌, Option, None, Some, Bool, true, false, refl, sym, ap, subst, ◌∙◌}
-use Rattle.std.proofs.Common.{arith, length, slice_get, slice_set, get_or, nat_eq}
-use Rattle.std.specs.Prelude.{Contains, sum_by, nat_lt, if◌then◌else◌}
-use Rattle.std.proofs.lemmas.Bool.{eqb-true, eqb-false, ltb-true, ltb-false}
-use Rattle.std.proofs.lemmas.List.{length-set}
+use Rattle.std.proofs.Common.{◌≡◌, ◌⊎◌, inl, inr, ◌+◌, ◌-◌, ◌≤◌, ℕ, zero, suc, List, [], ◌∷◌}
+use Rattle.std.proofs.Common.{Option, None, Some, Bool, true, false, refl, sym, ap, subst, ◌∙◌}
+use Rattle.std.proofs.Common.{arith, slice_get, slice_set, get_or, nat_eq}
+use Rattle.std.specs.Prelude.{sum_by}
+use Rattle.std.proofs.lemmas.Bool.{eqb-true, eqb-false}
 use Rattle.std.proofs.lemmas.List.Sums.{sum_by-set}
 use Rattle.std.proofs.lemmas.Option.{slice_get_within, get_or_from_slice_get}
 use Rattle.pawn_meaning.specs.Program.{Program}
 use Rattle.pawn_usage.specs.declared.search.Progress.{Progress}
 use Rattle.pawn_usage.specs.declared.search.Progress.TheVariants.{Fresh, Open, Closed}
 use Rattle.pawn_usage.specs.declared.search.Mark.{Mark}
-use Rattle.pawn_usage.specs.Chains.{Calls, called_at, need_at}
-use Rattle.pawn_usage.specs.Marks.{left, stage, stage_of, stage_at, cells_of, cells_at, steps_left}
-use Rattle.pawn_usage.specs.Marks.{IsBelow, LeadsTo, IsMarked, GoesOn, with_call}
+use Rattle.pawn_usage.specs.Chains.{need_at}
+use Rattle.pawn_usage.specs.Marks.{stage, stage_of, stage_at, cells_of, steps_left}
+use Rattle.pawn_usage.specs.Marks.{IsBelow, LeadsTo, IsMarked, GoesOn}
 
 -- ---- one place of a list
 

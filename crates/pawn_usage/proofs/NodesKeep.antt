@@ -1,12 +1,11 @@
 -- What each node keeps: one line a node. A node may call what is called in it.
-use Rattle.std.proofs.Common.{◌≡◌, ◌⊎◌, inl, inr, ◌+◌, ◌*◌, ◌<◌, ℕ, ℤ, zero, suc, pos, List, [], ◌∷◌}
-use Rattle.std.proofs.Common.{◌++◌, Option, None, Some, Bool, true, false, refl, sym, ap, subst, ◌∙◌}
-use Rattle.std.proofs.Common.{length, slice_get, if◌then◌else◌, arith}
-use Rattle.std.specs.Prelude.{Contains, flat_map}
+use Rattle.std.proofs.Common.{◌≡◌, ◌+◌, ◌*◌, ◌<◌, ℕ, ℤ, zero, suc, pos, List, [], ◌∷◌}
+use Rattle.std.proofs.Common.{◌++◌, Option, None, Some, Bool, true, false, refl, sym, ap, subst}
+use Rattle.std.proofs.Common.{length, slice_get, if◌then◌else◌}
+use Rattle.std.specs.Prelude.{Contains}
 use Rattle.std.proofs.lemmas.Option.{slice_get_within}
 use Rattle.std.proofs.lemmas.List.Elements.{Contains-append_left, Contains-append_right}
 use Rattle.std.proofs.lemmas.List.Elements.{Contains-push}
-use Rattle.host_script.specs.declared.script.Script.{Script}
 use Rattle.host_script.specs.declared.event.End.TheVariants as end
 use Rattle.host_script.specs.declared.event.Event.TheVariants as event
 use Rattle.pawn_cells.specs.declared.operator.Comparison.{Comparison}
@@ -22,10 +21,10 @@ use Rattle.pawn_meaning.specs.Program.{then_arg, Perhaps, Absent, Present, Stmt,
 use Rattle.pawn_meaning.specs.Program.{LocalArray, Do, If, While, DoWhile, For, Switch, Return}
 use Rattle.pawn_meaning.specs.Program.{Break, Continue, Exit, Sleep, Assert, State, Empty, Else}
 use Rattle.pawn_meaning.specs.Program.{no_else, otherwise, Cases, no_cases, then_case, Stmts}
-use Rattle.pawn_meaning.specs.Program.{no_stmts, then_stmt, Slot, Body, Route, Function, Program}
+use Rattle.pawn_meaning.specs.Program.{no_stmts, then_stmt, Body, Route, Function, Program}
 use Rattle.pawn_meaning.specs.Program as node
 use Rattle.pawn_meaning.specs.Memory as memory
-use Rattle.pawn_meaning.specs.Memory.{Memory, Static, Frame, Place, one_cell, running, whole_of}
+use Rattle.pawn_meaning.specs.Memory.{Memory, Static, Place, one_cell, running, whole_of}
 use Rattle.pawn_meaning.specs.Memory.{own_whole, through, read, write, copied, made, with_temporary}
 use Rattle.pawn_meaning.specs.Memory.{switched, object_at}
 use Rattle.pawn_meaning.specs.Run.{Run, done, ◌>>=◌, give, change}
@@ -35,16 +34,15 @@ use Rattle.pawn_meaning.specs.References.{rest_from, cell_at, character_at, to_c
 use Rattle.pawn_meaning.specs.Calls.{Way, Through, Broke, Continued, Returned, pass, again}
 use Rattle.pawn_meaning.specs.Calls.{value_of, body_at, body_by, routed, frame_of, run_body}
 use Rattle.pawn_meaning.specs.Calls.{enter_function, enter_of, entry_for, serves}
-use Rattle.pawn_meaning.specs.Need.{need}
-use Rattle.pawn_meaning.specs.Meaning.{Scene, Fewer, name_of, in_ranges, ended, call, call_one}
+use Rattle.pawn_meaning.specs.Meaning.{Scene, Fewer, name_of, in_ranges, ended, call}
 use Rattle.pawn_meaning.specs.Meaning.{call_two, converted, linked, place, array, value, chain}
 use Rattle.pawn_meaning.specs.Meaning.{chained, argument, arguments, condition, perhaps, call_entry}
 use Rattle.pawn_meaning.specs.Meaning.{run, run_else, run_case, run_all}
 use Rattle.pawn_usage.specs.Called.{at_most_one, called, called_in_place, called_in_array}
 use Rattle.pawn_usage.specs.Called.{called_in_links, called_in_arg, called_in_args, called_perhaps}
-use Rattle.pawn_usage.specs.Called.{called_by_switch, called_by, called_by_else, called_by_cases}
+use Rattle.pawn_usage.specs.Called.{called_by, called_by_else, called_by_cases}
 use Rattle.pawn_usage.specs.Called.{called_by_all, called_by_bodies, called_from}
-use Rattle.pawn_usage.specs.Chains.{Calls, called_at, need_of, need_at}
+use Rattle.pawn_usage.specs.Chains.{called_at, need_of}
 use Rattle.pawn_usage.proofs.ChainLaws.{IsLive}
 use Rattle.pawn_usage.proofs.FrameLaws.{same_frames, write_keeps, copied_keeps, made_keeps}
 use Rattle.pawn_usage.proofs.FrameLaws.{switched_keeps}

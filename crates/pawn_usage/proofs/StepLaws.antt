@@ -1,22 +1,21 @@
 -- What each step of a search does.
-use Rattle.std.proofs.Common.{◌≡◌, ◌⊎◌, inl, inr, ◌+◌, ◌*◌, ◌-◌, ◌<◌, ◌≤◌, ℕ, zero, suc, List, [], ◌∷◌}
+use Rattle.std.proofs.Common.{◌≡◌, ◌⊎◌, inl, inr, ◌+◌, ◌-◌, ◌≤◌, ℕ, List, [], ◌∷◌}
 use Rattle.std.proofs.Common.{◌++◌, Option, None, Some, Bool, true, false, refl, sym, ap, subst, ◌∙◌}
-use Rattle.std.proofs.Common.{arith, length, take, slice_get, slice_set, get_or, length-append}
-use Rattle.std.specs.Prelude.{Contains, sum_by, nat_lt, if◌then◌else◌, Result, Ok, Err, OnOk, IfOk}
+use Rattle.std.proofs.Common.{arith, length, take, slice_get, slice_set, length-append}
+use Rattle.std.specs.Prelude.{Contains, sum_by, nat_lt, if◌then◌else◌}
 use Rattle.std.proofs.lemmas.Bool.{ltb-true, ltb-false}
 use Rattle.std.proofs.lemmas.List.{length-set, take_at, take_all, take_more}
 use Rattle.std.proofs.lemmas.List.Elements.{Contains-append_left, Contains-push}
-use Rattle.std.proofs.lemmas.List.Elements.{Contains-push_cases, Contains-get_or}
+use Rattle.std.proofs.lemmas.List.Elements.{Contains-push_cases}
 use Rattle.std.proofs.lemmas.Option.{slice_get_within, get_or_from_slice_get}
 use Rattle.pawn_meaning.specs.Program.{Program}
-use Rattle.pawn_usage.specs.declared.search.Progress.{Progress}
 use Rattle.pawn_usage.specs.declared.search.Progress.TheVariants.{Fresh, Open, Closed}
 use Rattle.pawn_usage.specs.declared.search.Mark.{Mark}
 use Rattle.pawn_usage.specs.declared.search.Search.{Search}
-use Rattle.pawn_usage.specs.Chains.{Calls, IsStart, IsChain, IsRecursive, starts, called_at, need_at}
+use Rattle.pawn_usage.specs.Chains.{Calls, IsStart, IsChain, starts, called_at, need_at}
 use Rattle.pawn_usage.specs.IsUsage.{IsRecursion}
-use Rattle.pawn_usage.specs.Marks.{left, stage, stage_of, stage_at, cells_of, cells_at, steps_left}
-use Rattle.pawn_usage.specs.Marks.{work_left, IsBelow, LeadsTo, IsMarked, IsSearch, GoesOn, EndsWith}
+use Rattle.pawn_usage.specs.Marks.{left, stage, stage_of, stage_at, cells_of, steps_left}
+use Rattle.pawn_usage.specs.Marks.{IsBelow, LeadsTo, IsMarked, IsSearch, GoesOn, EndsWith}
 use Rattle.pawn_usage.specs.Marks.{IsStep, IsAtCall, IsAtRest, IsOpened, with_call}
 use Rattle.pawn_usage.proofs.ChainLaws.{chain_on, chain_front}
 use Rattle.pawn_usage.proofs.MarkLaws.{IsChange, all_marked, goes_on, steps_change, stage_here}

@@ -1,5 +1,5 @@
 -- What is kept of a program while its calls are searched.
-use Rattle.std.specs.Prelude.{◌≡◌, ℕ, List, map}
+use Rattle.std.specs.Prelude.{◌≡◌, map}
 use Rattle.pawn_meaning.specs.Program.{Function, Program}
 use Rattle.pawn_meaning.specs.Need.{need}
 use Rattle.pawn_meaning.specs.View.{program_view}

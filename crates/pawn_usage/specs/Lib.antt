@@ -5,4 +5,5 @@ pub mod IsGraph
 pub mod IsUsage
 pub mod LiveCallsAreChains
 pub mod Marks
+pub mod SpareCells
 pub mod UsageIsEnough

@@ -1,5 +1,5 @@
 -- The calls that are alive in a run are chains.
-use Rattle.std.specs.Prelude.{ℕ, List, All, Contains, reverse}
+use Rattle.std.specs.Prelude.{ℕ, All, Contains, reverse}
 use Rattle.host_script.specs.declared.script.Script.{Script}
 use Rattle.pawn_meaning.specs.Program.{Program}
 use Rattle.pawn_meaning.specs.Told.{meaning}

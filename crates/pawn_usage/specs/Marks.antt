@@ -32,6 +32,11 @@ stage_of (Some mark) = stage mark.progress
 abbrev pub stage_at : List Mark → ℕ → ℕ
 stage_at marks f = stage_of (slice_get marks f)
 
+-- the mark of a function whose search isn't done, with its calls that were not looked at
+abbrev pub IsOpenMark : List Mark → ℕ → Option (Mark × ℕ) → Type 0
+IsOpenMark marks f None = stage_at marks f ≡ 1 → ⊥
+IsOpenMark marks f (Some it) = (slice_get marks f ≡ Some it.0) × (it.0.progress ≡ Open it.1)
+
 -- the cells of a function and all that it calls
 abbrev pub cells_of : Option Mark → ℕ
 cells_of None = 0

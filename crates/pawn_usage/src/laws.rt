@@ -8,7 +8,7 @@ pub fn live_calls_are_chains()
 {}
 
 /// Where no chain of a program needs more than some cells, no run of it does; and a file of it ends
-/// with error 3 only where its script gives that, in each room of those cells and 16 more.
+/// with error 3 only where its script gives that, in each room of those cells and the spare ones.
 #[tactic(auto, using(crate::proofs::EnoughLaws::usage_is_enough_lem))]
 pub fn usage_is_enough()
     ensures { UsageIsEnough }

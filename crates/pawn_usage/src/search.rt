@@ -1,7 +1,6 @@
 ghost use Rattle.std.specs.Prelude.{◌≡◌, ◌-◌, [], Contains, IfOk, length, take};
 ghost use Rattle.std.specs.Prelude.{slice_get, slice_set};
 ghost use Rattle.pawn_usage.specs.Chains as chains;
-ghost use Rattle.pawn_usage.specs.IsUsage.{IsRecursion};
 ghost use Rattle.pawn_usage.specs.IsGraph.{IsGraph, plain};
 ghost use Rattle.pawn_usage.specs.Marks as spec;
 
@@ -80,6 +79,17 @@ impl Search {
         self.marks.as_slice().get(function as usize).copied()
     }
 
+    /// The mark of a function on the path, and how many of its calls are still to be looked at.
+    fn open_mark(&self, function: u32) -> Option<(Mark, usize)>
+        ensures { spec.IsOpenMark self.now.marks.items function result }
+    {
+        let mark = self.mark(function)?;
+        match mark.progress {
+            Progress::Open(left) => Some((mark, left)),
+            _ => None,
+        }
+    }
+
     /// Puts a mark in place of a function's.
     fn set(&mut self, function: u32, mark: Mark)
         ensures marks { self.new.marks.items ≡ slice_set self.old.marks.items function mark }
@@ -155,26 +165,16 @@ impl Search {
         requires ends { spec.EndsWith self.now.path.items top }
         ensures { IfOk result (spec.Steps (plain graph.now) self.old self.new) }
     {
-        match self.mark(top) {
-            Some(mark) => match mark.progress {
-                Progress::Open(0) => {
-                    self.set(top, mark.with_progress(Progress::Closed));
-                    self.leave();
-                    Ok(false)
-                }
-                Progress::Open(left) => {
-                    let now = mark.with_progress(Progress::Open(left - 1));
-                    self.look(graph, top, now, graph.callee(top, left - 1))
-                }
-                Progress::Fresh(_) => {
-                    self.leave();
-                    Ok(false)
-                }
-                Progress::Closed => {
-                    self.leave();
-                    Ok(false)
-                }
-            },
+        match self.open_mark(top) {
+            Some((mark, 0)) => {
+                self.set(top, mark.with_progress(Progress::Closed));
+                self.leave();
+                Ok(false)
+            }
+            Some((mark, left)) => {
+                let now = mark.with_progress(Progress::Open(left - 1));
+                self.look(graph, top, now, graph.callee(top, left - 1))
+            }
             None => {
                 self.leave();
                 Ok(false)

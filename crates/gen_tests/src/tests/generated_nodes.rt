@@ -11,9 +11,9 @@ fn operators(rt: HostRuntime) -> Result<(), Fail> {
     let inverse = Expr::Unary(Prefix::Invert, one(alloc)?);
     assert_eq!(rt; taken(alloc, inverse)?, (3, 0));
     let sum = Expr::Binary(Operator::Add, one(alloc)?, one(alloc)?);
-    assert_eq!(rt; taken(alloc, sum)?, (7, 0));
+    assert_eq!(rt; taken(alloc, sum)?, (6, 0));
     let rest = Expr::Binary(Operator::Remainder, one(alloc)?, one(alloc)?);
-    assert_eq!(rt; taken(alloc, rest)?, (8, 0));
+    assert_eq!(rt; taken(alloc, rest)?, (7, 0));
     let by_user = Expr::Operate(0, one(alloc)?, one(alloc)?, true);
     assert_eq!(rt; taken(alloc, by_user)?, (12, 1));
     let one_by_user = Expr::OperateOne(0, one(alloc)?);
@@ -39,15 +39,15 @@ fn choices(rt: HostRuntime) -> Result<(), Fail> {
 fn updates(rt: HostRuntime) -> Result<(), Fail> {
     let alloc = rt.alloc();
     let assigned = Expr::Assign(Scalar::Global(0), one(alloc)?);
-    assert_eq!(rt; taken(alloc, assigned)?, (7, 0));
+    assert_eq!(rt; taken(alloc, assigned)?, (4, 0));
     let updated = Expr::Update(Scalar::Slot(0), Operator::Add, one(alloc)?);
-    assert_eq!(rt; taken(alloc, updated)?, (13, 0));
+    assert_eq!(rt; taken(alloc, updated)?, (7, 0));
     let by_user = Expr::UpdateBy(Scalar::Through(1), 0, false, one(alloc)?, Some(1));
     assert_eq!(rt; taken(alloc, by_user)?, (23, 2));
     let before = Expr::Step(Scalar::Global(0), -1, true);
-    assert_eq!(rt; taken(alloc, before)?, (7, 0));
+    assert_eq!(rt; taken(alloc, before)?, (6, 0));
     let behind = Expr::Step(Scalar::Global(0), 1, false);
-    assert_eq!(rt; taken(alloc, behind)?, (9, 0));
+    assert_eq!(rt; taken(alloc, behind)?, (8, 0));
     let before_by_user = Expr::StepBy(Scalar::Global(0), 0, true);
     assert_eq!(rt; taken(alloc, before_by_user)?, (12, 1));
     let behind_by_user = Expr::StepBy(Scalar::Global(0), 0, false);

@@ -15,7 +15,7 @@ fn element(alloc: Global, array: Array) -> Result<Expr, Fail> {
 fn cells(rt: HostRuntime) -> Result<(), Fail> {
     let alloc = rt.alloc();
     for place in [Scalar::Global(0), Scalar::Slot(0), Scalar::Through(1)] {
-        assert_eq!(rt; taken(alloc, Expr::Read(place))?, (3, 0));
+        assert_eq!(rt; taken(alloc, Expr::Read(place))?, (2, 0));
     }
     Ok(())
 }

@@ -10,17 +10,17 @@ run_file-requires-clause-natives g c =
 pub returns-in-Ok-clause-answer : goal.returns-in-Ok-clause-answer
 returns-in-Ok-clause-answer g c =
     reads_same c.args.prepared.now.compiled.bytes c.as_slice.result.now c.args.prepared.now.script
-    c.args.words.now.steps c.args.words.now.sleeps c.in-Ok.file
+    c.args.words.now c.in-Ok.file
     c.run_file.result c.as_slice.ensures c.in-Ok.ensures c.run_file.ensures
 
 pub returns-in-Ok-clause-fault : goal.returns-in-Ok-clause-fault
 returns-in-Ok-clause-fault g c =
-    run_no_fault c.in-Ok.file _ _ _ c.run_file.result c.run_file.ensures
+    run_no_fault c.in-Ok.file _ _ c.run_file.result c.run_file.ensures
 
 pub returns-in-Err-clause-answer : goal.returns-in-Err-clause-answer
 returns-in-Err-clause-answer g c =
     reads_none c.args.prepared.now.compiled.bytes c.as_slice.result.now c.args.prepared.now.script
-    c.args.words.now.steps c.args.words.now.sleeps c.in-Err.stop
+    c.args.words.now c.in-Err.stop
     c.tell_stop.result c.as_slice.ensures c.in-Err.ensures c.tell_stop.ensures
 
 pub returns-in-Err-clause-fault : goal.returns-in-Err-clause-fault

@@ -8,7 +8,7 @@ use Rattle.commands.proofs.resumes.resume_program.Goals as goal
 
 pub returns-in-Err-clause-answer : goal.returns-in-Err-clause-answer
 returns-in-Err-clause-answer g c =
-    stops_reading c.args.program.now c.args.words.now c.as_str-name.result.now _ _ c.in-Err.stop
+    stops_reading c.args.program c.args.words.now c.as_str-name.result.now _ _ c.in-Err.stop
     c.tell_stop.result c.as_str-name.ensures
     c.in-Err.ensures.answer c.in-Err.ensures.calls.same c.tell_stop.ensures
 
@@ -20,13 +20,13 @@ returns-in-Err-clause-calls g c =
 pub run_on-requires : goal.run_on-requires
 run_on-requires g c =
     let it = c.in-Ok-wake.ensures in
-    is_ready c.args.program.now it.machine it.position c.in-Ok-wake.ready it.has it.restored
+    is_ready c.args.program it.machine it.position c.in-Ok-wake.ready it.has it.restored
     c.runnable.ensures.can c.requires.script
 
 pub returns-in-Ok-wake-clause-answer : goal.returns-in-Ok-wake-clause-answer
 returns-in-Ok-wake-clause-answer g c =
     let it = c.in-Ok-wake.ensures in
-    reads c.args.program.now c.args.words.now c.as_str-name.result.now c.in-Ok.image
+    reads c.args.program c.args.words.now c.as_str-name.result.now c.in-Ok.image
     c.as_slice.result.now _ _ _ c.run_on.result c.as_str-name.ensures c.in-Ok.ensures.answer
     c.as_slice.ensures c.in-Ok.ensures.calls.same
     (inr (inr (record {
@@ -34,7 +34,7 @@ returns-in-Ok-wake-clause-answer g c =
       position = it.position;
       image = it.image;
       resumes =
-          goes_on c.args.program.now c.args.words.now it.machine it.position c.in-Ok-wake.ready
+          goes_on c.args.program c.args.words.now it.machine it.position c.in-Ok-wake.ready
           c.as_str-name.result.now _ _ c.run_on.result c.runnable.ensures.can.runnable it.has
           it.restored c.as_str-name.ensures
           c.run_on.ensures.answer;
@@ -46,10 +46,10 @@ returns-in-Ok-wake-clause-calls g c =
 
 pub returns-in-Err-Stop-clause-answer : goal.returns-in-Err-Stop-clause-answer
 returns-in-Err-Stop-clause-answer g c =
-    reads c.args.program.now c.args.words.now c.as_str-name.result.now c.in-Ok.image
+    reads c.args.program c.args.words.now c.as_str-name.result.now c.in-Ok.image
     c.as_slice.result.now _ _ _ c.tell_stop-in-Err-Stop.result c.as_str-name.ensures
     c.in-Ok.ensures.answer c.as_slice.ensures c.in-Ok.ensures.calls.same
-    (stays_asleep c.args.program.now c.args.words.now c.as_slice.result.now c.in-Err-Stop.stop _
+    (stays_asleep c.args.program c.args.words.now c.as_slice.result.now c.in-Err-Stop.stop _
     c.tell_stop-in-Err-Stop.result (rw c.in-Err-Stop.field-0-is at c.in-Err-Stop.ensures)
     (rw c.in-Err-Stop.field-0-is at c.tell_stop-in-Err-Stop.ensures))
 
@@ -64,7 +64,7 @@ returns-in-Err-Stop-clause-calls g c =
 pub returns-clause-answer : goal.returns-clause-answer
 returns-clause-answer g c =
     let none = rw c.in-Err-Image.field-0-is at c.in-Err-Image.ensures in
-    reads c.args.program.now c.args.words.now c.as_str-name.result.now c.in-Ok.image
+    reads c.args.program c.args.words.now c.as_str-name.result.now c.in-Ok.image
     c.as_slice.result.now _ _ _ c.tell_image.result c.as_str-name.ensures c.in-Ok.ensures.answer
     c.as_slice.ensures c.in-Ok.ensures.calls.same
     (inr (inl (record {

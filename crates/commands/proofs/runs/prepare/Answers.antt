@@ -7,5 +7,8 @@ returns-in_err-machine c =
     let p = err_from_is_err_and c.from_residual.result c.from_residual.ensures.1 in
     rw (p.1, p.2) no_memory
 
+pub ready_at-requires-clause-limits : goal.ready_at-requires-clause-limits
+ready_at-requires-clause-limits c = rw c.in_ok-machine.ensures c.requires.limits
+
 pub returns : goal.returns
 returns c = rw c.in_ok-machine.ensures at c.ready_at.ensures

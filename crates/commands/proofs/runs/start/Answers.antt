@@ -1,11 +1,13 @@
-use Rattle.std.proofs.Common.{◌∙◌, rules, w32, FitsSigned, sym, subst, []}
+use Rattle.std.proofs.Common.{rules, w32, FitsSigned, sym, subst, []}
 use Rattle.std.proofs.Common.{ℤ, Err}
 use Rattle.std.proofs.lemmas.Int.{to_z-of_z}
-use Rattle.command_parts.specs.declared.status.Status.TheVariants as status
+use Rattle.pawn_outside.specs.Said.{Said}
 use Rattle.amx_machine.specs.Machine.{Machine, IsIdle}
 use Rattle.amx_machine.specs.Starts.{StartsSo}
-use Rattle.command_parts.proofs.FaultCountLaws.{calls_nothing, told_other}
+use Rattle.command_parts.proofs.FaultCountLaws.{calls_nothing}
+use Rattle.commands.specs.ReadySegment.{program_of}
 use Rattle.commands.proofs.StartLaws.{ready_there, finishes_there, finishes_at_once}
+use Rattle.commands.proofs.StartLaws.{runs_nowhere}
 use Rattle.commands.proofs.runs.start.Goals as goal
 
 pub start-requires : goal.start-requires
@@ -15,7 +17,7 @@ pub run_on-requires : goal.run_on-requires
 run_on-requires g c =
     let fits : FitsSigned w32 c.args.entry = search rules in
     let started = rw (to_z-of_z w32 c.args.entry fits) at c.in-Ok.ensures in
-    ready_there c.args.program.now c.args.ready c.args.words.now.entry c.args.entry
+    ready_there (program_of c.args.ready) c.args.ready c.args.words.now.entry c.args.entry
     c.requires.prepared c.requires.can c.requires.script
     c.requires.there c.start.new.self started
 
@@ -23,7 +25,7 @@ pub returns-in-Ok-clause-answer : goal.returns-in-Ok-clause-answer
 returns-in-Ok-clause-answer g c =
     let fits : FitsSigned w32 c.args.entry = search rules in
     let started = rw (to_z-of_z w32 c.args.entry fits) at c.in-Ok.ensures in
-    finishes_there _ c.args.program.now c.args.ready c.args.words.now c.args.entry
+    finishes_there _ (program_of c.args.ready) c.args.ready c.args.words.now c.args.entry
     c.requires.can c.requires.prepared c.requires.there c.start.new.self started
     c.as_str-image.result.now c.as_str-image.ensures _ _ c.args.out.now c.run_on.new.out
     c.run_on.result c.run_on.ensures.answer
@@ -39,14 +41,18 @@ returns-in-Err-clause-answer g c =
     (Err c.in-Err.fault) c.start.new.self in
     let failed = subst P (to_z-of_z w32 c.args.entry fits) c.in-Err.ensures in
     let code_fits : FitsSigned w32 c.code.result = search rules in
-    finishes_at_once _ c.args.program.now c.args.ready c.args.words.now c.args.entry
-    c.requires.can c.requires.prepared c.requires.there c.in-Err.fault
-    c.start.new.self failed c.code.result c.code.ensures _ c.args.out.now c.say_end.new.out
-    c.say_end.result c.told.result
-    (rw (to_z-of_z w32 c.code.result code_fits) at c.say_end.ensures) c.told.ensures
+    let words = c.args.words.now in
+    let program = program_of c.args.ready in
+    finishes_at_once program c.args.ready words c.args.entry c.requires.can
+    c.requires.prepared c.requires.there c.in-Err.fault c.start.new.self failed
+    (Said g.S.Sink.taken g.S.Sink.faults g.S.Sink.has_room) _ c.args.out.now c.tell_run.new.out
+    c.tell_run.result
+    (c.tell_run.ensures.tells _ c.args.out.now
+    (runs_nowhere program c.args.ready words c.args.entry c.requires.can
+    c.requires.prepared c.requires.there c.in-Err.fault c.start.new.self failed c.code.result
+    c.say_error.result c.code.ensures
+    (rw (to_z-of_z w32 c.code.result code_fits) at c.say_error.ensures.is)
+    (rw (to_z-of_z w32 c.code.result code_fits) at c.say_error.ensures.line)))
 
 pub returns-in-Err-clause-calls : goal.returns-in-Err-clause-calls
-returns-in-Err-clause-calls g c =
-    calls_nothing c.args.files.now
-    (λ e. told_other status.Ended c.say_end.result (λ f. absurd (cc f))
-    (sym c.told.ensures ∙ e))
+returns-in-Err-clause-calls g c = calls_nothing c.args.files.now c.tell_run.ensures.fault

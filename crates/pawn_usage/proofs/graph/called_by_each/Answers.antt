@@ -1,4 +1,4 @@
-use Rattle.std.proofs.Common.{◌≡◌, ◌∙◌, sym, ap, subst, Some, None, slice_get, slice_set, length, take, arith}
+use Rattle.std.proofs.Common.{◌∙◌, ap, length, arith}
 use Rattle.std.proofs.Common.{[], map}
 use Rattle.pawn_meaning.specs.Program.{Function}
 use Rattle.pawn_meaning.specs.View.{program_view, function_view, body_view}

@@ -1,4 +1,4 @@
-use Rattle.std.proofs.Common.{◌≡◌, ◌∙◌, sym, ap, subst, Some, None, slice_get, slice_set, length, take, arith}
+use Rattle.std.proofs.Common.{◌≡◌, subst, Some, slice_get, arith}
 use Rattle.std.proofs.Common.{map}
 use Rattle.pawn_meaning.specs.Need.{need}
 use Rattle.pawn_meaning.specs.Capped.{capped}

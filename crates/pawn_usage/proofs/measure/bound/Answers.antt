@@ -1,4 +1,3 @@
-use Rattle.std.proofs.Common.{◌≡◌, ◌∙◌, sym, ap, subst, Some, None, slice_get, slice_set, length, take, arith}
 use Rattle.pawn_usage.specs.IsGraph.{plain}
 use Rattle.pawn_usage.proofs.SearchLaws.{start_there, bounded}
 use Rattle.pawn_usage.proofs.measure.bound.Goals as goal

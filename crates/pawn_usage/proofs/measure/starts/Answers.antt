@@ -1,5 +1,5 @@
-use Rattle.std.proofs.Common.{◌≡◌, ◌∙◌, sym, ap, subst, Some, None, slice_get, slice_set, length, take, arith}
-use Rattle.std.proofs.Common.{◌++◌, map}
+use Rattle.std.proofs.Common.{◌∙◌, ap, length, arith}
+use Rattle.std.proofs.Common.{◌++◌}
 use Rattle.pawn_meaning.specs.Program.{Public}
 use Rattle.pawn_meaning.specs.View.{public_view}
 use Rattle.pawn_meaning.specs.declared.program.Public as held

@@ -1,4 +1,4 @@
-use Rattle.std.proofs.Common.{◌≡◌, ◌∙◌, sym, ap, subst, Some, None, slice_get, slice_set, length, take, arith}
+use Rattle.std.proofs.Common.{◌∙◌, sym, ap, subst, slice_get, slice_set}
 use Rattle.std.proofs.Common.{◌+◌}
 use Rattle.pawn_usage.specs.IsGraph.{plain}
 use Rattle.pawn_usage.specs.Marks.{IsAtCall, stage}

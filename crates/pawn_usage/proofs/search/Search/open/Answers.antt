@@ -1,4 +1,4 @@
-use Rattle.std.proofs.Common.{◌≡◌, ◌∙◌, sym, ap, subst, Some, None, slice_get, slice_set, length, take, arith}
+use Rattle.std.proofs.Common.{◌∙◌, sym, ap, slice_set}
 use Rattle.pawn_usage.specs.IsGraph.{plain}
 use Rattle.pawn_usage.proofs.StepLaws.{begins}
 use Rattle.pawn_usage.proofs.search.Search.open.Goals as goal
