@@ -1,10 +1,10 @@
 ghost use Rattle.std.specs.Prelude.{◌≡◌, ◌<◌, ◌≤◌, ◌+◌, ◌^◌, IfOk, IfSome, length};
 ghost use Rattle.host_script.specs.Ranges.{IsScript};
 ghost use Rattle.amx_ops.specs.Writable.{cells_limit};
+ghost use Rattle.amx_machine.specs.declared.mode.Mode.TheVariants as mode;
 ghost use Rattle.host_run.specs.Bound.{bound_of};
 ghost use Rattle.host_run.specs.Stands.{IsAwake};
 
-use super::files::started;
 use amx_machine::Machine;
 use amx_ops::{Amx, Record};
 use amx_verify::{Verified, verify};
@@ -104,6 +104,28 @@ fn play_on(
     }
 }
 
+/// The natives of a file, bound to a script.
+fn bound_to(alloc: Global, verified: &Verified, script: &Script) -> Option<Bound>
+    requires { (IsScript script.now) × (length verified.now.natives < 2 ^ 31) }
+    ensures { IfSome result (λ bound. bound ≡ bound_of script.now verified.now.natives) }
+{
+    bind(alloc, verified, script).ok()
+}
+
+/// A file's machine, started at main.
+fn started(alloc: Global, verified: Verified) -> Option<Machine>
+    ensures running { IfSome result (λ machine. machine.mode ≡ mode.Running) }
+    ensures file { IfSome result (λ machine. machine.amx ≡ verified) }
+{
+    let Ok(mut machine) = Machine::load(alloc, verified) else {
+        return None;
+    };
+    match machine.start(-1, &[]) {
+        Ok(()) => Some(machine),
+        Err(_) => None,
+    }
+}
+
 /// The same of a file's machine.
 fn play_under(
     alloc: Global,
@@ -114,7 +136,7 @@ fn play_under(
 ) -> Option<Came>
     requires { (IsScript script.now) × (length verified.natives < 2 ^ 31) }
 {
-    let mut bound = bind(alloc, &verified, script).ok()?;
+    let mut bound = bound_to(alloc, &verified, script)?;
     let mut machine = started(alloc, verified)?;
     Some(play_on(&mut machine, &mut bound, script, steps, out))
 }

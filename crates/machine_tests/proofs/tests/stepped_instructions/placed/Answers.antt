@@ -5,7 +5,7 @@ use Rattle.machine_tests.proofs.tests.stepped_instructions.placed.Goals as goal
 
 pub clear-requires : goal.clear-requires
 clear-requires c =
-    let amx = c.args.verified.now in
+    let amx = c.args.verified in
     let r = c.args.start in
     let hea : bits_of r.hea % 4 ≡ 0 = search rules in
     let stk : bits_of r.stk % 4 ≡ 0 = search rules in
