@@ -4,6 +4,7 @@ pub mod Examples
 pub mod FileLaws
 pub mod HeaderLaws
 pub mod LimitLaws
+pub mod NameLaws
 pub mod Numbers
 pub mod ReadLaws
 pub mod RowLaws

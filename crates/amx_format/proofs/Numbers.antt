@@ -9,7 +9,7 @@ use Rattle.std.proofs.lemmas.List.Elements.{All-head, All-tail}
 use Rattle.byteorder.specs.Numbers.{little_number-reads_back}
 use mir.Facts.{Fits-of_z}
 use Rattle.amx_format.specs.Numbers.{word_at, cell_at, cells_at}
-use Rattle.amx_format.specs.Records.{name_from}
+use Rattle.amx_ops.specs.Names.{name_from}
 use Rattle.amx_format.specs.Layout.{word, cells}
 
 pub length-word : (x : ℕ) → length (word x) ≡ 4

@@ -1,29 +1,14 @@
 -- What a loop of the reader has read so far.
-use Rattle.std.proofs.Common.{◌≡◌, ◌≢◌, ◌+◌, ◌-◌, ◌*◌, ◌<◌, ◌≤◌, ℕ, zero, suc, ℤ, List, [], ◌∷◌}
-use Rattle.std.proofs.Common.{◌++◌, ◌/◌, false, get_or, length, take, refl, sym, ap, ap₂, subst}
+use Rattle.std.proofs.Common.{◌≡◌, ◌+◌, ◌-◌, ◌*◌, ◌<◌, ◌≤◌, ℕ, zero, suc, ℤ, List, [], ◌∷◌}
+use Rattle.std.proofs.Common.{◌++◌, ◌/◌, false, length, refl, sym, ap, ap₂, subst}
 use Rattle.std.proofs.Common.{◌∙◌, arith}
-use Rattle.std.specs.Prelude.{All}
 use Rattle.std.proofs.lemmas.List.{append_assoc, append-nil}
-use Rattle.std.proofs.lemmas.List.Elements.{All-head, All-tail}
 use Rattle.amx_ops.specs.declared.amx.Record.{Record}
 use Rattle.amx_format.specs.Numbers.{cell_at, cells_at}
 use Rattle.amx_format.specs.declared.header.Header.{Header}
 use Rattle.amx_format.specs.Header.{header_of, is_compact, code_cells, store_cells, HasParts}
 use Rattle.amx_format.specs.File.{AreCellsOf, HasCells}
-use Rattle.amx_format.specs.Records.{name_from, record_at, records_at}
-
--- bytes without a zero up to a zero are a name
-pub name_from-take : (text : List ℕ) (i : ℕ) → i < length text
-    → All (λ byte. byte ≢ 0) (take i text) → get_or text i 0 ≡ 0 → take i text ≡ name_from text
-name_from-take [] i h none zero_ = absurd (omega arith)
-name_from-take (zero ∷ text) zero h none zero_ = refl
-name_from-take (suc byte ∷ text) zero h none zero_ = absurd (omega (arith, zero_))
-name_from-take (zero ∷ text) (suc i) h none zero_ =
-    absurd (All-head (λ byte. byte ≢ 0) zero (take i text) none refl)
-name_from-take (suc byte ∷ text) (suc i) h none zero_ =
-    ap (λ (bytes : List ℕ). suc byte ∷ bytes)
-    (name_from-take text i (omega arith)
-    (All-tail (λ byte. byte ≢ 0) (suc byte) (take i text) none) zero_)
+use Rattle.amx_format.specs.Records.{record_at, records_at}
 
 cells_at-suc : (bytes : List ℕ) (place n m : ℕ) → n ≡ suc m
     → cells_at bytes place n ≡ cell_at bytes place ∷ cells_at bytes (place + 4) m

@@ -9,7 +9,8 @@ use Rattle.std.proofs.lemmas.List.Elements.{All-head, All-tail}
 use Rattle.amx_ops.specs.declared.amx.Record.{Record}
 use Rattle.amx_ops.specs.Writable.{IsWritableName, names_size}
 use Rattle.amx_format.specs.Numbers.{word_at, cell_at}
-use Rattle.amx_format.specs.Records.{name_from, record_at, records_at}
+use Rattle.amx_ops.specs.Names.{name_from}
+use Rattle.amx_format.specs.Records.{record_at, records_at}
 use Rattle.amx_format.specs.Layout.{word, table, names}
 use Rattle.amx_format.specs.Ranges.{AddressesFit}
 use Rattle.amx_format.proofs.Numbers.{length-word, word_at-word, cell_at-word, name_from-name}

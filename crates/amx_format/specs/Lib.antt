@@ -3,6 +3,7 @@ pub mod File
 pub mod Header
 pub mod Layout
 pub mod Limits
+pub mod NameText
 pub mod Numbers
 pub mod Ranges
 pub mod Records

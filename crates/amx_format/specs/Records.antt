@@ -3,15 +3,10 @@
 use Rattle.std.specs.Prelude.{◌≡◌, ◌+◌, ◌-◌, ◌*◌, ◌/◌, ◌<◌, ◌≤◌, ℕ, zero, suc, List, [], ◌∷◌}
 use Rattle.std.specs.Prelude.{length, drop, slice_index}
 use Rattle.amx_ops.specs.declared.amx.Record.{Record}
+use Rattle.amx_ops.specs.Names.{name_from}
 use Rattle.amx_format.specs.declared.header.Header.{Header}
 use Rattle.amx_format.specs.declared.header.TheConstants.{RECORD}
 use Rattle.amx_format.specs.Numbers.{word_at, cell_at}
-
--- the bytes before the first zero
-abbrev pub name_from : List ℕ → List ℕ
-name_from [] = []
-name_from (zero ∷ bytes) = []
-name_from (suc byte ∷ bytes) = suc byte ∷ name_from bytes
 
 -- a record, with the name to which it leads
 abbrev pub record_at : List ℕ → ℕ → Record

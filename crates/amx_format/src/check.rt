@@ -72,7 +72,7 @@ fn are_closed(bytes: &[u8], header: &Header) -> bool
 }
 
 /// The place behind the last zero byte, or 0.
-fn past_last_zero(text: &[u8]) -> usize
+pub fn past_last_zero(text: &[u8]) -> usize
     ensures within { result ≤ length text.now }
     ensures zero { 0 < result → slice_index text.now (result - 1) ≡ 0 }
     ensures last { (place : ℕ) → result ≤ place → place < length text.now

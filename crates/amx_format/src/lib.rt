@@ -6,6 +6,7 @@ mod encoding;
 mod fault;
 mod file;
 mod header;
+mod names;
 mod number;
 mod place;
 mod reader;

@@ -4,23 +4,21 @@ ghost use Rattle.amx_ops.specs.declared.amx.Amx.{Amx};
 ghost use Rattle.amx_format.specs.declared.fault.FormatFault.{FormatFault};
 ghost use Rattle.amx_format.specs.Header.{header_of, code_cells, store_cells, HasOrder, HasSize};
 ghost use Rattle.amx_format.specs.Numbers.{word_at, cell_at, cells_at};
-ghost use Rattle.amx_format.specs.Records.{name_from, record_at, records_at, table_at};
+ghost use Rattle.amx_format.specs.Records.{record_at, records_at, table_at};
+ghost use Rattle.amx_format.specs.NameText.{HasNames};
 ghost use Rattle.amx_format.specs.Faults.{HasCellFault, row_of};
 ghost use Rattle.amx_format.specs.File.{HasCells, IsFile, Answers};
 ghost use Rattle.amx_format.specs.Limits.{IsWithinLimits};
 
 use super::check::check;
 use super::fault::FormatFault;
-use super::header::{FILE_LIMIT, Header};
+use super::header::Header;
+use super::names::{NameText, read_names};
 use super::number::{read_cell, read_word};
 use amx_compact::read_cells;
 use amx_ops::{Amx, Record};
-use pawn_base::{Bytes, Cells, List, Memory};
+use pawn_base::{Cells, List, Memory};
 use std::alloc::Global;
-
-/// The bytes that the names of one table may take together: as many as the greatest file has. Where
-/// records share long names, they could take the product of both.
-const NAMES_LIMIT: usize = FILE_LIMIT as usize;
 
 /// So many plain cells from a place on.
 fn read_plain(alloc: Global, bytes: &[u8], place: usize, count: usize) -> Result<Cells, Memory>
@@ -65,51 +63,33 @@ fn read_parts(alloc: Global, bytes: &[u8], header: &Header) -> Result<Parts, For
     })
 }
 
-/// The bytes before the first zero, or none where they are more than so many.
-fn name_within(text: &[u8], most: usize) -> Option<&[u8]>
-    ensures name { MatchOption result (Unit {0}) (λ name. name.now ≡ name_from text.now) }
-    ensures few { MatchOption result (Unit {0}) (λ name. length name.now ≤ most) }
+/// The record at a place. `Memory` says that its name isn't among the names.
+fn read_record(bytes: &[u8], names: &NameText, place: usize) -> Result<Record, Memory>
+    requires place { place + 8 ≤ length bytes.now }
+    requires names { HasNames bytes.now names.now.text.value names.now.first }
+    ensures { IfOk result (λ it. it ≡ record_at bytes.now place) }
 {
-    for (index, byte) in text.iter().enumerate() {
-        if *byte == 0 {
-            return Some(&text[..index]);
-        }
-        if index == most {
-            return None;
-        }
-    }
-    None
-}
-
-/// The record at a place. `Memory` says that its name has more bytes than are left.
-fn read_record(alloc: Global, bytes: &[u8], place: usize, left: usize) -> Result<Record, Memory>
-    requires { place + 8 ≤ length bytes.now }
-    ensures record_ { IfOk result (λ it. it ≡ record_at bytes.now place) }
-    ensures few { IfOk result (λ it. length it.name ≤ left) }
-{
-    let start = read_word(bytes, place + 4) as usize;
-    if bytes.len() < start {
-        return Err(Memory);
-    }
-    let Some(name) = name_within(&bytes[start..], left) else {
-        return Err(Memory);
-    };
     Ok(Record {
         address: read_cell(bytes, place),
-        name: Bytes::from_slice(alloc, name)?,
+        name: names.name(read_word(bytes, place + 4))?,
     })
 }
 
 /// The table from a place to another.
-fn read_table(alloc: Global, bytes: &[u8], first: u32, past: u32) -> Result<List<Record>, Memory>
-    requires { past ≤ length bytes.now }
+fn read_table(
+    alloc: Global,
+    bytes: &[u8],
+    names: &NameText,
+    first: u32,
+    past: u32,
+) -> Result<List<Record>, Memory>
+    requires past { past ≤ length bytes.now }
+    requires names { HasNames bytes.now names.now.text.value names.now.first }
     ensures { IfOk result (λ records. records ≡ table_at bytes.now first past) }
 {
     let mut records = List::new(alloc);
-    let mut left = NAMES_LIMIT;
     for index in 0..(past.saturating_sub(first) / 8) as usize {
-        let record = read_record(alloc, bytes, first as usize + 8 * index, left)?;
-        left -= record.name.len();
+        let record = read_record(bytes, names, first as usize + 8 * index)?;
         records.push(record)?;
     }
     Ok(records)
@@ -120,6 +100,7 @@ fn read_file(alloc: Global, bytes: &[u8]) -> Result<Amx, FormatFault>
 {
     let header = check(bytes)?;
     let parts = read_parts(alloc, bytes, &header)?;
+    let names = read_names(alloc, bytes, &header)?;
     Ok(Amx {
         flags: header.kept_flags(),
         version: header.version,
@@ -127,16 +108,16 @@ fn read_file(alloc: Global, bytes: &[u8]) -> Result<Amx, FormatFault>
         store: parts.store,
         room: (header.stp - header.hea) / 4,
         entry: header.cip,
-        publics: read_table(alloc, bytes, header.publics, header.natives)?,
-        natives: read_table(alloc, bytes, header.natives, header.libraries)?,
-        libraries: read_table(alloc, bytes, header.libraries, header.variables)?,
-        variables: read_table(alloc, bytes, header.variables, header.tags)?,
-        tags: read_table(alloc, bytes, header.tags, header.names)?,
+        publics: read_table(alloc, bytes, &names, header.publics, header.natives)?,
+        natives: read_table(alloc, bytes, &names, header.natives, header.libraries)?,
+        libraries: read_table(alloc, bytes, &names, header.libraries, header.variables)?,
+        variables: read_table(alloc, bytes, &names, header.variables, header.tags)?,
+        tags: read_table(alloc, bytes, &names, header.tags, header.names)?,
     })
 }
 
 /// The Amx of a file (Implementer's Guide, "File format"). A refusal is the first fault of the
-/// bytes. `Memory` also comes where the names of one table take more than 64 MiB together.
+/// bytes. Names share the bytes of the name table, which are copied once.
 #[tactic(auto, using(crate::proofs::Determines::one_answer))]
 pub fn read(alloc: Global, bytes: &[u8]) -> Result<Amx, FormatFault>
     ensures answer { Answers bytes.now result }

@@ -2,7 +2,7 @@ ghost use Rattle.std.specs.Prelude.{IfOk};
 ghost use Rattle.amx_format.specs.Sorts.{Sorts};
 
 use amx_ops::Record;
-use pawn_base::{Bytes, List, Memory};
+use pawn_base::{List, Memory};
 use std::alloc::Global;
 
 /// A copy of records, sorted by the bytes of their names. Those of one name stay in their order.
@@ -13,7 +13,7 @@ pub fn sorted(alloc: Global, records: &[Record]) -> Result<List<Record>, Memory>
     for record in records {
         copy.push(Record {
             address: record.address,
-            name: Bytes::from_slice(alloc, record.name.as_slice())?,
+            name: record.name.share()?,
         })?;
     }
     copy.sort_by(|a, b| a.name.as_slice().cmp(b.name.as_slice()))?;

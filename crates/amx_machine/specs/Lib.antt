@@ -3,3 +3,4 @@ pub mod Lending
 pub mod Machine
 pub mod Runs
 pub mod Starts
+pub mod Unseen

@@ -11,7 +11,7 @@ mod start;
 
 pub use amx_step::Registers;
 pub use event::Event;
-pub use laws::runs_are_bounded;
+pub use laws::{dead_cells_are_unseen, runs_are_bounded};
 pub use machine::Machine;
 pub use mode::Mode;
 pub use start::StartFault;

@@ -1,4 +1,5 @@
 ghost use Rattle.std.specs.Prelude.{◌≡◌, IfOk};
+ghost use Rattle.amx_ops.specs.State.{swept};
 ghost use Rattle.amx_machine.specs.Machine.{IsClean, IsIdle, IsSteady, first};
 ghost use Rattle.amx_machine.specs.Runs.{Follows, behind, core_of, event_of};
 ghost use Rattle.amx_machine.specs.Runs.{last_event, mode_behind, ran};
@@ -121,6 +122,19 @@ impl Machine {
     {
         self.core.answer(value);
         self.mode = Mode::Running;
+    }
+
+    /// A native's answer, in PRI, and a sleep there: the next run goes on behind the native. What is
+    /// dead is 0, as at each sleep.
+    pub fn park(&mut self, value: i32)
+        requires { self.old.mode ≡ mode.Waiting }
+        ensures { self.new ≡ record self.old {
+          state = swept (record self.old.state { pri = value });
+          mode = mode.Asleep;
+        } }
+    {
+        self.core.answer(value);
+        self.mode = Mode::Asleep;
     }
 
     /// A native's error, which ends the machine.

@@ -7,6 +7,7 @@ pub mod FetchLaws
 pub mod FrontLaws
 pub mod KeepsLaws
 pub mod Made
+pub mod NameLaws
 pub mod NativeExamples
 pub mod NativeLaws
 pub mod NativeSizes

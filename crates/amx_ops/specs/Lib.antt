@@ -4,6 +4,7 @@ pub mod Effects
 pub mod Instructions
 pub mod Keeps
 pub mod Moves
+pub mod Names
 pub mod Runs
 pub mod State
 pub mod States

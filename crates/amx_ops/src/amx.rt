@@ -1,4 +1,5 @@
-use pawn_base::{Bytes, Cells, List};
+use super::name::Name;
+use pawn_base::{Cells, List};
 
 /// An AMX file (Implementer's Guide, "File format").
 #[derive(Debug, Drop)]
@@ -25,5 +26,5 @@ pub struct Amx {
 pub struct Record {
     /// An address, or a tag's number.
     pub address: i32,
-    pub name: Bytes,
+    pub name: Name,
 }

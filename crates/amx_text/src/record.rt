@@ -1,10 +1,10 @@
-ghost use Rattle.std.specs.Prelude.{◌≡◌};
+ghost use Rattle.std.specs.Prelude.{◌≡◌, IfOk};
 ghost use Rattle.amx_text.specs.Readers.{Gives, kind_at, any_kind_at, ReadsRecord};
 
 use super::kind::Kind;
 use super::reader::{after_word, cell_at, name_at};
-use amx_ops::Record;
-use pawn_base::Memory;
+use amx_ops::{Name, Record};
+use pawn_base::{Bytes, Memory};
 use std::alloc::Global;
 
 /// The table that the word at a text's front names, this one or a later one, and what stands behind
@@ -50,7 +50,15 @@ pub fn record_at(alloc: Global, text: &[u8]) -> Result<Option<(Record, &[u8])>, 
         return Ok(None);
     };
     match after_word(rest, b"\n") {
-        Some(rest) => Ok(Some((Record { address, name }, rest))),
+        Some(rest) => Ok(Some((record_of(alloc, address, name)?, rest))),
         None => Ok(None),
     }
+}
+
+/// A record with a name of its own bytes.
+fn record_of(alloc: Global, address: i32, name: Bytes) -> Result<Record, Memory>
+    ensures { IfOk result (λ it. it ≡ record { address = address; name = name }) }
+{
+    let name = Name::from_bytes(alloc, name)?;
+    Ok(Record { address, name })
 }

@@ -1,7 +1,7 @@
 -- What one event comes to: an end, a sleep, a native that was answered, or nothing.
 use Rattle.std.proofs.Common.{◌≡◌, ◌≢◌, ◌≤◌, ◌⊎◌, inl, inr, ℕ, ℤ, pos, negsuc, false, List, [], ◌∷◌}
 use Rattle.std.proofs.Common.{◌++◌, Option, None, Some, length, refl, sym, ap, ap₂, subst, ◌∙◌}
-use Rattle.std.proofs.Common.{append-nil, arith}
+use Rattle.std.proofs.Common.{append-nil, length-append, arith}
 use Rattle.std.proofs.lemmas.Bool.{ne_eqb}
 use Rattle.host_script.specs.declared.script.Script.{Script}
 use Rattle.host_script.specs.declared.event.Event.{Event as Shown}
@@ -22,7 +22,7 @@ use Rattle.host_run.specs.declared.end.SessionEnd.{SessionEnd}
 use Rattle.host_run.specs.declared.end.SessionEnd.TheVariants as answer
 use Rattle.host_run.specs.declared.guest.Guest.{Guest}
 use Rattle.host_run.specs.Called.{called_for, called_of}
-use Rattle.host_run.specs.Segments.{Place, lines_of}
+use Rattle.host_run.specs.Segments.{Place, lines_behind}
 use Rattle.host_run.specs.Stands.{IsEnded}
 use Rattle.host_run.specs.Advance.{IsGiven, Advanced, IsOver, IsSleep, IsGuest, call_by}
 use Rattle.host_run.specs.Reached.{placed}
@@ -32,8 +32,13 @@ none_more : (s : State) (position : ℕ) (before : List Shown)
     → placed s position before ≡ placed s position (before ++ [])
 none_more s position before = ap (placed s position) (sym (append-nil before))
 
-one_line : (event : Shown) → lines_of (event ∷ []) ++ [] ≡ event_text event
-one_line event = append-nil (lines_of (event ∷ [])) ∙ append-nil (event_text event)
+one_line : (front : List ℕ) (event : Shown)
+    → lines_behind front (event ∷ []) ++ [] ≡ front ++ event_text event
+one_line front event =
+    append-nil (lines_behind front (event ∷ [])) ∙ append-nil (front ++ event_text event)
+
+some_behind : (front text : List ℕ) → 1 ≤ length text → 1 ≤ length (front ++ text)
+some_behind front text h = omega (arith, h, length-append front text)
 
 some_event : (event : Shown) → 1 ≤ length (event_text event)
 some_event (shown.Native name seen result) = omega arith
@@ -71,12 +76,13 @@ given_on : (s : State) (given : Option SessionEnd)
 given_on s given (inl e) = subst (IsGiven Steps s) (sym e) refl
 given_on s given (inr e) = subst (IsGiven Steps s) (sym e) tt
 
-module _ {go : List Shown → Moved Config End} {new : Place} {say : List ℕ → Type 0} where
+module _ {front : List ℕ} {go : List Shown → Moved Config End} {new : Place}
+    {say : List ℕ → Type 0} where
   pub ends : (e : End) (given : SessionEnd)
       → ((before : List Shown) → go before
       ≡ run.Ends e (placed new.machine.state new.position before))
-      → IsEnded e new.machine.mode → IsOver e given → say (end_text e)
-      → Advanced go new (Some given) say
+      → IsEnded e new.machine.mode → IsOver e given → say (front ++ end_text e)
+      → Advanced front go new (Some given) say
   ends e given is mode over said = record {
     stop = Over_by e;
     shown = [];
@@ -84,7 +90,7 @@ module _ {go : List Shown → Moved Config End} {new : Place} {say : List ℕ �
     mode = mode;
     gives = given_over e new.machine.mode new.machine.state given mode over;
     said = said;
-    some = λ h. some_end e new.machine.mode mode;
+    some = λ h. some_behind front (end_text e) (some_end e new.machine.mode mode);
   }
 
   pub sleeps : (pri alt : ℤ) (given : SessionEnd) → pri ≡ new.machine.state.pri
@@ -93,7 +99,7 @@ module _ {go : List Shown → Moved Config End} {new : Place} {say : List ℕ �
       ≡ run.Sleeps (placed new.machine.state new.position
       (before ++ shown.Slept new.machine.state.pri new.machine.state.alt ∷ [])))
       → new.machine.mode ≡ mode.Asleep → IsSleep pri alt given
-      → say (event_text (shown.Slept pri alt)) → Advanced go new (Some given) say
+      → say (front ++ event_text (shown.Slept pri alt)) → Advanced front go new (Some given) say
   sleeps pri alt given p a is mode sleep said = record {
     stop = Asleep;
     shown = shown.Slept new.machine.state.pri new.machine.state.alt ∷ [];
@@ -104,32 +110,35 @@ module _ {go : List Shown → Moved Config End} {new : Place} {say : List ℕ �
         (subst (λ x. IsSleep x new.machine.state.alt given) p
         (subst (λ x. IsSleep pri x given) a sleep));
     said =
-        subst say (ap₂ (λ x y. event_text (shown.Slept x y)) p a
-        ∙ sym (one_line (shown.Slept new.machine.state.pri new.machine.state.alt))) said;
+        subst say (ap₂ (λ x y. front ++ event_text (shown.Slept x y)) p a
+        ∙ sym (one_line front (shown.Slept new.machine.state.pri new.machine.state.alt))) said;
     some =
         λ h. subst (λ text. 1 ≤ length text)
-        (sym (one_line (shown.Slept new.machine.state.pri new.machine.state.alt)))
-        (some_event (shown.Slept new.machine.state.pri new.machine.state.alt));
+        (sym (one_line front (shown.Slept new.machine.state.pri new.machine.state.alt)))
+        (some_behind front
+        (event_text (shown.Slept new.machine.state.pri new.machine.state.alt))
+        (some_event (shown.Slept new.machine.state.pri new.machine.state.alt)));
   }
 
   pub answers : (event : Shown) (given : Option SessionEnd)
       → (given ≡ None) ⊎ (given ≡ Some answer.SinkFault)
       → ((before : List Shown) → go before
       ≡ run.Goes (placed new.machine.state new.position (before ++ event ∷ [])))
-      → new.machine.mode ≡ mode.Running → say (event_text event) → Advanced go new given say
+      → new.machine.mode ≡ mode.Running → say (front ++ event_text event) → Advanced front go new given say
   answers event given which is mode said = record {
     stop = Steps;
     shown = event ∷ [];
     moved = is;
     mode = mode;
     gives = given_on new.machine.state given which;
-    said = subst say (sym (one_line event)) said;
-    some = λ h. subst (λ text. 1 ≤ length text) (sym (one_line event)) (some_event event);
+    said = subst say (sym (one_line front event)) said;
+    some = λ h. subst (λ text. 1 ≤ length text) (sym (one_line front event))
+        (some_behind front (event_text event) (some_event event));
   }
 
   pub nothing : ((before : List Shown)
       → go before ≡ run.Goes (placed new.machine.state new.position before))
-      → new.machine.mode ≡ mode.Running → say [] → Advanced go new None say
+      → new.machine.mode ≡ mode.Running → say [] → Advanced front go new None say
   nothing is mode said = record {
     stop = Steps;
     shown = [];

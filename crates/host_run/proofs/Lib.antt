@@ -1,6 +1,7 @@
 pub mod AdvanceLaws
 pub mod BehindLaws
 mod CountLaws
+pub mod EntryLaws
 pub mod EventLaws
 pub mod FormLaws
 pub mod GoingLaws

@@ -20,9 +20,10 @@ use Rattle.amx_machine.specs.declared.event.Event.TheVariants as event
 use Rattle.amx_machine.specs.declared.mode.Mode.TheVariants as mode
 use Rattle.host_run.specs.declared.end.SessionEnd.{SessionEnd}
 use Rattle.host_run.specs.declared.end.SessionEnd.TheVariants as answer
-use Rattle.host_run.specs.Segments.{Place, begun, segment_of, lines_of, stop_text, text_of}
+use Rattle.host_run.specs.Segments.{Place, begun, segment_of, lines_behind, stop_behind}
+use Rattle.host_run.specs.Segments.{text_behind}
 use Rattle.host_run.specs.Stands.{IsAwake, Stands, IsLeft}
-use Rattle.host_run.specs.Session.{IsAnswer, IsCutOff, Concludes, Sessions, told}
+use Rattle.host_run.specs.Session.{IsAnswer, IsCutOff, Concludes, SessionsBehind, told}
 use Rattle.host_run.specs.Advance.{made_by, IsGiven, Advanced, turned_by, move_by, told_of}
 use Rattle.host_run.specs.Reached.{placed, Reached}
 use Rattle.host_run.specs.SoFar.{SoFar}
@@ -51,35 +52,35 @@ at_once go Asleep so_far c = refl
 at_once go (Over_by e) so_far c = refl
 
 -- what was shown comes first
-text_grows : (go : Config → Moved Config End)
+text_grows : (front : List ℕ) (go : Config → Moved Config End)
     (grows : (c : Config) → Grows c.events (config_of (go c)).events) (stop : Stop End)
     (k so_far : ℕ) (c : Config)
-    → (more : List ℕ) × (text_of (behind go stop k so_far c)
-    ≡ (lines_of c.events ++ stop_text stop) ++ more)
-text_grows go grows Steps k so_far c =
+    → (more : List ℕ) × (text_behind front (behind go stop k so_far c)
+    ≡ (lines_behind front c.events ++ stop_behind front stop) ++ more)
+text_grows front go grows Steps k so_far c =
     let rest = segment_grows go grows k so_far c in (
-      lines_of rest.0 ++ stop_text (segment go k so_far c).stop,
-      ap (λ events. lines_of events ++ stop_text (segment go k so_far c).stop) rest.1
-          ∙ ap (λ text. text ++ stop_text (segment go k so_far c).stop)
-          (flat_map-append event_text c.events rest.0)
-          ∙ append_assoc (lines_of c.events) (lines_of rest.0)
-          (stop_text (segment go k so_far c).stop)
-          ∙ ap (λ text. text ++ (lines_of rest.0 ++ stop_text (segment go k so_far c).stop))
-          (sym (append-nil (lines_of c.events))),
+      lines_behind front rest.0 ++ stop_behind front (segment go k so_far c).stop,
+      ap (λ events. lines_behind front events ++ stop_behind front (segment go k so_far c).stop) rest.1
+          ∙ ap (λ text. text ++ stop_behind front (segment go k so_far c).stop)
+          (flat_map-append (λ event. front ++ event_text event) c.events rest.0)
+          ∙ append_assoc (lines_behind front c.events) (lines_behind front rest.0)
+          (stop_behind front (segment go k so_far c).stop)
+          ∙ ap (λ text. text ++ (lines_behind front rest.0 ++ stop_behind front (segment go k so_far c).stop))
+          (sym (append-nil (lines_behind front c.events))),
     )
-text_grows go grows Asleep k so_far c = ([], sym (append-nil (lines_of c.events ++ [])))
-text_grows go grows (Over_by e) k so_far c =
-    ([], sym (append-nil (lines_of c.events ++ stop_text (Over_by e))))
+text_grows front go grows Asleep k so_far c = ([], sym (append-nil (lines_behind front c.events ++ [])))
+text_grows front go grows (Over_by e) k so_far c =
+    ([], sym (append-nil (lines_behind front c.events ++ stop_behind front (Over_by e))))
 
 abbrev place_behind : Machine → Place → Place
 place_behind m now = record { machine = m; position = now.position }
 
 -- ---- the segment, up to the event and behind it
 
-module _ {S : Type 0} (taken : S → Option (List ℕ)) (faults : S → ℕ) (has_room : S → ℕ → Type 0)
+module _ (front : List ℕ) {S : Type 0} (taken : S → Option (List ℕ)) (faults : S → ℕ) (has_room : S → ℕ → Type 0)
     (begun mid out : S)
     (script : Script) (old now new : Place) (bound done count : ℕ) (e : Event) (m : Machine)
-    (so : SoFar script old bound done now
+    (so : SoFar front script old bound done now
     (λ text. Said taken faults has_room begun mid text (Ok tt)))
     (r : Reached (bound - done) now.machine count e m) (within_bound : done < bound) where
   abbrev go : Config → Moved Config End
@@ -99,7 +100,7 @@ module _ {S : Type 0} (taken : S → Option (List ℕ)) (faults : S → ℕ) (ha
       so.file (r.leads script k done now.position so.shown)
 
   module _ (given : Option SessionEnd) (file : new.machine.amx ≡ m.amx)
-      (ad : Advanced (move_by m.amx script e (place_behind m now)) new given
+      (ad : Advanced front (move_by m.amx script e (place_behind m now)) new given
       (λ text. Said taken faults has_room mid out text (told_of given))) where
     abbrev at_end : Config
     at_end = placed new.machine.state new.position (so.shown ++ ad.shown)
@@ -170,34 +171,34 @@ module _ {S : Type 0} (taken : S → Option (List ℕ)) (faults : S → ℕ) (ha
             (sym (ap (λ it. it.stop) is)) ad.mode;
       }
 
-      text_then : lines_of (so.shown ++ ad.shown) ++ stop_text ad.stop
-          ≡ lines_of so.shown ++ (lines_of ad.shown ++ stop_text ad.stop)
+      text_then : lines_behind front (so.shown ++ ad.shown) ++ stop_behind front ad.stop
+          ≡ lines_behind front so.shown ++ (lines_behind front ad.shown ++ stop_behind front ad.stop)
       text_then =
-          ap (λ text. text ++ stop_text ad.stop) (flat_map-append event_text so.shown ad.shown)
-          ∙ append_assoc (lines_of so.shown) (lines_of ad.shown) (stop_text ad.stop)
+          ap (λ text. text ++ stop_behind front ad.stop) (flat_map-append (λ event. front ++ event_text event) so.shown ad.shown)
+          ∙ append_assoc (lines_behind front so.shown) (lines_behind front ad.shown) (stop_behind front ad.stop)
 
-      text_before : text_of (segment_of script old before) ≡ lines_of so.shown
+      text_before : text_behind front (segment_of script old before) ≡ lines_behind front so.shown
       text_before =
           let n : before ≡ before + 0 = omega arith in
-          ap (λ k. text_of (segment_of script old k)) n
-          ∙ ap text_of (up_to 0 ∙ segment-zero go before (placed r.mid now.position so.shown))
-          ∙ append-nil (lines_of so.shown)
+          ap (λ k. text_behind front (segment_of script old k)) n
+          ∙ ap (text_behind front) (up_to 0 ∙ segment-zero go before (placed r.mid now.position so.shown))
+          ∙ append-nil (lines_behind front so.shown)
 
-      text_behind : text_of (segment_of script old (done + count))
-          ≡ text_of (segment_of script old before) ++ (lines_of ad.shown ++ stop_text ad.stop)
-      text_behind =
-          ap text_of so_many ∙ text_then
-          ∙ ap (λ text. text ++ (lines_of ad.shown ++ stop_text ad.stop)) (sym text_before)
+      text_after : text_behind front (segment_of script old (done + count))
+          ≡ text_behind front (segment_of script old before) ++ (lines_behind front ad.shown ++ stop_behind front ad.stop)
+      text_after =
+          ap (text_behind front) so_many ∙ text_then
+          ∙ ap (λ text. text ++ (lines_behind front ad.shown ++ stop_behind front ad.stop)) (sym text_before)
 
       -- more may follow it
       text_whole : (more : List ℕ) ×
-          (text_of (segment_of script old bound)
-          ≡ (lines_of so.shown ++ (lines_of ad.shown ++ stop_text ad.stop)) ++ more)
+          (text_behind front (segment_of script old bound)
+          ≡ (lines_behind front so.shown ++ (lines_behind front ad.shown ++ stop_behind front ad.stop)) ++ more)
       text_whole =
           let rest =
-          text_grows go (move_grows old.machine.amx script) ad.stop (bound - (before + 1))
+          text_grows front go (move_grows old.machine.amx script) ad.stop (bound - (before + 1))
           (done + count) at_end in
-          (rest.0, ap text_of whole ∙ rest.1 ∙ ap (λ text. text ++ rest.0) text_then)
+          (rest.0, ap (text_behind front) whole ∙ rest.1 ∙ ap (λ text. text ++ rest.0) text_then)
 
       -- it stops there
       stopped : (ad.stop ≡ Steps → ⊥)
@@ -217,16 +218,16 @@ module _ {S : Type 0} (taken : S → Option (List ℕ)) (faults : S → ℕ) (ha
       stop_is : ad.stop ≡ Steps
       stop_is = subst (IsGiven ad.stop new.machine.state) on ad.gives
 
-      lines : Said taken faults has_room begun out (lines_of (so.shown ++ ad.shown)) (Ok tt)
+      lines : Said taken faults has_room begun out (lines_behind front (so.shown ++ ad.shown)) (Ok tt)
       lines =
-          let none : lines_of ad.shown ++ stop_text ad.stop ≡ lines_of ad.shown =
-          ap (λ stop. lines_of ad.shown ++ stop_text stop) stop_is
-          ∙ append-nil (lines_of ad.shown) in
-          let more : Said taken faults has_room mid out (lines_of ad.shown ++ stop_text ad.stop)
+          let none : lines_behind front ad.shown ++ stop_behind front ad.stop ≡ lines_behind front ad.shown =
+          ap (λ stop. lines_behind front ad.shown ++ stop_behind front stop) stop_is
+          ∙ append-nil (lines_behind front ad.shown) in
+          let more : Said taken faults has_room mid out (lines_behind front ad.shown ++ stop_behind front ad.stop)
           (Ok tt) =
-          subst (λ it. Said taken faults has_room mid out (lines_of ad.shown ++ stop_text ad.stop)
+          subst (λ it. Said taken faults has_room mid out (lines_behind front ad.shown ++ stop_behind front ad.stop)
           (told_of it)) on ad.said in
-          said_as (sym (flat_map-append event_text so.shown ad.shown))
+          said_as (sym (flat_map-append (λ event. front ++ event_text event) so.shown ad.shown))
           (said_then so.said (said_as none more))
 
       runs_on : new.machine.mode ≡ mode.Running
@@ -235,7 +236,7 @@ module _ {S : Type 0} (taken : S → Option (List ℕ)) (faults : S → ℕ) (ha
       by_leads : done + count ≤ bound → 1 ≤ count
           → ((k : ℕ) → segment_of script old ((done + count) + k)
           ≡ segment go k (done + count) at_end)
-          → SoFar script old bound (done + count) new
+          → SoFar front script old bound (done + count) new
           (λ text. Said taken faults has_room begun out text (Ok tt))
       by_leads within some leads = record {
         within = within;
@@ -248,7 +249,7 @@ module _ {S : Type 0} (taken : S → Option (List ℕ)) (faults : S → ℕ) (ha
         leads = leads;
       }
 
-      by_step : IsStep e → SoFar script old bound (done + count) new
+      by_step : IsStep e → SoFar front script old bound (done + count) new
           (λ text. Said taken faults has_room begun out text (Ok tt))
       by_step steps =
           by_leads (is_within steps) (omega (arith, count_is steps))
@@ -262,7 +263,7 @@ module _ {S : Type 0} (taken : S → Option (List ℕ)) (faults : S → ℕ) (ha
       by_going : (count ≡ r.passed) × (r.passed ≡ bound - done) × (m.state ≡ r.mid)
           → ((events : List Shown) → run.Goes (placed m.state now.position events)
           ≡ made_by ad.stop (placed new.machine.state new.position (events ++ ad.shown)))
-          → SoFar script old bound (done + count) new
+          → SoFar front script old bound (done + count) new
           (λ text. Said taken faults has_room begun out text (Ok tt))
       by_going last moves =
           by_leads (omega (arith, last.0, last.1, within_bound))
@@ -282,9 +283,9 @@ module _ {S : Type 0} (taken : S → Option (List ℕ)) (faults : S → ℕ) (ha
       gives : IsGiven ad.stop new.machine.state (Some g)
       gives = subst (IsGiven ad.stop new.machine.state) on ad.gives
 
-      told_so : Said taken faults has_room mid out (lines_of ad.shown ++ stop_text ad.stop) (told g)
+      told_so : Said taken faults has_room mid out (lines_behind front ad.shown ++ stop_behind front ad.stop) (told g)
       told_so =
-          subst (λ it. Said taken faults has_room mid out (lines_of ad.shown ++ stop_text ad.stop)
+          subst (λ it. Said taken faults has_room mid out (lines_behind front ad.shown ++ stop_behind front ad.stop)
           (told_of it)) on ad.said
 
       concludes : (ad.stop ≡ Steps → ⊥)
@@ -296,9 +297,9 @@ module _ {S : Type 0} (taken : S → Option (List ℕ)) (faults : S → ℕ) (ha
       }
 
       all_said : (ad.stop ≡ Steps → ⊥)
-          → Said taken faults has_room begun out (text_of (segment_of script old bound)) (told g)
+          → Said taken faults has_room begun out (text_behind front (segment_of script old bound)) (told g)
       all_said goes =
-          said_as (sym (ap text_of (stopped steps goes) ∙ text_then steps))
+          said_as (sym (ap (text_behind front) (stopped steps goes) ∙ text_then steps))
           (said_then so.said told_so)
 
     not_steps : (stop : Stop End) (x : End) → stop ≡ Over_by x → stop ≡ Steps → ⊥
@@ -309,19 +310,19 @@ module _ {S : Type 0} (taken : S → Option (List ℕ)) (faults : S → ℕ) (ha
 
     -- the sink failed at the last line
     cut_off : given ≡ Some answer.SinkFault → IsStep e
-        → IsCutOff (segment_of script old) (taken begun) (taken out) (done + count)
+        → IsCutOff front (segment_of script old) (taken begun) (taken out) (done + count)
     cut_off on steps = record {
       before = before;
       last = omega (arith, count_is steps);
-      line = lines_of ad.shown ++ stop_text ad.stop;
-      shows = text_behind steps;
+      line = lines_behind front ad.shown ++ stop_behind front ad.stop;
+      shows = text_after steps;
       some = ad.some on;
-      front = subst (λ front. WroteFront front (taken out) (lines_of ad.shown ++ stop_text ad.stop))
+      front = subst (λ it. WroteFront it (taken out) (lines_behind front ad.shown ++ stop_behind front ad.stop))
           (so.said.whole ∙ ap (with_more (taken begun)) (sym (text_before steps))) ad.said.front;
     }
 
     pub session_ends : (g : SessionEnd) → given ≡ Some g → IsStep e
-        → Sessions (segment_of script old) (taken begun) (taken out) bound old (done + count) g new
+        → SessionsBehind front (segment_of script old) (taken begun) (taken out) bound old (done + count) g new
     session_ends (answer.Done value) on steps =
         let is = gives (answer.Done value) on steps in
         concludes (answer.Done value) on steps (not_steps ad.stop _ is) is
@@ -342,7 +343,7 @@ module _ {S : Type 0} (taken : S → Option (List ℕ)) (faults : S → ℕ) (ha
     }
 
     pub text_ends : (g : SessionEnd) → given ≡ Some g → IsStep e
-        → Said taken faults has_room begun out (text_of (segment_of script old bound)) (told g)
+        → Said taken faults has_room begun out (text_behind front (segment_of script old bound)) (told g)
     text_ends (answer.Done value) on steps =
         all_said (answer.Done value) on steps
         (not_steps ad.stop _ (gives (answer.Done value) on steps))
@@ -363,10 +364,10 @@ module _ {S : Type 0} (taken : S → Option (List ℕ)) (faults : S → ℕ) (ha
 
 -- ---- all steps are done
 
-module _ {S : Type 0} (taken : S → Option (List ℕ)) (faults : S → ℕ) (has_room : S → ℕ → Type 0)
+module _ (front : List ℕ) {S : Type 0} (taken : S → Option (List ℕ)) (faults : S → ℕ) (has_room : S → ℕ → Type 0)
     (begun out : S)
     (script : Script) (old now : Place) (bound done : ℕ)
-    (so : SoFar script old bound done now
+    (so : SoFar front script old bound done now
     (λ text. Said taken faults has_room begun out text (Ok tt))) (all : bound ≤ done) where
   all_done : segment_of script old bound
       ≡ record {
@@ -380,7 +381,7 @@ module _ {S : Type 0} (taken : S → Option (List ℕ)) (faults : S → ℕ) (ha
       ∙ segment-zero (move old.machine.amx script) done
       (placed now.machine.state now.position so.shown)
 
-  pub session_done : Sessions (segment_of script old) (taken begun)
+  pub session_done : SessionsBehind front (segment_of script old) (taken begun)
       (taken out) bound old done answer.Steps now
   session_done = record {
     answer = ap (λ it. it.stop) all_done;
@@ -396,17 +397,17 @@ module _ {S : Type 0} (taken : S → Option (List ℕ)) (faults : S → ℕ) (ha
     };
   }
 
-  pub text_done : Said taken faults has_room begun out (text_of (segment_of script old bound))
+  pub text_done : Said taken faults has_room begun out (text_behind front (segment_of script old bound))
       (told answer.Steps)
-  text_done = said_as (sym (ap text_of all_done ∙ append-nil (lines_of so.shown))) so.said
+  text_done = said_as (sym (ap (text_behind front) all_done ∙ append-nil (lines_behind front so.shown))) so.said
 
 -- ---- nothing is done
 
-pub at_start : {S : Type 0} (taken : S → Option (List ℕ)) (faults : S → ℕ)
+pub at_start : (front : List ℕ) {S : Type 0} (taken : S → Option (List ℕ)) (faults : S → ℕ)
     (has_room : S → ℕ → Type 0) (out : S) (script : Script) (old : Place) (bound : ℕ)
-    → IsAwake old.machine.mode → SoFar script old bound 0 old
+    → IsAwake old.machine.mode → SoFar front script old bound 0 old
     (λ text. Said taken faults has_room out out text (Ok tt))
-at_start taken faults has_room out script old bound awake = record {
+at_start front taken faults has_room out script old bound awake = record {
   within = omega arith;
   file = refl;
   awake = awake;
@@ -420,30 +421,30 @@ at_start taken faults has_room out script old bound awake = record {
 -- ---- from event to event
 
 -- behind an event that didn't end it
-pub session_goes : {S : Type 0} (taken : S → Option (List ℕ)) (faults : S → ℕ)
+pub session_goes : (front : List ℕ) {S : Type 0} (taken : S → Option (List ℕ)) (faults : S → ℕ)
     (has_room : S → ℕ → Type 0) (begun mid out : S)
     (script : Script) (old now new : Place) (bound done count : ℕ) (e : Event) (m : Machine)
-    (so : SoFar script old bound done now
+    (so : SoFar front script old bound done now
     (λ text. Said taken faults has_room begun mid text (Ok tt)))
     (r : Reached (bound - done) now.machine count e m) (within_bound : done < bound)
     (given : Option SessionEnd) (file : new.machine.amx ≡ m.amx)
-    (ad : Advanced (move_by m.amx script e (place_behind m now)) new given
+    (ad : Advanced front (move_by m.amx script e (place_behind m now)) new given
     (λ text. Said taken faults has_room mid out text (told_of given)))
-    → given ≡ None → SoFar script old bound (done + count) new
+    → given ≡ None → SoFar front script old bound (done + count) new
     (λ text. Said taken faults has_room begun out text (Ok tt))
-session_goes taken faults has_room begun mid out script old now new bound done count event.Going m
+session_goes front taken faults has_room begun mid out script old now new bound done count event.Going m
     so r within_bound given file ad on =
-    by_going taken faults has_room begun mid out script old now new bound done count event.Going m
+    by_going front taken faults has_room begun mid out script old now new bound done count event.Going m
     so r within_bound given file ad on r.last ad.moved
-session_goes taken faults has_room begun mid out script old now new bound done count
+session_goes front taken faults has_room begun mid out script old now new bound done count
     (event.Native number) m so r within_bound given file ad on =
-    by_step taken faults has_room begun mid out script old now new bound done count
+    by_step front taken faults has_room begun mid out script old now new bound done count
     (event.Native number) m so r within_bound given file ad on tt
-session_goes taken faults has_room begun mid out script old now new bound done count
+session_goes front taken faults has_room begun mid out script old now new bound done count
     (event.Halt code pri alt) m so r within_bound given file ad on =
-    by_step taken faults has_room begun mid out script old now new bound done count
+    by_step front taken faults has_room begun mid out script old now new bound done count
     (event.Halt code pri alt) m so r within_bound given file ad on tt
-session_goes taken faults has_room begun mid out script old now new bound done count
+session_goes front taken faults has_room begun mid out script old now new bound done count
     (event.Error code) m so r within_bound given file ad on =
-    by_step taken faults has_room begun mid out script old now new bound done count
+    by_step front taken faults has_room begun mid out script old now new bound done count
     (event.Error code) m so r within_bound given file ad on tt

@@ -1,13 +1,15 @@
 -- Names of natives, each once, and their places.
-use Rattle.std.proofs.Common.{◌≡◌, ◌+◌, ◌<◌, ℕ, zero, suc, Bool, false, ◌||◌, not, cond, nat_lt}
+use Rattle.std.proofs.Common.{◌≡◌, ◌+◌, ◌<◌, ◌≤◌, ℕ, zero, suc, Bool, false, ◌||◌, not, cond, nat_lt}
 use Rattle.std.proofs.Common.{List, [], ◌∷◌, ◌++◌, Option, None, Some, length, map, take, get_or}
 use Rattle.std.proofs.Common.{refl, sym, ap, ap₂, ◌∙◌, arith}
-use Rattle.std.specs.Prelude.{position, is_none, nat_eq, if◌then◌else◌}
+use Rattle.std.specs.Prelude.{All, position, is_none, nat_eq, if◌then◌else◌}
 use Rattle.std.specs.List.{IsDistinct, AllByRecursion, position_from, position_or_len}
 use Rattle.std.specs.Str.{bytes_eq}
-use Rattle.std.specs.Cmp.Lexicographic.{pointwise}
+use Rattle.std.specs.Cmp.Lexicographic.{pointwise, unequal}
 use Rattle.std.proofs.lemmas.Cmp.{nat_list_eq_equiv}
-use Rattle.std.proofs.lemmas.List.{take-map, get_or-map, length-map, map-append, take_more}
+use Rattle.std.proofs.lemmas.List.{take-map, get_or-map, length-map, map-append, take_more, take_all}
+use Rattle.std.proofs.lemmas.List.Elements.{All-head, All-tail, All-same, All-more, All-weaker, All-map}
+use Rattle.std.proofs.lemmas.Iterator.Adapters.{position_from-zero}
 use Rattle.pawn_base.specs.Among.{is_among}
 use Rattle.host_script.specs.declared.script.Script.{Script}
 use Rattle.host_script.specs.declared.script.Native.{Native}
@@ -49,6 +51,43 @@ module _ {X : Type 0} (name_of : X → List ℕ) (name : List ℕ) where
   pub place_of : (xs : List X) → position (bytes_eq name) (map name_of xs)
       ≡ position (λ x. pointwise nat_eq (name_of x) name) xs
   place_of xs = ap₂ (λ n size. cond (nat_lt n size) (Some n) None) (passed xs) (sized xs)
+
+-- ---- names that are too long
+
+longer_from : (name : List ℕ) (names : List (List ℕ)) (most i : ℕ) → most < length name
+    → All (λ it. length it ≤ most) names → position_from (bytes_eq name) i names ≡ None
+longer_from name [] most i h few = refl
+longer_from name (x ∷ names) most i h few =
+    let head : length x ≤ most = All-head (λ (it : List ℕ). length it ≤ most) x names few in
+    let differs : bytes_eq name x ≡ false =
+    unequal nat_eq name x (λ e. omega (arith, h, head, e)) in
+    ap (λ b. cond b (Some i) (position_from (bytes_eq name) (i + 1) names)) differs
+    ∙ longer_from name names most (i + 1) h
+    (All-tail (λ (it : List ℕ). length it ≤ most) x names few)
+
+-- a name that has more bytes than each of some names is none of them
+pub longer_is_none : (name : List ℕ) (names : List (List ℕ)) (most : ℕ) → most < length name
+    → All (λ it. length it ≤ most) names → position (bytes_eq name) names ≡ None
+longer_is_none name names most h few =
+    position_from-zero (bytes_eq name) names ∙ longer_from name names most 0 h few
+
+-- the longest of the natives that were passed, and one more
+pub longest_more : (natives : List Native) (i : ℕ) (d : Native) (most more : ℕ)
+    → i < length natives → All (λ (it : Native). length it.name ≤ most) (take i natives)
+    → most ≤ more → length (get_or natives i d).name ≤ more
+    → All (λ (it : Native). length it.name ≤ more) (take (i + 1) natives)
+longest_more natives i d most more h few rises last =
+    All-more (λ (it : Native). length it.name ≤ more) natives i d h
+    (All-weaker (λ (it : Native). length it.name ≤ most) (λ (it : Native). length it.name ≤ more)
+    (λ it k. omega (arith, k, rises)) (take i natives) few) last
+
+pub longest_names : (natives : List Native) (i most : ℕ) → length natives ≤ i
+    → All (λ (it : Native). length it.name ≤ most) (take i natives)
+    → All (λ it. length it ≤ most) (names_of natives)
+longest_names natives i most h few =
+    All-map (λ (it : List ℕ). length it ≤ most) (λ (it : Native). it.name) natives
+    (All-same (λ (it : Native). length it.name ≤ most) natives (take i natives)
+    (sym (take_all i natives h)) few)
 
 -- ---- bound natives
 

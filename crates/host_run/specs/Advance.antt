@@ -21,7 +21,7 @@ use Rattle.amx_machine.specs.Runs.{asleep_or}
 use Rattle.host_run.specs.declared.end.SessionEnd.{SessionEnd}
 use Rattle.host_run.specs.declared.end.SessionEnd.TheVariants as answer
 use Rattle.host_run.specs.declared.guest.Guest.{Guest}
-use Rattle.host_run.specs.Segments.{Place, lines_of, stop_text}
+use Rattle.host_run.specs.Segments.{Place, lines_behind, stop_behind}
 use Rattle.host_run.specs.Stands.{IsLeft, IsEnded}
 use Rattle.host_run.specs.Session.{told}
 
@@ -47,7 +47,7 @@ told_of None = Ok tt
 told_of (Some given) = told given
 
 -- the move of a machine that showed some events before; `say` is what was done to the sink
-pub record Advanced (moves : List Shown → Moved Config End) (new : Place)
+pub record Advanced (front : List ℕ) (moves : List Shown → Moved Config End) (new : Place)
     (given : Option SessionEnd) (say : List ℕ → Type 0) : Type 0 where
   pub stop : Stop End
   pub shown : List Shown
@@ -56,8 +56,8 @@ pub record Advanced (moves : List Shown → Moved Config End) (new : Place)
       { state = new.machine.state; position = new.position; events = before ++ shown })
   pub mode : IsLeft stop new.machine.mode
   pub gives : IsGiven stop new.machine.state given
-  pub said : say (lines_of shown ++ stop_text stop)
-  pub some : given ≡ Some answer.SinkFault → 1 ≤ length (lines_of shown ++ stop_text stop)
+  pub said : say (lines_behind front shown ++ stop_behind front stop)
+  pub some : given ≡ Some answer.SinkFault → 1 ≤ length (lines_behind front shown ++ stop_behind front stop)
 
 -- ---- events
 

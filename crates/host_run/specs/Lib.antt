@@ -1,6 +1,7 @@
 pub mod Advance
 pub mod Bound
 pub mod Called
+pub mod Entry
 pub mod Going
 pub mod Guest
 pub mod Last

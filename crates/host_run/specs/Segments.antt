@@ -24,16 +24,31 @@ segment_of script p bound = segment (move p.machine.amx script) bound 0 (begun p
 
 -- ---- its text
 
--- a line for each event
-abbrev pub lines_of : List Event → List ℕ
-lines_of events = flat_map event_text events
+-- a line for each event, each behind the same front
+abbrev pub lines_behind : List ℕ → List Event → List ℕ
+lines_behind front events = flat_map (λ event. front ++ event_text event) events
 
 -- a sleep and a bound that is used up have no line of their own
+abbrev pub stop_behind : List ℕ → Stop End → List ℕ
+stop_behind front Steps = []
+stop_behind front Asleep = []
+stop_behind front (Over_by e) = front ++ end_text e
+
+-- its events, and its end
+abbrev pub text_behind : List ℕ → Segmented Config End → List ℕ
+text_behind front made =
+    lines_behind front made.config.events ++ stop_behind front made.stop
+
+-- ---- with nothing in front
+
+-- a line for each event
+abbrev pub lines_of : List Event → List ℕ
+lines_of events = lines_behind [] events
+
+-- the line of an end
 abbrev pub stop_text : Stop End → List ℕ
-stop_text Steps = []
-stop_text Asleep = []
-stop_text (Over_by e) = end_text e
+stop_text stop = stop_behind [] stop
 
 -- its events, and its end
 abbrev pub text_of : Segmented Config End → List ℕ
-text_of made = lines_of made.config.events ++ stop_text made.stop
+text_of made = text_behind [] made

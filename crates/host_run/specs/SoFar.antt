@@ -5,12 +5,12 @@ use Rattle.host_script.specs.declared.event.Event.{Event}
 use Rattle.amx_ops.specs.Moves.{move}
 use Rattle.amx_ops.specs.Runs.{segment}
 use Rattle.amx_machine.specs.declared.mode.Mode.TheVariants as mode
-use Rattle.host_run.specs.Segments.{Place, segment_of, lines_of}
+use Rattle.host_run.specs.Segments.{Place, segment_of, lines_behind}
 use Rattle.host_run.specs.Stands.{IsAwake}
 use Rattle.host_run.specs.Reached.{placed}
 
 -- the rest of the segment is the one from where it is now
-pub record SoFar (script : Script) (old : Place) (bound done : ℕ) (now : Place)
+pub record SoFar (front : List ℕ) (script : Script) (old : Place) (bound done : ℕ) (now : Place)
     (say : List ℕ → Type 0) : Type 0 where
   pub within : done ≤ bound
   pub file : now.machine.amx ≡ old.machine.amx
@@ -18,6 +18,6 @@ pub record SoFar (script : Script) (old : Place) (bound done : ℕ) (now : Place
   pub still : done ≡ 0 → now.machine.mode ≡ old.machine.mode
   pub running : 1 ≤ done → now.machine.mode ≡ mode.Running
   pub shown : List Event
-  pub said : say (lines_of shown)
+  pub said : say (lines_behind front shown)
   pub leads : (k : ℕ) → segment_of script old (done + k)
       ≡ segment (move old.machine.amx script) k done (placed now.machine.state now.position shown)

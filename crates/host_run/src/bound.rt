@@ -1,5 +1,5 @@
-ghost use Rattle.std.specs.Prelude.{◌≡◌, ◌<◌, ◌^◌, if◌then◌else◌};
-ghost use Rattle.std.specs.Prelude.{IfOk, IfSome, is_none, length, position};
+ghost use Rattle.std.specs.Prelude.{◌≡◌, ◌<◌, ◌≤◌, ◌^◌, if◌then◌else◌};
+ghost use Rattle.std.specs.Prelude.{All, IfOk, IfSome, is_none, length, position};
 ghost use Rattle.std.specs.List.{IsDistinct, position_from};
 ghost use Rattle.std.specs.Str.{bytes_eq};
 ghost use Rattle.host_script.specs.Ranges.{IsScript};
@@ -8,10 +8,10 @@ ghost use Rattle.host_run.specs.Bound as spec;
 
 use super::writes::write_all;
 use amx_machine::Machine;
-use amx_ops::Record;
+use amx_ops::{Name, Record};
 use amx_verify::Verified;
 use host_script::{Answer, Native, Script, Write};
-use pawn_base::{Bytes, List, Memory, Names};
+use pawn_base::{List, Memory, Names};
 use std::alloc::Global;
 use std::marker::Model;
 use thiserror::Error;
@@ -19,7 +19,7 @@ use thiserror::Error;
 /// A native of a file.
 #[derive(Debug, Drop)]
 pub struct BoundNative {
-    pub name: Bytes,
+    pub name: Name,
     /// The number of its entry among the script's natives, if it is listed.
     pub entry: Option<usize>,
 }
@@ -181,24 +181,51 @@ fn bound_natives(
     ensures { IfOk result (λ bound. bound ≡ natives_of script.now natives.now) }
 {
     let names = names_of(alloc, script.natives.as_slice())?;
+    let most = longest(script.natives.as_slice());
     let mut bound = List::new(alloc);
     for native in natives {
-        bound.push(bound_native(alloc, native.name.as_slice(), &names)?)?;
+        bound.push(bound_native(&native.name, &names, most)?)?;
     }
     Ok(bound)
 }
 
-/// A native with its entry, by its name and those of a script's natives.
-fn bound_native(alloc: Global, name: &[u8], names: &Names) -> Result<BoundNative, Memory>
+/// A native with its entry, by its name and those of a script's natives, which have so many bytes
+/// at most.
+fn bound_native(name: &Name, names: &Names, most: usize) -> Result<BoundNative, Memory>
+    requires { All (λ it. length it ≤ most) names.now }
     ensures { IfOk result (λ native. native ≡ record {
       name = name.now;
       entry = position (bytes_eq name.now) names.now;
     }) }
 {
+    let entry = entry_among(name, names, most);
     Ok(BoundNative {
-        name: Bytes::from_slice(alloc, name)?,
-        entry: names.place(name),
+        name: name.share()?,
+        entry,
     })
+}
+
+/// The place of a name among names that have so many bytes at most. A name that is longer isn't
+/// read whole, since those of a file may share its bytes.
+fn entry_among(name: &Name, names: &Names, most: usize) -> Option<usize>
+    requires { All (λ it. length it ≤ most) names.now }
+    ensures { result ≡ position (bytes_eq name.now) names.now }
+{
+    match name.within(most) {
+        None => None,
+        Some(bytes) => names.place(bytes),
+    }
+}
+
+/// The most bytes that a name of a script's natives has.
+fn longest(natives: &[Native]) -> usize
+    ensures { All (λ it. length it ≤ result) (names_of natives.now) }
+{
+    let mut most = 0;
+    for native in natives {
+        most = most.max(native.name.len());
+    }
+    most
 }
 
 /// A table of the names of a script's natives.

@@ -4,6 +4,7 @@
 mod bound;
 mod calls;
 mod end;
+mod entry;
 mod guest;
 mod laws;
 mod lines;
@@ -13,6 +14,7 @@ mod writes;
 
 pub use bound::{BindFault, Bound, BoundNative, bind};
 pub use end::{SessionEnd, TraceEnd};
+pub use entry::{MAIN, entry_of};
 pub use laws::sessions_are_bounded;
 pub use run::run_segments;
-pub use sessions::session;
+pub use sessions::{Part, session, session_behind};

@@ -1,14 +1,15 @@
-ghost use Rattle.std.specs.Prelude.{◌≡◌, ℕ, List as ListOf, [], Some, pos};
+ghost use Rattle.std.specs.Prelude.{◌≡◌, ◌++◌, ℕ, List as ListOf, [], Some, pos};
 ghost use Rattle.pawn_outside.specs.Said.{Said};
+ghost use Rattle.pawn_outside.specs.Taken.{joined};
 ghost use Rattle.host_script.specs.Ranges.{IsScript};
 ghost use Rattle.host_script.specs.Text.{event_text, end_text};
 ghost use Rattle.host_script.specs.declared.event.Event.TheVariants as event;
 ghost use Rattle.amx_ops.specs.Moves.{name_of};
 ghost use Rattle.amx_machine.specs.declared.mode.Mode.TheVariants as mode;
 ghost use Rattle.host_run.specs.Bound.{bound_of, entry_of};
-ghost use Rattle.host_run.specs.Segments.{Place, segment_of, text_of};
+ghost use Rattle.host_run.specs.Segments.{Place, segment_of, text_behind, text_of};
 ghost use Rattle.host_run.specs.Stands.{IsAwake};
-ghost use Rattle.host_run.specs.Session.{Sessions, told};
+ghost use Rattle.host_run.specs.Session.{Sessions, SessionsBehind, told};
 ghost use Rattle.host_run.specs.Advance.{Advanced, call_by, move_by, told_of};
 ghost use Rattle.host_run.specs.Advance.{EndsBy, IsBehind, IsGuest, IsOver, IsSleep};
 
@@ -16,9 +17,9 @@ use super::bound::Bound;
 use super::calls::reply_to;
 use super::end::SessionEnd;
 use super::guest::Guest;
-use super::lines::say_call;
+use super::lines::{Call, say_call, say_last, say_sleep};
 use amx_machine::{Event, Machine};
-use host_script::{End, Form, Native, Script, say_end, say_slept};
+use host_script::{End, Form, Native, Script};
 use pawn_outside::{Sink, SinkFault};
 
 /// Runs a machine that is running or at a sleep, for so many steps at most, up to a sleep or an end
@@ -44,11 +45,44 @@ pub fn session<S: Sink>(
         place result.0 result.1 (record { machine = machine.new; position = at.new }) }
     ensures bound { bound.new ≡ bound.old }
 {
+    let part = Part { script, front: &[] };
+    session_behind(machine, bound, part, at, steps, out)
+}
+
+/// The script of a machine, and what stands in front of each line of its run, in pieces.
+#[derive(Clone, Copy, Debug)]
+pub struct Part<'s> {
+    pub script: &'s Script,
+    pub front: &'s [&'s [u8]],
+}
+
+/// A [`session`] of which each line stands behind the same front.
+pub fn session_behind<S: Sink>(
+    machine: &mut Machine,
+    bound: &mut Bound,
+    part: Part<'_>,
+    at: &mut u32,
+    steps: u64,
+    out: &mut S,
+) -> (u64, SessionEnd)
+    requires awake { IsAwake machine.old.mode }
+    requires script { IsScript part.script.now }
+    requires bound { bound.old ≡ bound_of part.script.now machine.old.amx.natives }
+    ensures text { let place : Place = record { machine = machine.old; position = at.old } in
+        Said S.taken S.faults S.has_room out.old out.new
+        (text_behind (joined part.entry.front.now) (segment_of part.entry.script.now place steps))
+        (told result.1) }
+    ensures answer { let place : Place = record { machine = machine.old; position = at.old } in
+        SessionsBehind (joined part.entry.front.now) (segment_of part.entry.script.now place)
+        (S.taken out.old) (S.taken out.new) steps
+        place result.0 result.1 (record { machine = machine.new; position = at.new }) }
+    ensures bound { bound.new ≡ bound.old }
+{
     let mut done = 0;
     while done < steps {
         let (count, event) = machine.run(steps - done);
         done += count;
-        if let Some(end) = advance(machine, bound, script, at, event, out) {
+        if let Some(end) = advance(machine, bound, part, at, event, out) {
             return (done, end);
         }
     }
@@ -59,31 +93,31 @@ pub fn session<S: Sink>(
 fn advance<S: Sink>(
     machine: &mut Machine,
     bound: &mut Bound,
-    script: &Script,
+    part: Part<'_>,
     at: &mut u32,
     event: Event,
     out: &mut S,
 ) -> Option<SessionEnd>
     requires behind { IsBehind event machine.old }
-    requires script { IsScript script.now }
-    requires bound { bound.old ≡ bound_of script.now machine.old.amx.natives }
+    requires script { IsScript part.script.now }
+    requires bound { bound.old ≡ bound_of part.script.now machine.old.amx.natives }
     ensures file { machine.new.amx ≡ machine.old.amx }
     ensures bound { bound.new ≡ bound.old }
     ensures going { event ≡ Event.Going → result ≡ None }
-    ensures advances { Advanced
-        (move_by machine.old.amx script.now event
+    ensures advances { Advanced (joined part.entry.front.now)
+        (move_by machine.old.amx part.entry.script.now event
         (record { machine = machine.old; position = at.old }))
         (record { machine = machine.new; position = at.new }) result
         (λ text. Said S.taken S.faults S.has_room out.old out.new text (told_of result)) }
 {
     match event {
         Event::Going => None,
-        Event::Native(number) => call(machine, bound, script, number, at, out),
+        Event::Native(number) => call(machine, bound, part, number, at, out),
         Event::Halt { code, pri, alt } => match end_of(code, pri, alt) {
-            Some(end) => Some(over(end, out)),
-            None => Some(asleep(pri, alt, out)),
+            Some(end) => Some(over(end, part.front, out)),
+            None => Some(asleep(pri, alt, part.front, out)),
         },
-        Event::Error(code) => Some(over(End::Error(code), out)),
+        Event::Error(code) => Some(over(End::Error(code), part.front, out)),
     }
 }
 
@@ -92,32 +126,37 @@ fn advance<S: Sink>(
 fn call<S: Sink>(
     machine: &mut Machine,
     bound: &mut Bound,
-    script: &Script,
+    part: Part<'_>,
     number: u32,
     at: &mut u32,
     out: &mut S,
 ) -> Option<SessionEnd>
     requires waits { machine.old.mode ≡ mode.Waiting }
-    requires script { IsScript script.now }
-    requires bound { bound.old ≡ bound_of script.now machine.old.amx.natives }
+    requires script { IsScript part.script.now }
+    requires bound { bound.old ≡ bound_of part.script.now machine.old.amx.natives }
     ensures file { machine.new.amx ≡ machine.old.amx }
     ensures bound { bound.new ≡ bound.old }
-    ensures advances { Advanced
-        (call_by script.now (name_of machine.old.amx.natives number)
+    ensures advances { Advanced (joined part.entry.front.now)
+        (call_by part.entry.script.now (name_of machine.old.amx.natives number)
         (record { machine = machine.old; position = at.old }))
         (record { machine = machine.new; position = at.new }) result
         (λ text. Said S.taken S.faults S.has_room out.old out.new text (told_of result)) }
 {
-    let guest = guest_at(script, bound.entry(number));
-    match reply_to(machine, &guest, script, at) {
+    let guest = guest_at(part.script, bound.entry(number));
+    match reply_to(machine, &guest, part.script, at) {
         Err(code) => {
             machine.fail(code);
-            Some(over(End::Error(code), out))
+            Some(over(End::Error(code), part.front, out))
         }
         Ok(reply) => {
             // It shows what was seen, so it is written before the answer's writes are done.
-            let name = bound.name(number);
-            let said = say_call(out, machine, name, &guest, reply.count, reply.result);
+            let call = Call {
+                front: part.front,
+                name: bound.name(number),
+                count: reply.count,
+                answer: reply.result,
+            };
+            let said = say_call(out, machine, &guest, call);
             bound.write_all(machine, reply.writes);
             machine.answer(reply.result);
             match said {
@@ -147,12 +186,12 @@ fn end_of(code: i32, pri: i32, alt: i32) -> Option<End>
 }
 
 /// Writes the line of a sleep.
-fn asleep<S: Sink>(pri: i32, alt: i32, out: &mut S) -> SessionEnd
+fn asleep<S: Sink>(pri: i32, alt: i32, front: &[&[u8]], out: &mut S) -> SessionEnd
     ensures answer { IsSleep pri alt result }
     ensures text { Said S.taken S.faults S.has_room out.old out.new
-        (event_text (event.Slept pri alt)) (told result) }
+        (joined front.now ++ event_text (event.Slept pri alt)) (told result) }
 {
-    match say_slept(out, pri, alt) {
+    match say_sleep(out, front, pri, alt) {
         Ok(()) => SessionEnd::Asleep {
             value: pri,
             tag: alt,
@@ -162,11 +201,12 @@ fn asleep<S: Sink>(pri: i32, alt: i32, out: &mut S) -> SessionEnd
 }
 
 /// Writes the line of an end.
-fn over<S: Sink>(end: End, out: &mut S) -> SessionEnd
+fn over<S: Sink>(end: End, front: &[&[u8]], out: &mut S) -> SessionEnd
     ensures answer { IsOver end result }
-    ensures text { Said S.taken S.faults S.has_room out.old out.new (end_text end) (told result) }
+    ensures text { Said S.taken S.faults S.has_room out.old out.new
+        (joined front.now ++ end_text end) (told result) }
 {
-    match say_end(out, end) {
+    match say_last(out, front, end) {
         Ok(()) => match end {
             End::Done(value) => SessionEnd::Done(value),
             End::Exit { value, tag } => SessionEnd::Exit { value, tag },

@@ -2,7 +2,7 @@ ghost use Rattle.std.specs.Prelude.{◌≡◌, IfSome, IsTrue};
 ghost use Rattle.amx_machine.specs.Machine.{IsSteady, first};
 
 use amx_machine::{Event, Machine};
-use amx_ops::{Amx, Record};
+use amx_ops::{Amx, Name, Record};
 use amx_verify::{Verified, verify};
 use pawn_base::{Bytes, Cells, List, Memory};
 use std::alloc::Global;
@@ -52,9 +52,10 @@ fn amx_of(
 fn records(alloc: Global, addresses: &[i32]) -> Result<List<Record>, Memory> {
     let mut records = List::new(alloc);
     for address in addresses {
+        let name = Name::from_bytes(alloc, Bytes::from_slice(alloc, b"p")?)?;
         records.push(Record {
             address: *address,
-            name: Bytes::from_slice(alloc, b"p")?,
+            name,
         })?;
     }
     Ok(records)

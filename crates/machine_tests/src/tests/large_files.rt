@@ -37,7 +37,7 @@ fn put_many(out: &mut Bytes, count: u32, byte: u8) -> Result<(), Memory> {
 
 /// A plain file without code, with so many natives, all of one name of so many bytes.
 fn natives(alloc: Global, count: u32, length: u32) -> Result<Bytes, Memory>
-    requires { (count ≤ 8388600) × (length ≤ 700) }
+    requires { (count ≤ 8388600) × (length ≤ 100000) }
 {
     let names = 56 + 8 * count;
     let cod = names + 8 + length;
@@ -79,18 +79,19 @@ fn tables_that_fill_a_file(rt: HostRuntime) -> Result<(), Fail> {
     Ok(())
 }
 
-/// How many natives are read of a file of a hundred thousand, whose name has so many bytes, and the
+/// How many natives are read of a file that has so many, all of one name of so many bytes, and the
 /// file's size.
-fn with_name(alloc: Global, length: u32) -> Result<(Option<usize>, usize), Memory>
-    requires { length ≤ 700 }
+fn with_name(alloc: Global, count: u32, length: u32) -> Result<(Option<usize>, usize), Memory>
+    requires { (count ≤ 100000) × (length ≤ 100000) }
 {
-    let bytes = natives(alloc, 100_000, length)?;
+    let bytes = natives(alloc, count, length)?;
     Ok((counted(alloc, bytes.as_slice()), bytes.len()))
 }
 
-/// Records may share a long name: the copies take 64 MiB together at most.
+/// Records may share a long name, whose bytes are kept once.
 #[test]
 fn a_long_name_of_many(rt: HostRuntime) {
-    assert!(rt; with_name(rt.alloc(), 600) == Ok((Some(100_000), 800_664)));
-    assert!(rt; with_name(rt.alloc(), 700) == Ok((None, 800_764)));
+    assert!(rt; with_name(rt.alloc(), 700, 100_000) == Ok((Some(700), 105_664)));
+    assert!(rt; with_name(rt.alloc(), 100_000, 700) == Ok((Some(100_000), 800_764)));
+    assert!(rt; with_name(rt.alloc(), 100_000, 100_000) == Ok((Some(100_000), 900_064)));
 }

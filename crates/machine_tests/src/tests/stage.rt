@@ -6,7 +6,7 @@ ghost use Rattle.host_run.specs.Bound.{bound_of};
 ghost use Rattle.host_run.specs.Stands.{IsAwake};
 
 use amx_machine::Machine;
-use amx_ops::{Amx, Record};
+use amx_ops::{Amx, Name, Record};
 use amx_verify::{Verified, verify};
 use host_run::{Bound, SessionEnd, bind, session};
 use host_script::Script;
@@ -56,7 +56,8 @@ fn file(alloc: Global, code: &[i32], natives: List<Record>) -> Result<Amx, Memor
 }
 
 fn native(alloc: Global, name: &str) -> Result<Record, Memory> {
-    let name = Bytes::from_slice(alloc, name.as_bytes())?;
+    let bytes = Bytes::from_slice(alloc, name.as_bytes())?;
+    let name = Name::from_bytes(alloc, bytes)?;
     Ok(Record { address: 0, name })
 }
 

@@ -4,7 +4,7 @@ ghost use Rattle.amx_format.specs.Sorts.{IsWritableSorted};
 
 use super::base::{every_compact, every_table};
 use amx_format::{Encoding, write};
-use amx_ops::{Amx, Record};
+use amx_ops::{Amx, Name, Record};
 use pawn_base::{Bytes, Cells, List, Memory};
 use std::alloc::Global;
 use std::test::Fail;
@@ -12,7 +12,8 @@ use std::test::Fail;
 fn record(alloc: Global, address: i32, name: &[u8]) -> Result<Record, Memory>
     ensures { IfOk result (λ it. it.name ≡ name.now) }
 {
-    let name = Bytes::from_slice(alloc, name)?;
+    let bytes = Bytes::from_slice(alloc, name)?;
+    let name = Name::from_bytes(alloc, bytes)?;
     Ok(Record { address, name })
 }
 

@@ -16,12 +16,13 @@ returns-in_default-2 c =
     c.in-Some-after_word.rest.now c.in-Some-after_word.ensures c.in_ok-name.field-0
     c.in_ok-name.ensures c.in_default-2.is
 
-pub returns-in-Some-after_word-2 : goal.returns-in-Some-after_word-2
-returns-in-Some-after_word-2 c =
-    record_there c.args.text.now c.in-Some.address c.in-Some.rest.now c.in-Some.ensures
+pub returns-in_ok-record_of-in-Some-after_word-2 : goal.returns-in_ok-record_of-in-Some-after_word-2
+returns-in_ok-record_of-in-Some-after_word-2 c =
+    rw c.in_ok-record_of-in-Some-after_word-2.ensures
+    (record_there c.args.text.now c.in-Some.address c.in-Some.rest.now c.in-Some.ensures
     c.in-Some-after_word.rest.now c.in-Some-after_word.ensures c.in_ok-name.field-0
     c.in_ok-name.ensures c.in-Some-2.name c.in-Some-2.rest c.in-Some-2.is
-    c.in-Some-after_word-2.rest.now c.in-Some-after_word-2.ensures
+    c.in-Some-after_word-2.rest.now c.in-Some-after_word-2.ensures)
 
 pub returns-in-None : goal.returns-in-None
 returns-in-None c =

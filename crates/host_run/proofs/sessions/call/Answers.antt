@@ -35,7 +35,7 @@ write_all-requires-clause-reserved g c =
 
 pub returns-in-Err-clause-advances : goal.returns-in-Err-clause-advances
 returns-in-Err-clause-advances g c =
-    let script = c.args.script.now in
+    let script = c.args.part.script.now in
     let natives = c.args.machine.now.amx.natives in
     let name = name_of natives c.args.number in
     let code = c.in-Err.code in
@@ -52,13 +52,13 @@ returns-in-Err-clause-advances g c =
 
 pub returns-in-Ok-said-clause-advances : goal.returns-in-Ok-said-clause-advances
 returns-in-Ok-said-clause-advances g c =
-    let script = c.args.script.now in
+    let script = c.args.part.script.now in
     let natives = c.args.machine.now.amx.natives in
     let name = name_of natives c.args.number in
     let place : Place = record { machine = c.args.machine.now; position = c.args.at.now } in
     let is =
     c.guest_at-guest.ensures name (c.entry.ensures script natives c.requires.script c.requires.bound) in
-    let named = c.name-name.ensures script natives c.requires.bound in
+    let named = c.name.ensures script natives c.requires.bound in
     let same = to_z-of_z w32 c.in-Ok.reply.result (search rules) in
     rw (c.answer.ensures, c.write_all.ensures.written, same)
     (answers (event.Native name (seen_by c.args.machine.now.state c.guest_at-guest.result)
@@ -69,13 +69,13 @@ returns-in-Ok-said-clause-advances g c =
 
 pub returns-in-Err-said-clause-advances : goal.returns-in-Err-said-clause-advances
 returns-in-Err-said-clause-advances g c =
-    let script = c.args.script.now in
+    let script = c.args.part.script.now in
     let natives = c.args.machine.now.amx.natives in
     let name = name_of natives c.args.number in
     let place : Place = record { machine = c.args.machine.now; position = c.args.at.now } in
     let is =
     c.guest_at-guest.ensures name (c.entry.ensures script natives c.requires.script c.requires.bound) in
-    let named = c.name-name.ensures script natives c.requires.bound in
+    let named = c.name.ensures script natives c.requires.bound in
     let same = to_z-of_z w32 c.in-Ok.reply.result (search rules) in
     rw (c.answer.ensures, c.write_all.ensures.written, same)
     (answers (event.Native name (seen_by c.args.machine.now.state c.guest_at-guest.result)

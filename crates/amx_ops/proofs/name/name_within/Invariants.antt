@@ -1,6 +1,6 @@
 use Rattle.std.proofs.Common.{◌≢◌, ◌≤◌, take}
 use Rattle.std.specs.Prelude.{All}
-use Rattle.amx_format.proofs.reader.name_within.Given as goal
+use Rattle.amx_ops.proofs.name.name_within.Given as goal
 
 abbrev pub invariant-loop-index : goal.invariant-loop-index
 invariant-loop-index l =
