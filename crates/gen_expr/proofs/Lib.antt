@@ -6,6 +6,7 @@ pub mod HoleLaws
 pub mod JumpLaws
 pub mod MeansLaws
 pub mod NodeLaws
+pub mod OperandLaws
 pub mod PartLaws
 pub mod ShapeLaws
 pub mod TargetLaws

@@ -1,10 +1,12 @@
 -- A node's code is that of its parts, by what is known of each step; where the last step may fail,
 -- so may the whole.
-use Rattle.std.proofs.Common.{◌≡◌, ◌+◌, ◌*◌, ℕ, pos, List, [], ◌∷◌, ◌++◌, Option, length, refl, sym}
+use Rattle.std.proofs.Common.{◌≡◌, ◌+◌, ◌*◌, ℕ, pos, List, [], ◌∷◌, ◌++◌, Option, None}
+use Rattle.std.proofs.Common.{length, refl, sym}
 use Rattle.std.proofs.Common.{ap, ◌∙◌, Result, Ok, Err, IfOk}
 use Rattle.std.specs.declared.alloc.Global.{Global}
 use Rattle.std.specs.declared.boxed.Box.{Box}
-use Rattle.pawn_meaning.specs.Program.{Array, Expr}
+use Rattle.pawn_meaning.specs.Program.{Array, Expr, Chain}
+use Rattle.pawn_meaning.specs.Fold.{fold}
 use Rattle.pawn_meaning.specs.Scope.{Scope, Extent, extent}
 use Rattle.pawn_meaning.specs.View.{expr_view, args_view, links_view}
 use Rattle.pawn_meaning.specs.declared.node.Arg.{Arg}
@@ -15,7 +17,7 @@ use Rattle.pawn_meaning.specs.Need.{count_of}
 use Rattle.amx_ops.specs.declared.op.Op.TheVariants as op
 use Rattle.gen_sim.specs.Items.{Item, CallOf, past}
 use Rattle.gen_sim.specs.Results.{temporaries_in}
-use Rattle.gen_sim.specs.SimpleCode.{alone, taking, waiting_code}
+use Rattle.gen_sim.specs.SimpleCode.{alone, taking, waiting_code, folded}
 use Rattle.gen_sim.specs.JumpCode.{jump_to, other_at, choice_code, cond_code}
 use Rattle.gen_sim.specs.ChainCode.{last_link_code, middle_link_code}
 use Rattle.gen_sim.specs.CallCode.{give_back_code, call_code, native_code}
@@ -209,10 +211,17 @@ native_seen scope p x n args is =
 pub chain_seen : (scope : Scope) (p : ℕ) (x : held.Expr) (e : Box held.Expr Global)
     (links : List Link) → x ≡ held.Chain e links
     → value_items scope p (expr_view x)
-    ≡ (let first = value_items scope p (expr_view e.value) in first
-    ++ chain_items scope (past p first) (links_view links))
+    ≡ (let first = value_items scope p (expr_view e.value) in
+    folded (fold (Chain (expr_view e.value) (links_view links)))
+    (first ++ chain_items scope (past p first) (links_view links)))
 chain_seen scope p x e links is =
     ap (λ l. value_items scope p l) (ap expr_view is ∙ expr_view-Chain e links)
+
+pub chain_open : (x : held.Expr) (e : Box held.Expr Global) (links : List Link)
+    → x ≡ held.Chain e links → fold (expr_view x) ≡ None
+    → fold (Chain (expr_view e.value) (links_view links)) ≡ None
+chain_open x e links is h =
+    sym (ap (λ l. fold l) (ap expr_view is ∙ expr_view-Chain e links)) ∙ h
 
 pub as_seen : {E : Type 0} (r : Result Built E) (b : Built) (is js : List Item) → js ≡ is
     → IfOk r (λ x. x ≡ with_items is b) → IfOk r (λ x. x ≡ with_items js b)

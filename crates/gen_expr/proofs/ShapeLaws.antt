@@ -1,5 +1,5 @@
 -- The shapes of code, part by part.
-use Rattle.std.proofs.Common.{◌≡◌, ◌+◌, ◌-◌, ◌*◌, ◌<◌, ℕ, ℤ, pos, neg_ℤ, suc, zero, List, [], ◌∷◌}
+use Rattle.std.proofs.Common.{◌≡◌, ◌-◌, ◌*◌, ◌<◌, ℕ, ℤ, pos, neg_ℤ, suc, zero, List, [], ◌∷◌}
 use Rattle.std.proofs.Common.{◌++◌, Some, ap, ◌∙◌, arith, append_assoc, append-nil}
 use Rattle.pawn_meaning.specs.Program.{Scalar}
 use Rattle.amx_ops.specs.declared.op.Op.TheVariants as op

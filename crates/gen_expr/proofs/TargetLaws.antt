@@ -1,22 +1,21 @@
 -- A node that reads or writes a place has the code of its parts, by what is known of each step,
 -- whether an instruction reaches the place by itself or not.
-use Rattle.std.proofs.Common.{◌≡◌, ◌+◌, ◌*◌, ℕ, ℤ, Bool, true, false, List, [], ◌∷◌, ◌++◌, Option}
-use Rattle.std.proofs.Common.{None, Some, length, refl, sym, ap, ◌∙◌, append_assoc, Result, IfOk}
+use Rattle.std.proofs.Common.{◌≡◌, ◌*◌, ℕ, ℤ, Bool, List, [], ◌∷◌, ◌++◌, Option}
+use Rattle.std.proofs.Common.{None, Some, length, ◌∙◌, Result, IfOk}
 use Rattle.pawn_meaning.specs.Program.{Scalar}
 use Rattle.amx_ops.specs.declared.op.Op.TheVariants as op
-use Rattle.gen_sim.specs.Items.{Item, past}
+use Rattle.gen_sim.specs.Items.{Item}
 use Rattle.gen_sim.specs.SimpleCode.{alone}
 use Rattle.gen_sim.specs.AccessCode.{load_code, store_code, changed_code, stepped_code}
 use Rattle.gen_sim.specs.DirectCode.{Direct, direct_load, direct_store, direct_changed, direct_step}
 use Rattle.gen_sim.specs.DirectCode.{read_by, value_begin, assign_by, update_by, step_by}
-use Rattle.gen_sim.specs.MovingCode.{both_by}
+use Rattle.gen_sim.specs.DirectCode.{direct_effect, effect_by}
 use Rattle.gen_expr.specs.Built.{Built, with_items}
 use Rattle.gen_expr.specs.TargetCode.{address_part, value_part, read_part, write_part, update_part}
-use Rattle.gen_expr.specs.TargetCode.{step_part}
-use Rattle.gen_expr.specs.RightCode.{right_code}
-use Rattle.gen_expr.proofs.GrowLaws.{then_ok, then_grow}
+use Rattle.gen_expr.specs.TargetCode.{step_part, effect_part}
+use Rattle.gen_expr.proofs.GrowLaws.{then_ok}
 use Rattle.gen_expr.proofs.PartLaws.{behind}
-use Rattle.gen_expr.proofs.NodeLaws.{then_part, then_both}
+use Rattle.gen_expr.proofs.NodeLaws.{then_both}
 
 -- ---- a place, by itself
 
@@ -38,6 +37,17 @@ then_step None d p delta prefix b m r place is e f =
     (rw is at f)
 then_step (Some k) d p delta prefix b m r place is e f =
     then_ok b m r [] (direct_step k delta prefix) e (rw is at f)
+
+pub then_effect : {E : Type 0} (o d : Option Direct) (p : Scalar) (delta : ℤ) (prefix : Bool)
+    (b m : Built) (r : Result Built E) (place : List Item) → d ≡ o
+    → m ≡ with_items (address_part o place) b
+    → IfOk r (λ x. x ≡ with_items (effect_part d p delta prefix) m)
+    → IfOk r (λ x. x ≡ with_items (effect_by o p delta prefix place) b)
+then_effect None d p delta prefix b m r place is e f =
+    then_ok b m r place (alone op.MoveAlt ∷ (load_code p ++ stepped_code p delta prefix)) e
+    (rw is at f)
+then_effect (Some k) d p delta prefix b m r place is e f =
+    then_ok b m r [] (direct_effect k k.adds delta) e (rw is at f)
 
 -- ---- a value for a place
 
@@ -75,37 +85,3 @@ then_update None d t p change b m n r place value is same e f g =
     (rw (same ∙ is) at g)
 then_update (Some k) d t p change b m n r place value is same e f g =
     then_direct b m n r value (direct_changed k change) e (rw is at f) (rw (same ∙ is) at g)
-
--- ---- two operands
-
-right_is : (quiet : Bool) (left right tail : List Item)
-    → left ++ (right_code quiet right ++ tail) ≡ both_by quiet left right tail
-right_is true left right tail = refl
-right_is false left right tail =
-    ap (λ l. left ++ (alone op.PushPri ∷ l)) (append_assoc right (alone op.PopAlt ∷ []) tail)
-
--- the right operand, behind the left one that moved away
-pub right_moved : (quiet : Bool) (b m r : Built) (right : ℕ → List Item) → quiet ≡ true
-    → m ≡ with_items (alone op.MoveAlt ∷ []) b → r ≡ with_items (right (4 * length m.code)) m
-    → r ≡ with_items (right_code quiet (right (4 * length b.code + 4))) b
-right_moved quiet b m r right is e f =
-    rw is (behind b m r (alone op.MoveAlt ∷ []) right e f)
-
--- and while the left one waits
-pub right_beside : (quiet : Bool) (b m r : Built) (right : List Item) → quiet ≡ false
-    → m ≡ with_items (alone op.PushPri ∷ right) b → r ≡ with_items (alone op.PopAlt ∷ []) m
-    → r ≡ with_items (right_code quiet right) b
-right_beside quiet b m r right is e f =
-    rw is (then_grow b m r (alone op.PushPri ∷ right) (alone op.PopAlt ∷ []) e f)
-
-pub then_operate : {E : Type 0} (quiet : Bool) (b m n : Built) (r : Result Built E)
-    (left tail : List Item) (right : ℕ → List Item)
-    → m ≡ with_items left b
-    → n ≡ with_items (right_code quiet (right (4 * length m.code + 4))) m
-    → IfOk r (λ x. x ≡ with_items tail n)
-    → IfOk r (λ x. x ≡ with_items
-    (both_by quiet left (right (past (4 * length b.code) left + 4)) tail) b)
-then_operate quiet b m n r left tail right e f g =
-    rw (sym (right_is quiet left (right (past (4 * length b.code) left + 4)) tail))
-    (then_part b m r left (λ q. right_code quiet (right (q + 4)) ++ tail) e
-    (then_ok m n r (right_code quiet (right (4 * length m.code + 4))) tail f g))

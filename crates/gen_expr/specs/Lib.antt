@@ -4,6 +4,6 @@ pub mod DirectView
 pub mod Filled
 pub mod Holes
 pub mod Opened
-pub mod RightCode
+pub mod RightView
 pub mod Standing
 pub mod TargetCode

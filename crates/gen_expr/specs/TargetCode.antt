@@ -7,6 +7,7 @@ use Rattle.gen_sim.specs.Items.{Item}
 use Rattle.gen_sim.specs.SimpleCode.{alone}
 use Rattle.gen_sim.specs.AccessCode.{load_code, store_code, changed_code, stepped_code}
 use Rattle.gen_sim.specs.DirectCode.{Direct, direct_load, direct_store, direct_changed, direct_step}
+use Rattle.gen_sim.specs.DirectCode.{direct_effect}
 
 -- its address, where it needs one
 abbrev pub address_part : Option Direct → List Item → List Item
@@ -38,3 +39,9 @@ abbrev pub step_part : Option Direct → Scalar → ℤ → Bool → List Item
 step_part None p delta prefix =
     alone op.MoveAlt ∷ (load_code p ++ stepped_code p delta prefix)
 step_part (Some d) p delta prefix = direct_step d delta prefix
+
+-- what steps it, where its value isn't used
+abbrev pub effect_part : Option Direct → Scalar → ℤ → Bool → List Item
+effect_part None p delta prefix =
+    alone op.MoveAlt ∷ (load_code p ++ stepped_code p delta prefix)
+effect_part (Some d) p delta prefix = direct_effect d d.adds delta

@@ -2,7 +2,7 @@ ghost use Rattle.std.specs.Prelude.{◌≡◌, ◌++◌, ℤ, neg_ℤ, [], ◌�
 ghost use Rattle.pawn_meaning.specs.View.{scalar_view};
 ghost use Rattle.gen_sim.specs.SimpleCode.{taking, operator_code};
 ghost use Rattle.gen_sim.specs.DirectCode.{direct_of, direct_load, direct_store, direct_changed};
-ghost use Rattle.gen_sim.specs.DirectCode.{direct_step, stepped_back};
+ghost use Rattle.gen_sim.specs.DirectCode.{direct_step, stepped_back, direct_effect};
 ghost use Rattle.gen_expr.specs.Built.{with_items};
 ghost use Rattle.gen_expr.specs.Standing.{scope_of, Serves};
 ghost use Rattle.gen_expr.specs.DirectView.{direct_view, perhaps_direct};
@@ -72,9 +72,9 @@ impl Direct {
     }
 
     /// Its cell, to ALT.
-    fn load_left(self, b: Builder) -> Result<Builder, Memory>
+    pub fn load_alt(self, b: Builder) -> Result<Builder, Memory>
         ensures { IfOk result (λ r. let d = direct_view self in
-            r ≡ with_items (taking d.lefts d.operand ∷ []) b) }
+            r ≡ with_items (taking d.loads_alt d.operand ∷ []) b) }
     {
         match self {
             Direct::Object(address) => b.put(Op::LoadAlt, address),
@@ -89,7 +89,7 @@ impl Direct {
         ensures { IfOk result (λ r.
             r ≡ with_items (direct_changed (direct_view self) (operator_code o)) b) }
     {
-        let b = self.load_left(b)?;
+        let b = self.load_alt(b)?;
         let b = operator(o, b)?;
         let b = self.store(b)?;
         Ok(b)
@@ -105,6 +105,30 @@ impl Direct {
         let b = b.put(Op::AddC, delta)?;
         let b = self.finish_step(delta, prefix, b)?;
         Ok(b)
+    }
+
+    /// A step whose value isn't used.
+    pub fn step_unused(self, delta: i32, b: Builder) -> Result<Builder, Memory>
+        ensures { IfOk result (λ r. let d = direct_view self in
+            r ≡ with_items (direct_effect d d.adds delta) b) }
+    {
+        match self {
+            Direct::Object(address) => {
+                if delta < 0 {
+                    b.put(Op::Dec, address)
+                } else {
+                    b.put(Op::Inc, address)
+                }
+            }
+            Direct::Own(offset) => {
+                if delta < 0 {
+                    b.put(Op::DecS, offset)
+                } else {
+                    b.put(Op::IncS, offset)
+                }
+            }
+            Direct::Through(_) => self.step(delta, true, b),
+        }
     }
 
     /// The end of a step: the new value is stored, and a postfix one's value is that before.

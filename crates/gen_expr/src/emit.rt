@@ -1,7 +1,8 @@
-ghost use Rattle.std.specs.Prelude.{◌≡◌, ◌+◌, ◌*◌, ◌++◌, [], ◌∷◌, pos, length, IfOk};
+ghost use Rattle.std.specs.Prelude.{◌≡◌, ◌+◌, ◌*◌, ◌++◌, [], ◌∷◌, pos, length, None, IfOk};
 ghost use Rattle.pawn_meaning.specs.Scope.{extent};
 ghost use Rattle.pawn_meaning.specs.View.{scalar_view, array_view, expr_view};
 ghost use Rattle.pawn_meaning.specs.View.{arg_view, args_view, links_view};
+ghost use Rattle.pawn_meaning.specs.Fold.{fold};
 ghost use Rattle.pawn_meaning.specs.Need as need;
 ghost use Rattle.gen_sim.specs.Results.{temporaries_in};
 ghost use Rattle.gen_sim.specs.SimpleCode.{alone, const_code};
@@ -9,14 +10,13 @@ ghost use Rattle.gen_sim.specs.JumpCode.{jump_to, choice_code, truth_code, other
 ghost use Rattle.gen_sim.specs.CallCode.{call_code, native_code};
 ghost use Rattle.gen_sim.specs.ChainCode.{link_code, last_link_code, middle_link_code};
 ghost use Rattle.gen_sim.specs.DirectCode.{direct_of};
-ghost use Rattle.gen_sim.specs.MovingCode.{is_quiet};
+ghost use Rattle.gen_sim.specs.OperandCode.{right_of, operate_by};
 ghost use Rattle.gen_laws.specs.ExprCode.{place_items, array_items, value_items};
 ghost use Rattle.gen_laws.specs.ExprCode.{arg_items, args_items};
 ghost use Rattle.gen_expr.specs.Built.{with_items};
 ghost use Rattle.gen_expr.specs.Standing.{scope_of, Serves, extent_of};
 ghost use Rattle.gen_expr.specs.ChainItems.{chain_items};
 ghost use Rattle.gen_expr.specs.DirectView.{perhaps_direct};
-ghost use Rattle.gen_expr.specs.RightCode.{right_code};
 ghost use Rattle.gen_expr.specs.TargetCode.{address_part, value_part};
 
 use super::access::updated_by;
@@ -31,12 +31,13 @@ use super::frame::{Frame, object, object_reach, param_reach, slot, slot_reach, t
 use super::jumps::{cell_before_last, land, last_cell, truth, turn};
 use super::operators::{operator, prefix, two};
 use super::put::count_of;
-use super::quiet::is_quiet;
 use super::reach::{Reach, characters_of, rest_of, row_of, size_of};
+use super::right::{Right, folded, operate_known, operate_placed, right_of};
 use super::steps::turned;
 use super::target::{Target, read, step, update, write};
 use amx_ops::Op;
 use pawn_base::{List, Memory};
+use pawn_cells::Operator;
 use pawn_meaning::{Arg, Array, Expr, Link, Scalar};
 
 /// The address of a place, to PRI.
@@ -118,28 +119,28 @@ fn array_beside(a: &Array, frame: &Frame<'_>, b: Builder) -> Result<Builder, Mem
     Ok(both)
 }
 
-/// The right operand, to PRI, and the left one to ALT.
+/// An operator behind its left operand, which is in PRI.
 #[cycle(emit)]
-fn right(e: &Expr, frame: &Frame<'_>, b: Builder) -> Result<Builder, Memory>
+fn operate(o: Operator, e: &Expr, frame: &Frame<'_>, b: Builder) -> Result<Builder, Memory>
     requires { Serves frame.now }
     ensures { IfOk result (λ r. let scope = scope_of frame.now in
-        r ≡ with_items (right_code (is_quiet scope (expr_view e.now))
+        r ≡ with_items (operate_by o (right_of scope (expr_view e.now))
         (value_items scope (4 * length b.code + 4) (expr_view e.now))) b) }
 {
-    if is_quiet(e) {
-        let moved = b.put(Op::MoveAlt, 0)?;
-        let both = value(e, frame, moved)?;
-        Ok(both)
-    } else {
-        let both = beside(e, frame, b)?;
-        let done = both.put(Op::PopAlt, 0)?;
-        Ok(done)
+    match right_of(e, frame)? {
+        Right::Known(v) => operate_known(o, v, b),
+        Right::Placed(d) => operate_placed(o, d, b),
+        Right::Waiting => {
+            let both = beside(e, frame, b)?;
+            let moved = both.put(Op::PopAlt, 0)?;
+            operator(o, moved)
+        }
     }
 }
 
 /// A place that is to be read or written: its address, to PRI, where it isn't direct.
 #[cycle(emit)]
-fn target(p: &Scalar, frame: &Frame<'_>, b: Builder) -> Result<Target, Memory>
+pub(crate) fn target(p: &Scalar, frame: &Frame<'_>, b: Builder) -> Result<Target, Memory>
     requires { Serves frame.now }
     ensures code { IfOk result (λ r. let scope = scope_of frame.now in
         r.code ≡ with_items (address_part (direct_of scope (scalar_view p.now))
@@ -184,10 +185,24 @@ fn operand(e: &Expr, frame: &Frame<'_>, at: Target) -> Result<Target, Memory>
     }
 }
 
-/// The value of an expression, to PRI.
+/// The value of an expression, to PRI: a constant, where it folds.
 #[cycle(emit)]
 pub(crate) fn value(e: &Expr, frame: &Frame<'_>, b: Builder) -> Result<Builder, Memory>
     requires { Serves frame.now }
+    ensures { IfOk result (λ r. r ≡ with_items
+        (value_items (scope_of frame.now) (4 * length b.code) (expr_view e.now)) b) }
+{
+    match folded(e) {
+        Some(v) => b.put(Op::ConstPri, v),
+        None => node(e, frame, b),
+    }
+}
+
+/// The value of an expression that doesn't fold, to PRI.
+#[cycle(emit)]
+fn node(e: &Expr, frame: &Frame<'_>, b: Builder) -> Result<Builder, Memory>
+    requires serves { Serves frame.now }
+    requires open { fold (expr_view e.now) ≡ None }
     ensures { IfOk result (λ r. r ≡ with_items
         (value_items (scope_of frame.now) (4 * length b.code) (expr_view e.now)) b) }
 {
@@ -195,7 +210,7 @@ pub(crate) fn value(e: &Expr, frame: &Frame<'_>, b: Builder) -> Result<Builder, 
         Expr::Const(v) => b.put(Op::ConstPri, *v),
         Expr::Read(p) => read(p, target(p, frame, b)?),
         Expr::Unary(o, x) => prefix(*o, value(x, frame, b)?),
-        Expr::Binary(o, x, y) => operator(*o, right(y, frame, value(x, frame, b)?)?),
+        Expr::Binary(o, x, y) => operate(*o, y, frame, value(x, frame, b)?),
         Expr::Chain(x, links) => chain(links, frame, value(x, frame, b)?),
         Expr::And(x, y) => and_then(y, frame, value(x, frame, b)?),
         Expr::Or(x, y) => or_else(y, frame, value(x, frame, b)?),

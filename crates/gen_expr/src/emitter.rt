@@ -15,8 +15,8 @@ use pawn_meaning::Expr;
 
 /// Appends the code of an expression, which leaves its value in PRI. Of a valid expression it is
 /// whole instructions without a fault, whose calls wait for their functions' addresses, within the
-/// expression's weight; and in every file of such code it does what the expression means. A node
-/// that names what isn't there, or a number that no cell holds, is answered as want of memory.
+/// expression's lean weight; and in every file of such code it does what the expression means. A
+/// node that names what isn't there, or a number that no cell holds, is answered as want of memory.
 pub fn expression(e: &Expr, frame: &Frame<'_>, b: Builder) -> Result<Builder, Memory>
     requires { Serves frame.now }
     ensures code { IfOk result (λ r. r ≡ with_items

@@ -4,6 +4,7 @@ ghost use Rattle.gen_sim.specs.SimpleCode.{operator_code};
 ghost use Rattle.gen_expr.specs.Built.{with_items};
 ghost use Rattle.gen_expr.specs.DirectView.{perhaps_direct};
 ghost use Rattle.gen_expr.specs.TargetCode.{read_part, write_part, update_part, step_part};
+ghost use Rattle.gen_expr.specs.TargetCode.{effect_part};
 
 use super::access::{load, stored, updated};
 use super::builder::Builder;
@@ -67,5 +68,17 @@ pub fn step(place: &Scalar, delta: i32, prefix: bool, at: Target) -> Result<Buil
     match direct {
         None => stepped(place, delta, prefix, code),
         Some(d) => d.step(delta, prefix, code),
+    }
+}
+
+/// A step whose value isn't used.
+pub fn step_unused(place: &Scalar, delta: i32, prefix: bool, at: Target) -> Result<Builder, Memory>
+    ensures { IfOk result (λ r. r ≡ with_items
+        (effect_part (perhaps_direct at.direct) (scalar_view place.now) delta prefix) at.code) }
+{
+    let Target { code, direct } = at;
+    match direct {
+        None => stepped(place, delta, prefix, code),
+        Some(d) => d.step_unused(delta, code),
     }
 }

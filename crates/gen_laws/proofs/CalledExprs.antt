@@ -10,6 +10,7 @@ use Rattle.pawn_meaning.specs.Program.{no_args, then_arg, Slot}
 use Rattle.pawn_meaning.specs.Scope.{Scope, extent}
 use Rattle.pawn_meaning.specs.ValidExprs.{Takes, IsOperator, IsValidScalar, IsValidArray}
 use Rattle.pawn_meaning.specs.ValidExprs.{IsValidExpr, AreValidLinks, IsValidArg, AreValidArgs}
+use Rattle.pawn_meaning.specs.Fold.{fold}
 use Rattle.pawn_meaning.specs.Need.{count_of}
 use Rattle.amx_ops.specs.declared.op.Op.TheVariants as op
 use Rattle.gen_sim.specs.Items.{Item, CallOf, past}
@@ -18,21 +19,21 @@ use Rattle.gen_sim.specs.SimpleCode.{alone, taking, operator_code, const_code, p
 use Rattle.gen_sim.specs.SimpleCode.{waiting_code}
 use Rattle.gen_sim.specs.AccessCode.{load_code, store_code, changed_code, stepped_code, turned_code}
 use Rattle.gen_sim.specs.DirectCode.{direct_of, value_begin}
-use Rattle.gen_sim.specs.MovingCode.{is_quiet}
+use Rattle.gen_sim.specs.OperandCode.{right_of}
 use Rattle.gen_sim.specs.JumpCode.{other_at, choice_code, truth_code}
 use Rattle.gen_sim.specs.IndexCode.{bounds_code, in_characters}
 use Rattle.gen_sim.specs.CallCode.{one_code, two_code, convert_code, give_back_code}
 use Rattle.gen_sim.specs.ChainCode.{link_code, fail_at}
 use Rattle.gen_laws.specs.ExprCode.{known_size, others_at, linked_with, place_items, array_items}
-use Rattle.gen_laws.specs.ExprCode.{value_items, links_items, arg_items, args_items}
+use Rattle.gen_laws.specs.ExprCode.{value_items, links_items, arg_items, args_items, effect_items}
 use Rattle.gen_laws.specs.Called.{AreCalled}
 use Rattle.gen_laws.proofs.CalledItems.{both_called, waiting_called, choice_called}
 use Rattle.gen_laws.proofs.CalledItems.{operator_called, load_called, read_called, assign_called}
-use Rattle.gen_laws.proofs.CalledItems.{both_by_called, update_called, step_called}
+use Rattle.gen_laws.proofs.CalledItems.{binary_called, folded_called, update_called, step_called}
 use Rattle.gen_laws.proofs.CalledItems.{bounds_called, give_back_called, changed_called}
 use Rattle.gen_laws.proofs.CalledItems.{stepped_called, turned_called, two_called}
 use Rattle.gen_laws.proofs.CalledItems.{convert_called, link_called, link_with_called}
-use Rattle.gen_laws.proofs.CalledItems.{linked_called}
+use Rattle.gen_laws.proofs.CalledItems.{linked_called, effect_by_called}
 
 module _ (C : ℕ → Type 0) (scope : Scope)
     (known : (f : ℕ) (params : List Slot) → Takes scope.program f params → C f) where
@@ -92,46 +93,52 @@ module _ (C : ℕ → Type 0) (scope : Scope)
     value_called (Read p) h begin =
         read_called C (direct_of scope p) p (place_items scope begin p) (place_called p h begin)
     value_called (Unary o e) h begin =
-        both_called C (value_items scope begin e) (alone (prefix_op o) ∷ [])
-        (value_called e h begin) tt
+        folded_called C (fold (Unary o e)) _
+        (both_called C (value_items scope begin e) (alone (prefix_op o) ∷ [])
+        (value_called e h begin) tt)
     value_called (Binary o l r) h begin =
         let left = value_items scope begin l in
         let q = past begin left + 4 in
-        both_by_called C (is_quiet scope r) left (value_items scope q r) (operator_code o)
-        (value_called l h.0 begin) (value_called r h.1 q) (operator_called C o)
+        folded_called C (fold (Binary o l r)) _
+        (binary_called C o (right_of scope r) left (value_items scope q r)
+        (value_called l h.0 begin) (value_called r h.1 q))
     value_called (Chain e links) h begin =
         let first = value_items scope begin e in
         let p = past begin first in
         let q = past p (links_items scope p 0 links) in
         let items = links_items scope p (fail_at q) links in
-        both_called C first (linked_with q links items) (value_called e h.1 begin)
-        (linked_called C q links items (links_called links h.2 (fail_at q) p))
+        folded_called C (fold (Chain e links)) _
+        (both_called C first (linked_with q links items) (value_called e h.1 begin)
+        (linked_called C q links items (links_called links h.2 (fail_at q) p)))
     value_called (And l r) h begin =
         let left = value_items scope begin l in
         let p = past begin left in
         let right = value_items scope (p + 8) r in
-        both_called C left (choice_code p (right ++ truth_code) (const_code (pos 0)))
+        folded_called C (fold (And l r)) _
+        (both_called C left (choice_code p (right ++ truth_code) (const_code (pos 0)))
         (value_called l h.0 begin)
         (choice_called C p (right ++ truth_code) (const_code (pos 0))
-        (both_called C right truth_code (value_called r h.1 (p + 8)) tt) tt)
+        (both_called C right truth_code (value_called r h.1 (p + 8)) tt) tt))
     value_called (Or l r) h begin =
         let left = value_items scope begin l in
         let p = past begin left in
         let q = other_at p (const_code (pos 1)) in
         let right = value_items scope q r in
-        both_called C left (choice_code p (const_code (pos 1)) (right ++ truth_code))
+        folded_called C (fold (Or l r)) _
+        (both_called C left (choice_code p (const_code (pos 1)) (right ++ truth_code))
         (value_called l h.0 begin)
         (choice_called C p (const_code (pos 1)) (right ++ truth_code) tt
-        (both_called C right truth_code (value_called r h.1 q) tt))
+        (both_called C right truth_code (value_called r h.1 q) tt)))
     value_called (Cond c a b) h begin =
         let condition = value_items scope begin c in
         let p = past begin condition in
         let first = value_items scope (p + 8) a in
         let q = other_at p first in
-        both_called C condition (choice_code p first (value_items scope q b))
+        folded_called C (fold (Cond c a b)) _
+        (both_called C condition (choice_code p first (value_items scope q b))
         (value_called c h.0 begin)
         (choice_called C p first (value_items scope q b) (value_called a h.1 (p + 8))
-        (value_called b h.2 q))
+        (value_called b h.2 q)))
     value_called (Assign p e) h begin =
         let place = place_items scope begin p in
         let q = value_begin (direct_of scope p) begin place in
@@ -229,3 +236,14 @@ module _ (C : ℕ → Type 0) (scope : Scope)
         let others = args_items scope begin args in
         both_called C others (arg_items scope (past begin others) a) (args_called args h.1 begin)
         (arg_called a h.0 (past begin others))
+
+  pub effect_called : (e : Expr) → IsValidExpr scope e → (begin : ℕ)
+      → AreCalled C (effect_items scope begin e)
+  effect_called (Step p delta prefix) h begin =
+      effect_by_called C (direct_of scope p) p delta prefix (place_items scope begin p)
+      (place_called p h.1 begin)
+  effect_called (Seq a b) h begin =
+      let first = effect_items scope begin a in
+      both_called C first (effect_items scope (past begin first) b) (effect_called a h.0 begin)
+      (effect_called b h.1 (past begin first))
+  effect_called e h begin = value_called e h begin

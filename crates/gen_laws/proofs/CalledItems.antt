@@ -1,5 +1,5 @@
 -- The calls in the nodes' own items, and in items one behind another.
-use Rattle.std.proofs.Common.{ℕ, zero, suc, ℤ, pos, List, [], ◌∷◌, ◌++◌, Option, None, Some, Bool}
+use Rattle.std.proofs.Common.{ℕ, zero, suc, ℤ, pos, negsuc, List, [], ◌∷◌, ◌++◌, Option, None, Some, Bool}
 use Rattle.std.proofs.Common.{true, false}
 use Rattle.std.specs.Prelude.{IfSome}
 use Rattle.pawn_cells.specs.declared.operator.Operator.{Operator}
@@ -9,13 +9,15 @@ use Rattle.pawn_meaning.specs.Program.{Scalar, Global, Own, Through, Element, Ch
 use Rattle.pawn_meaning.specs.Program.{no_links, then_link, Expr, Const, Read, Unary, Binary, Chain}
 use Rattle.pawn_meaning.specs.Program.{And, Or, Cond, Assign, Update, UpdateBy, Step, StepBy, Copy}
 use Rattle.pawn_meaning.specs.Program.{Operate, OperateOne, Call, Native, Seq}
+use Rattle.amx_ops.specs.declared.op.Op.{Op}
 use Rattle.amx_ops.specs.declared.op.Op.TheVariants as op
 use Rattle.gen_sim.specs.Items.{Item, Plain, CallOf}
-use Rattle.gen_sim.specs.SimpleCode.{alone, operator_code, waiting_code}
+use Rattle.gen_sim.specs.SimpleCode.{alone, operator_code, folded, waiting_code}
 use Rattle.gen_sim.specs.AccessCode.{load_code, store_code, changed_code, stepped_code, turned_code}
 use Rattle.gen_sim.specs.DirectCode.{Direct, direct_store, direct_changed, stepped_back, read_by}
-use Rattle.gen_sim.specs.DirectCode.{assign_by, update_by, step_by}
-use Rattle.gen_sim.specs.MovingCode.{both_by}
+use Rattle.gen_sim.specs.DirectCode.{assign_by, update_by, step_by, direct_effect, effect_by}
+use Rattle.gen_sim.specs.OperandCode.{Right, Known, Placed, Waiting, loaded_code, known_code}
+use Rattle.gen_sim.specs.OperandCode.{operate_by, binary_by}
 use Rattle.gen_sim.specs.JumpCode.{jump_to, end_at, choice_code}
 use Rattle.gen_sim.specs.IndexCode.{bounds_code}
 use Rattle.gen_sim.specs.CallCode.{one_code, two_code, convert_code, give_back_code}
@@ -82,12 +84,58 @@ module _ (C : ℕ → Type 0) where
       waiting_called place items (alone op.PopAlt ∷ store_code p) h g (store_called p)
   assign_called (Some d) p place items h g = both_called items (direct_store d) g tt
 
-  pub both_by_called : (quiet : Bool) (first second last : List Item) → AreCalled C first
-      → AreCalled C second → AreCalled C last → AreCalled C (both_by quiet first second last)
-  both_by_called true first second last h g k =
-      both_called first (alone op.MoveAlt ∷ (second ++ last)) h (both_called second last g k)
-  both_by_called false first second last h g k =
-      waiting_called first second (alone op.PopAlt ∷ last) h g k
+  direct_effect_called : (d : Direct) (ops : Option (Op × Op)) (delta : ℤ)
+      → AreCalled C (direct_effect d ops delta)
+  direct_effect_called d None delta = tt
+  direct_effect_called d (Some ops) (pos n) = tt
+  direct_effect_called d (Some ops) (negsuc n) = tt
+
+  loaded_called : (o : Operator) → AreCalled C (loaded_code o)
+  loaded_called between.Multiply = tt
+  loaded_called between.Divide = tt
+  loaded_called between.Remainder = tt
+  loaded_called between.Add = tt
+  loaded_called between.Subtract = tt
+  loaded_called between.ShiftLeft = tt
+  loaded_called between.ShiftRight = tt
+  loaded_called between.ShiftUnsigned = tt
+  loaded_called between.And = tt
+  loaded_called between.Xor = tt
+  loaded_called between.Or = tt
+  loaded_called between.Equal = tt
+  loaded_called between.NotEqual = tt
+
+  known_called : (o : Operator) (v : ℤ) → AreCalled C (known_code o v)
+  known_called between.Multiply v = tt
+  known_called between.Divide v = tt
+  known_called between.Remainder v = tt
+  known_called between.Add v = tt
+  known_called between.Subtract v = tt
+  known_called between.ShiftLeft v = tt
+  known_called between.ShiftRight v = tt
+  known_called between.ShiftUnsigned v = tt
+  known_called between.And v = tt
+  known_called between.Xor v = tt
+  known_called between.Or v = tt
+  known_called between.Equal v = tt
+  known_called between.NotEqual v = tt
+
+  operate_called : (o : Operator) (how : Right) (right : List Item) → AreCalled C right
+      → AreCalled C (operate_by o how right)
+  operate_called o (Known v) right h = known_called o v
+  operate_called o (Placed d) right h = loaded_called o
+  operate_called o Waiting right h =
+      both_called right (alone op.PopAlt ∷ operator_code o) h (operator_called o)
+
+  pub binary_called : (o : Operator) (how : Right) (left right : List Item) → AreCalled C left
+      → AreCalled C right → AreCalled C (binary_by o how left right)
+  binary_called o how left right h g =
+      both_called left (operate_by o how right) h (operate_called o how right g)
+
+  pub folded_called : (k : Option ℤ) (items : List Item) → AreCalled C items
+      → AreCalled C (folded k items)
+  folded_called None items h = h
+  folded_called (Some v) items h = tt
 
   pub bounds_called : (size : Option ℕ) → AreCalled C (bounds_code size)
   bounds_called None = tt
@@ -144,6 +192,11 @@ module _ (C : ℕ → Type 0) where
       (both_called (load_code p) (stepped_code p delta prefix) (load_called p)
       (stepped_called p delta prefix))
   step_called (Some d) p delta prefix place h = stepped_back_called d delta prefix
+
+  pub effect_by_called : (o : Option Direct) (p : Scalar) (delta : ℤ) (prefix : Bool)
+      (place : List Item) → AreCalled C place → AreCalled C (effect_by o p delta prefix place)
+  effect_by_called None p delta prefix place h = step_called None p delta prefix place h
+  effect_by_called (Some d) p delta prefix place h = direct_effect_called d d.adds delta
 
   -- ---- with one
 

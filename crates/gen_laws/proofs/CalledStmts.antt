@@ -30,7 +30,7 @@ use Rattle.gen_laws.specs.StmtCode.{cases_items, cases_table, stmts_items}
 use Rattle.gen_laws.proofs.FreshLaws.{state_takes}
 use Rattle.gen_laws.specs.Called.{AreCalled}
 use Rattle.gen_laws.proofs.CalledItems.{both_called, choice_called, leave_called}
-use Rattle.gen_laws.proofs.CalledExprs.{value_called}
+use Rattle.gen_laws.proofs.CalledExprs.{value_called, effect_called}
 
 module _ (C : ℕ → Type 0) where
   -- ---- loops
@@ -71,7 +71,7 @@ module _ (C : ℕ → Type 0) where
     step_called : (e : Perhaps) → IsValidPerhaps scope e → (begin : ℕ)
         → AreCalled C (step_items scope begin e)
     step_called Absent h begin = tt
-    step_called (Present e) h begin = value_called C scope known e h begin
+    step_called (Present e) h begin = effect_called C scope known e h begin
 
   -- ---- each statement
 
@@ -90,7 +90,8 @@ module _ (C : ℕ → Type 0) where
         both_called C (value_items here.scope begin e) (alone op.PushPri ∷ [])
         (value_called C here.scope known e h.3 begin) tt
     stmt_called (LocalArray s o) here in_list h r known begin = tt
-    stmt_called (Do e) here in_list h r known begin = value_called C here.scope known e h begin
+    stmt_called (Do e) here in_list h r known begin =
+        effect_called C here.scope known e h begin
     stmt_called (If c a b) here in_list h r known begin =
         let condition = value_items here.scope begin c in
         let p = past begin condition in

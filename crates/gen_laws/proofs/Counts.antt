@@ -1,7 +1,7 @@
 -- How many cells a node's own items take.
-use Rattle.std.proofs.Common.{◌≡◌, ◌+◌, ◌≤◌, ℕ, zero, suc, ℤ, neg_ℤ, refl, List, [], ◌∷◌, ◌++◌}
+use Rattle.std.proofs.Common.{◌≡◌, ◌+◌, ◌≤◌, ℕ, zero, suc, ℤ, pos, negsuc, neg_ℤ, refl, List, [], ◌∷◌, ◌++◌}
 use Rattle.std.proofs.Common.{Option, None}
-use Rattle.std.proofs.Common.{Some, Bool, true, false, length, arith}
+use Rattle.std.proofs.Common.{Some, Bool, true, false, length, arith, is_some}
 use Rattle.pawn_cells.specs.declared.operator.Prefix.{Prefix}
 use Rattle.pawn_cells.specs.declared.operator.Prefix.TheVariants as before
 use Rattle.pawn_cells.specs.declared.operator.Operator.{Operator}
@@ -13,14 +13,20 @@ use Rattle.pawn_meaning.specs.Program.{Read, Unary, Binary, Chain, And, Or, Cond
 use Rattle.pawn_meaning.specs.Program.{UpdateBy, Step, StepBy, Copy, Operate, OperateOne, Call}
 use Rattle.pawn_meaning.specs.Program.{Native, Seq}
 use Rattle.pawn_meaning.specs.Scope.{Scope}
+use Rattle.pawn_meaning.specs.Fold.{fold}
+use Rattle.pawn_meaning.specs.Weight.{part}
+use Rattle.amx_ops.specs.declared.op.Op.{Op}
 use Rattle.amx_ops.specs.declared.op.Op.TheVariants as op
 use Rattle.gen_sim.specs.Items.{Item, item_cells}
 use Rattle.gen_sim.proofs.ItemLaws.{count-append}
 use Rattle.gen_sim.specs.SimpleCode.{alone, taking, prefix_op, operator_code, waiting_code, both_code}
+use Rattle.gen_sim.specs.SimpleCode.{folded}
 use Rattle.gen_sim.specs.AccessCode.{load_code, store_code, changed_code, stepped_code, turned_code}
 use Rattle.gen_sim.specs.DirectCode.{Direct, direct_of, direct_load, direct_store, direct_changed}
 use Rattle.gen_sim.specs.DirectCode.{stepped_back, read_by, assign_by, update_by, step_by}
-use Rattle.gen_sim.specs.MovingCode.{both_by}
+use Rattle.gen_sim.specs.DirectCode.{direct_effect, effect_by}
+use Rattle.gen_sim.specs.OperandCode.{Right, Known, Placed, Waiting, right_by, read_place, right_of}
+use Rattle.gen_sim.specs.OperandCode.{loaded_code, known_code, operate_by, binary_by}
 use Rattle.gen_sim.specs.JumpCode.{jump_to, end_at, choice_code}
 use Rattle.gen_sim.specs.IndexCode.{bounds_code}
 use Rattle.gen_sim.specs.CallCode.{two_code, convert_code, give_back_code}
@@ -165,7 +171,7 @@ middle_link_count fail operand link others =
 abbrev pub AreTwo : Option Direct → Type 0
 AreTwo None = Unit {0}
 AreTwo (Some d) =
-    (count (direct_load d) ≡ 2) × (count (taking d.lefts d.operand ∷ []) ≡ 2)
+    (count (direct_load d) ≡ 2) × (count (taking d.loads_alt d.operand ∷ []) ≡ 2)
     × (count (direct_store d) ≡ 2)
 
 pub direct_two : (scope : Scope) (p : Scalar) → AreTwo (direct_of scope p)
@@ -195,7 +201,7 @@ update_count (Some d) h p place value change =
     omega (
       arith,
       count-append value (direct_changed d change),
-      count-append (taking d.lefts d.operand ∷ []) (change ++ direct_store d),
+      count-append (taking d.loads_alt d.operand ∷ []) (change ++ direct_store d),
       count-append change (direct_store d),
       h.1,
       h.2,
@@ -226,14 +232,110 @@ step_count (Some d) h p delta prefix place =
       h.0,
     )
 
--- ---- a second part that leaves ALT, or one for which the first waits
+-- ---- steps whose value isn't used
 
-pub both_by_count : (quiet : Bool) (first second last : List Item)
-    → count (both_by quiet first second last) ≤ count first + count second + count last + 2
-both_by_count true first second last =
+-- what adds 1, or takes 1 away, takes two cells
+abbrev pub AreAddTwo : Direct → Option (Op × Op) → Type 0
+AreAddTwo d None = Unit {0}
+AreAddTwo d (Some ops) =
+    (count (taking ops.0 d.operand ∷ []) ≡ 2) × (count (taking ops.1 d.operand ∷ []) ≡ 2)
+
+abbrev pub AreEffectTwo : Option Direct → Type 0
+AreEffectTwo None = Unit {0}
+AreEffectTwo (Some d) = AreAddTwo d d.adds
+
+pub effect_two : (scope : Scope) (p : Scalar) → AreEffectTwo (direct_of scope p)
+effect_two scope (Global o) = (refl, refl)
+effect_two scope (Own s) = (refl, refl)
+effect_two scope (Through s) = tt
+effect_two scope (Element a e) = tt
+effect_two scope (Char a e) = tt
+
+direct_effect_count : (d : Direct) → AreTwo (Some d) → (ops : Option (Op × Op)) → AreAddTwo d ops
+    → (delta : ℤ) → count (direct_effect d ops delta) ≤ 6
+direct_effect_count d h None k delta =
+    omega (arith, h.0, h.2, count-append (direct_load d) (taking op.AddC delta ∷ direct_store d))
+direct_effect_count d h (Some ops) k (pos n) = omega (arith, k.0)
+direct_effect_count d h (Some ops) k (negsuc n) = omega (arith, k.1)
+
+pub effect_count : (o : Option Direct) → AreTwo o → AreEffectTwo o → (p : Scalar) (delta : ℤ)
+    (prefix : Bool) (place : List Item)
+    → count (effect_by o p delta prefix place) ≤ count place + 9
+effect_count None h k p delta prefix place = step_count None h p delta prefix place
+effect_count (Some d) h k p delta prefix place =
+    omega (arith, direct_effect_count d h d.adds k delta)
+
+-- ---- operators, by how their right operand comes
+
+loaded_count : (o : Operator) → count (loaded_code o) ≤ 2
+loaded_count between.Multiply = omega arith
+loaded_count between.Divide = omega arith
+loaded_count between.Remainder = omega arith
+loaded_count between.Add = omega arith
+loaded_count between.Subtract = omega arith
+loaded_count between.ShiftLeft = omega arith
+loaded_count between.ShiftRight = omega arith
+loaded_count between.ShiftUnsigned = omega arith
+loaded_count between.And = omega arith
+loaded_count between.Xor = omega arith
+loaded_count between.Or = omega arith
+loaded_count between.Equal = omega arith
+loaded_count between.NotEqual = omega arith
+
+known_count : (o : Operator) (v : ℤ) → count (known_code o v) ≤ 4
+known_count between.Multiply v = omega arith
+known_count between.Divide v = omega arith
+known_count between.Remainder v = omega arith
+known_count between.Add v = omega arith
+known_count between.Subtract v = omega arith
+known_count between.ShiftLeft v = omega arith
+known_count between.ShiftRight v = omega arith
+known_count between.ShiftUnsigned v = omega arith
+known_count between.And v = omega arith
+known_count between.Xor v = omega arith
+known_count between.Or v = omega arith
+known_count between.Equal v = omega arith
+known_count between.NotEqual v = omega arith
+
+-- what loads a place takes two cells
+abbrev pub IsRightTwo : Right → Type 0
+IsRightTwo (Known v) = Unit {0}
+IsRightTwo (Placed d) = count (taking d.loads_alt d.operand ∷ []) ≡ 2
+IsRightTwo Waiting = Unit {0}
+
+right_by_two : (k : Option ℤ) (o : Option Direct) → AreTwo o → IsRightTwo (right_by k o)
+right_by_two (Some v) o h = tt
+right_by_two None (Some d) h = h.1
+right_by_two None None h = tt
+
+read_two : (scope : Scope) (e : Expr) → AreTwo (read_place scope e)
+read_two scope (Read p) = direct_two scope p
+read_two scope e = tt
+
+pub right_two : (scope : Scope) (e : Expr) → IsRightTwo (right_of scope e)
+right_two scope e = right_by_two (fold e) (read_place scope e) (read_two scope e)
+
+operate_count : (o : Operator) (how : Right) → IsRightTwo how → (right : List Item)
+    → count (operate_by o how right) ≤ count right + 4
+operate_count o (Known v) h right = omega (arith, known_count o v)
+operate_count o (Placed d) h right =
     omega (
       arith,
-      count-append first (alone op.MoveAlt ∷ (second ++ last)),
-      count-append second last,
+      h,
+      count-append (taking d.loads_alt d.operand ∷ []) (loaded_code o),
+      loaded_count o,
     )
-both_by_count false first second last = omega (arith, both_count first second last)
+operate_count o Waiting h right =
+    omega (arith, count-append right (alone op.PopAlt ∷ operator_code o), operator_count o)
+
+pub binary_count : (o : Operator) (how : Right) → IsRightTwo how → (left right : List Item)
+    → count (binary_by o how left right) ≤ count left + count right + 4
+binary_count o how h left right =
+    omega (arith, count-append left (operate_by o how right), operate_count o how h right)
+
+-- ---- a constant in the place of what folds
+
+pub folded_count : (k : Option ℤ) (items : List Item) (weight : ℕ) → count items + 20 ≤ weight
+    → count (folded k items) + 20 ≤ part (is_some k) weight
+folded_count None items weight h = h
+folded_count (Some v) items weight h = omega arith

@@ -9,6 +9,7 @@ use Rattle.pawn_meaning.specs.Program.{no_args, then_arg}
 use Rattle.pawn_meaning.specs.Scope.{Scope, extent}
 use Rattle.pawn_meaning.specs.ValidExprs.{IsValidScalar, IsValidArray, IsValidExpr, AreValidLinks}
 use Rattle.pawn_meaning.specs.ValidExprs.{IsValidArg, AreValidArgs}
+use Rattle.pawn_meaning.specs.Fold.{fold}
 use Rattle.pawn_meaning.specs.Need.{count_of}
 use Rattle.amx_ops.specs.declared.op.Op.TheVariants as op
 use Rattle.gen_sim.specs.Items.{Item, past}
@@ -23,11 +24,13 @@ use Rattle.gen_sim.specs.CallCode.{one_code, two_code, convert_code}
 use Rattle.gen_sim.specs.ChainCode.{link_code, last_link_code, fail_at}
 use Rattle.gen_laws.specs.ExprCode.{known_size, link_with, others_at, linked_with, place_items}
 use Rattle.gen_laws.specs.ExprCode.{array_items, value_items, links_items, arg_items, args_items}
+use Rattle.gen_laws.specs.ExprCode.{effect_items}
 use Rattle.gen_sim.specs.DirectCode.{direct_of, value_begin}
-use Rattle.gen_sim.specs.MovingCode.{is_quiet}
+use Rattle.gen_sim.specs.OperandCode.{right_of}
 use Rattle.gen_laws.proofs.ExprNodes.{links_end}
 use Rattle.gen_laws.proofs.Shapes.{direct_fine, read_closed, assign_closed, update_closed, step_closed}
-use Rattle.gen_laws.proofs.Shapes.{both_by_closed}
+use Rattle.gen_laws.proofs.Shapes.{right_fine, binary_closed, folded_closed, effects_fine}
+use Rattle.gen_laws.proofs.Shapes.{effect_by_closed}
 use Rattle.gen_laws.specs.Fine.{AreFine, AreClosed}
 use Rattle.gen_laws.proofs.FineLaws.{Nowhere, fine_both, closed_both}
 use Rattle.gen_laws.proofs.FineItems.{alone_fine, byte_fine, length_fine, pop_alt, prefix_fine}
@@ -180,51 +183,53 @@ module _ (scope : Scope) where
         read_closed natives begin (direct_of scope p) (direct_fine natives scope p) p
         (place_items scope begin p) (place_closed p h begin)
     value_closed (Unary o e) h begin =
-        part_closed natives begin (value_items scope begin e) (alone (prefix_op o) ∷ [])
-        (value_closed e h begin) (prefix_fine natives o)
+        folded_closed natives begin (fold (Unary o e)) _
+        (part_closed natives begin (value_items scope begin e) (alone (prefix_op o) ∷ [])
+        (value_closed e h begin) (prefix_fine natives o))
     value_closed (Binary o l r) h begin =
         let left = value_items scope begin l in
         let q = past begin left + 4 in
-        both_by_closed natives begin (is_quiet scope r) left (value_items scope q r)
-        (operator_code o) (value_closed l h.0 begin) (value_closed r h.1 q)
-        (operator_fine natives o)
+        folded_closed natives begin (fold (Binary o l r)) _
+        (binary_closed natives begin o (right_of scope r) (right_fine natives scope r) left
+        (value_items scope q r) (value_closed l h.0 begin) (value_closed r h.1 q))
     value_closed (Chain e links) h begin =
         let first = value_items scope begin e in
         let p = past begin first in
         let q = past p (links_items scope p 0 links) in
-        closed_both natives begin first
+        folded_closed natives begin (fold (Chain e links)) _ (closed_both natives begin first
         (linked_with q links (links_items scope p (fail_at q) links)) (value_closed e h.1 begin)
-        (chain_closed_by p links (first_closed links h.2 p) (λ fail. links_closed links h.2 fail p))
+        (chain_closed_by p links (first_closed links h.2 p)
+        (λ fail. links_closed links h.2 fail p)))
     value_closed (And l r) h begin =
         let left = value_items scope begin l in
         let p = past begin left in
-        closed_both natives begin left
+        folded_closed natives begin (fold (And l r)) _ (closed_both natives begin left
         (choice_code p (value_items scope (p + 8) r ++ truth_code) (const_code (pos 0)))
         (value_closed l h.0 begin)
         (choice_closed natives p (value_items scope (p + 8) r ++ truth_code) (const_code (pos 0))
         (part_closed natives (p + 8) (value_items scope (p + 8) r) truth_code
         (value_closed r h.1 (p + 8)) (truth_fine natives))
-        (own_closed natives 0 (const_code (pos 0)) (const_fine natives (pos 0))))
+        (own_closed natives 0 (const_code (pos 0)) (const_fine natives (pos 0)))))
     value_closed (Or l r) h begin =
         let left = value_items scope begin l in
         let p = past begin left in
         let q = other_at p (const_code (pos 1)) in
-        closed_both natives begin left
+        folded_closed natives begin (fold (Or l r)) _ (closed_both natives begin left
         (choice_code p (const_code (pos 1)) (value_items scope q r ++ truth_code))
         (value_closed l h.0 begin)
         (choice_closed natives p (const_code (pos 1)) (value_items scope q r ++ truth_code)
         (own_closed natives 0 (const_code (pos 1)) (const_fine natives (pos 1)))
         (part_closed natives q (value_items scope q r) truth_code (value_closed r h.1 q)
-        (truth_fine natives)))
+        (truth_fine natives))))
     value_closed (Cond c a b) h begin =
         let condition = value_items scope begin c in
         let p = past begin condition in
         let first = value_items scope (p + 8) a in
         let q = other_at p first in
-        closed_both natives begin condition (choice_code p first (value_items scope q b))
-        (value_closed c h.0 begin)
+        folded_closed natives begin (fold (Cond c a b)) _ (closed_both natives begin condition
+        (choice_code p first (value_items scope q b)) (value_closed c h.0 begin)
         (choice_closed natives p first (value_items scope q b) (value_closed a h.1 (p + 8))
-        (value_closed b h.2 q))
+        (value_closed b h.2 q)))
     value_closed (Assign p e) h begin =
         let place = place_items scope begin p in
         let q = value_begin (direct_of scope p) begin place in
@@ -310,3 +315,17 @@ module _ (scope : Scope) where
         let others = args_items scope begin args in
         closed_both natives begin others (arg_items scope (past begin others) a)
         (args_closed args h.1 begin) (arg_closed a h.0 (past begin others))
+
+  -- ---- values that aren't used
+
+  pub effect_closed : (e : Expr) → IsValidExpr scope e → (begin : ℕ)
+      → AreClosed natives begin (effect_items scope begin e)
+  effect_closed (Step p delta prefix) h begin =
+      effect_by_closed natives begin (direct_of scope p) (direct_fine natives scope p)
+      (effects_fine natives scope p) p delta prefix (place_items scope begin p)
+      (place_closed p h.1 begin)
+  effect_closed (Seq a b) h begin =
+      let first = effect_items scope begin a in
+      closed_both natives begin first (effect_items scope (past begin first) b)
+      (effect_closed a h.0 begin) (effect_closed b h.1 (past begin first))
+  effect_closed e h begin = value_closed e h begin

@@ -1,6 +1,6 @@
 -- The code of each valid place, array, expression and argument does what it means.
 use Rattle.std.proofs.Common.{◌≡◌, ◌+◌, ℕ, pos, List, [], ◌∷◌, ◌++◌, Bool, true, false, Option}
-use Rattle.std.proofs.Common.{ℤ, None, Some, inl, refl, sym}
+use Rattle.std.proofs.Common.{ℤ, negsuc, None, Some, ◌⊎◌, inl, refl, sym}
 use Rattle.std.proofs.Common.{subst, ◌∙◌}
 use Rattle.std.specs.Prelude.{IfSome}
 use Rattle.pawn_cells.specs.declared.operator.Comparison.{Comparison}
@@ -13,25 +13,27 @@ use Rattle.pawn_meaning.specs.Program.{StepBy, Copy, Operate, OperateOne, Call, 
 use Rattle.pawn_meaning.specs.Program.{no_links, then_link, Arg, Value, Ref, Whole, Temp, Args}
 use Rattle.pawn_meaning.specs.Program.{no_args, then_arg}
 use Rattle.pawn_meaning.specs.Scope.{Scope, extent}
+use Rattle.pawn_meaning.specs.Fold.{fold}
 use Rattle.pawn_meaning.specs.ValidExprs.{IsOperator, IsValidScalar, IsValidArray, IsValidExpr}
 use Rattle.pawn_meaning.specs.ValidExprs.{AreValidLinks, IsValidArg, AreValidArgs, ArgAgrees}
 use Rattle.pawn_meaning.specs.ValidExprs.{ArgsAgree}
 use Rattle.gen_sim.specs.Items.{Item, past}
-use Rattle.gen_sim.specs.Contract.{ValueCode, PlaceCode, ArrayCode, ArgumentsCode}
+use Rattle.gen_sim.specs.Contract.{ValueCode, EffectCode, PlaceCode, ArrayCode, ArgumentsCode}
 use Rattle.gen_sim.proofs.ItemLaws.{past-append}
 use Rattle.gen_sim.proofs.StepLaws.{given}
 use Rattle.gen_sim.proofs.ConstantNodes as constants
 use Rattle.gen_sim.specs.SimpleCode.{operator_code, const_code}
 use Rattle.gen_sim.specs.DirectCode.{Direct, direct_of, direct_load, read_by, value_begin}
-use Rattle.gen_sim.specs.DirectCode.{assign_by, update_by, step_by}
-use Rattle.gen_sim.specs.MovingCode.{is_direct, is_quiet, both_by}
+use Rattle.gen_sim.specs.DirectCode.{assign_by, update_by, step_by, effect_by}
+use Rattle.gen_sim.specs.OperandCode.{right_of, read_place}
 use Rattle.gen_sim.proofs.DirectChanges.{update_direct, step_direct}
 use Rattle.gen_sim.proofs.DirectLaws.{DirectPlace, global_direct, own_direct, through_direct}
-use Rattle.gen_sim.proofs.DirectNodes.{QuietCode, quiet_value, const_quiet, read_quiet}
-use Rattle.gen_sim.proofs.DirectNodes.{assign_direct}
-use Rattle.gen_sim.proofs.QuietNodes.{binary_quiet}
+use Rattle.gen_sim.proofs.DirectNodes.{read_direct, assign_direct}
+use Rattle.gen_sim.proofs.EffectNodes.{effect_of, effect_direct, comma_effect}
+use Rattle.gen_sim.proofs.FoldNodes.{folded_does}
+use Rattle.gen_sim.proofs.OperandNodes.{PerhapsReads, right_comes, binary_by_does}
 use Rattle.gen_sim.specs.JumpCode.{other_at}
-use Rattle.gen_sim.proofs.SimpleNodes.{unary_does, binary_does, comma_does}
+use Rattle.gen_sim.proofs.SimpleNodes.{unary_does, comma_does}
 use Rattle.gen_sim.proofs.AccessNodes.{read_does, assign_does, update_does}
 use Rattle.gen_sim.proofs.StepNodes.{step_does}
 use Rattle.gen_sim.proofs.JumpNodes.{cond_does, and_does, or_does}
@@ -54,6 +56,7 @@ use Rattle.gen_sim.proofs.LinkLaws.{last_link_does, middle_link_does}
 use Rattle.gen_sim.proofs.ChainNodes.{short_chain_does, chain_does}
 use Rattle.gen_laws.specs.ExprCode.{known_size, link_with, others_at, linked_with, place_items}
 use Rattle.gen_laws.specs.ExprCode.{array_items, value_items, links_items, arg_items, args_items}
+use Rattle.gen_laws.specs.ExprCode.{effect_items}
 use Rattle.gen_laws.proofs.Extents.{of_line, of_rows, reaching, kinds_agree}
 
 -- ---- where links end
@@ -158,8 +161,7 @@ module _ (scope : Scope) where
   read_by_does : (begin : ℕ) (p : Scalar) (o : Option Direct) → HasDirect p o → (place : List Item)
       → PlaceCode scope p begin place → ValueCode scope (Read p) begin (read_by o p place)
   read_by_does begin p None h place part = read_does scope begin p place part
-  read_by_does begin p (Some d) h place part =
-      quiet_value scope (Read p) begin (direct_load d) (read_quiet scope begin p d h)
+  read_by_does begin p (Some d) h place part = read_direct scope begin p d h
 
   assign_by_does : (begin : ℕ) (p : Scalar) (o : Option Direct) → HasDirect p o → (e : Expr)
       → (place items : List Item) → PlaceCode scope p begin place
@@ -186,32 +188,15 @@ module _ (scope : Scope) where
   step_either begin p (Some d) h delta prefix place one =
       step_direct scope begin p d delta prefix h
 
-  -- ---- quiet operands
+  -- ---- right operands
 
-  abbrev Quietly : Expr → ℕ → List Item → Bool → Type 0
-  Quietly e begin items true = QuietCode scope e begin items
-  Quietly e begin items false = Unit {0}
+  reads_by : (p : Scalar) (o : Option Direct) → HasDirect p o → PerhapsReads scope (Read p) o
+  reads_by p None h = tt
+  reads_by p (Some d) h = record { place = p; is = refl; direct = h }
 
-  read_quiet_by : (begin : ℕ) (p : Scalar) (o : Option Direct) → HasDirect p o
-      → (place : List Item) → Quietly (Read p) begin (read_by o p place) (is_direct o)
-  read_quiet_by begin p None h place = tt
-  read_quiet_by begin p (Some d) h place = read_quiet scope begin p d h
-
-  quiet_does : (e : Expr) → IsValidExpr scope e → (begin : ℕ)
-      → Quietly e begin (value_items scope begin e) (is_quiet scope e)
-  quiet_does (Const v) h begin = const_quiet scope begin v h
-  quiet_does (Read p) h begin =
-      read_quiet_by begin p (direct_of scope p) (direct_does p h) (place_items scope begin p)
-  quiet_does e h begin = tt
-
-  binary_by_does : (begin : ℕ) (o : Operator) (l r : Expr) (left right : List Item) (quiet : Bool)
-      → Quietly r (past begin left + 4) right quiet → ValueCode scope l begin left
-      → ValueCode scope r (past begin left + 4) right
-      → ValueCode scope (Binary o l r) begin (both_by quiet left right (operator_code o))
-  binary_by_does begin o l r left right true h one two =
-      binary_quiet scope begin o l r left right one h
-  binary_by_does begin o l r left right false h one two =
-      binary_does scope begin o l r left right one two
+  reads_direct : (e : Expr) → IsValidExpr scope e → PerhapsReads scope e (read_place scope e)
+  reads_direct (Read p) h = reads_by p (direct_of scope p) (direct_does p h)
+  reads_direct e h = tt
 
   -- ---- each node
 
@@ -267,34 +252,48 @@ module _ (scope : Scope) where
         read_by_does begin p (direct_of scope p) (direct_does p h) (place_items scope begin p)
         (place_does p h begin)
     value_does (Unary o e) h begin =
-        unary_does scope begin o e (value_items scope begin e) (value_does e h begin)
+        folded_does scope begin (Unary o e) h _
+        (unary_does scope begin o e (value_items scope begin e) (value_does e h begin))
+        (fold (Unary o e)) refl
     value_does (Binary o l r) h begin =
         let left = value_items scope begin l in
         let p = past begin left + 4 in
-        binary_by_does begin o l r left (value_items scope p r) (is_quiet scope r)
-        (quiet_does r h.1 p) (value_does l h.0 begin) (value_does r h.1 p)
+        folded_does scope begin (Binary o l r) h _
+        (binary_by_does scope begin o l left (value_does l h.0 begin) r (value_items scope p r)
+        (right_of scope r)
+        (right_comes scope r h.1 (read_place scope r) (reads_direct r h.1) (fold r) refl)
+        (value_does r h.1 p))
+        (fold (Binary o l r)) refl
     value_does (Chain e links) h begin =
         let first = value_items scope begin e in
-        chain_by begin e first (value_does e h.1 begin) links h.0 h.2
+        folded_does scope begin (Chain e links) h _
+        (chain_by begin e first (value_does e h.1 begin) links h.0 h.2
         (first_does links h.2 (past begin first))
-        (λ fail. links_do links h.2 fail (past begin first))
+        (λ fail. links_do links h.2 fail (past begin first)))
+        (fold (Chain e links)) refl
     value_does (And l r) h begin =
         let left = value_items scope begin l in
         let p = past begin left + 8 in
-        and_does scope begin l r left (value_items scope p r) (value_does l h.0 begin)
-        (value_does r h.1 p)
+        folded_does scope begin (And l r) h _
+        (and_does scope begin l r left (value_items scope p r) (value_does l h.0 begin)
+        (value_does r h.1 p))
+        (fold (And l r)) refl
     value_does (Or l r) h begin =
         let left = value_items scope begin l in
         let p = other_at (past begin left) (const_code (pos 1)) in
-        or_does scope begin l r left (value_items scope p r) (value_does l h.0 begin)
-        (value_does r h.1 p)
+        folded_does scope begin (Or l r) h _
+        (or_does scope begin l r left (value_items scope p r) (value_does l h.0 begin)
+        (value_does r h.1 p))
+        (fold (Or l r)) refl
     value_does (Cond c a b) h begin =
         let condition = value_items scope begin c in
         let p = past begin condition + 8 in
         let first = value_items scope p a in
         let q = other_at (past begin condition) first in
-        cond_does scope begin c a b condition first (value_items scope q b) (value_does c h.0 begin)
-        (value_does a h.1 p) (value_does b h.2 q)
+        folded_does scope begin (Cond c a b) h _
+        (cond_does scope begin c a b condition first (value_items scope q b)
+        (value_does c h.0 begin) (value_does a h.1 p) (value_does b h.2 q))
+        (fold (Cond c a b)) refl
     value_does (Assign p e) h begin =
         let place = place_items scope begin p in
         let q = value_begin (direct_of scope p) begin place in
@@ -386,3 +385,28 @@ module _ (scope : Scope) where
         then_argument scope begin kind kinds a args others (arg_items scope p a)
         (agree_count scope kinds args k.1) (args_do args h.1 kinds k.1 begin)
         (arg_does a h.0 kind k.0 p)
+
+  -- ---- values that aren't used
+
+  effect_either : (begin : ℕ) (p : Scalar) (d : Option Direct) → HasDirect p d → (delta : ℤ)
+      (prefix : Bool) → (delta ≡ pos 1) ⊎ (delta ≡ negsuc 0) → (place : List Item)
+      → PlaceCode scope p begin place
+      → EffectCode scope (Step p delta prefix) begin (effect_by d p delta prefix place)
+  effect_either begin p None h delta prefix valid place one =
+      effect_of scope (Step p delta prefix) begin (step_by None p delta prefix place)
+      (step_does scope begin p delta prefix place one)
+  effect_either begin p (Some d) h delta prefix valid place one =
+      effect_direct scope begin p d delta prefix valid h
+
+  pub effect_does : (e : Expr) → IsValidExpr scope e → (begin : ℕ)
+      → EffectCode scope e begin (effect_items scope begin e)
+  effect_does (Step p delta prefix) h begin =
+      effect_either begin p (direct_of scope p) (direct_does p h.1) delta prefix h.0
+      (place_items scope begin p) (place_does p h.1 begin)
+  effect_does (Seq a b) h begin =
+      let first = effect_items scope begin a in
+      let p = past begin first in
+      comma_effect scope begin a b first (effect_items scope p b) (effect_does a h.0 begin)
+      (effect_does b h.1 p)
+  effect_does e h begin =
+      effect_of scope e begin (value_items scope begin e) (value_does e h begin)

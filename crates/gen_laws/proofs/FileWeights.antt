@@ -1,15 +1,17 @@
--- The code of a program is within its weight.
+-- The code of a program is within its lean weight, and so within its weight.
 use Rattle.std.proofs.Common.{◌≡◌, ◌+◌, ◌*◌, ◌≤◌, ℕ, List, [], ◌∷◌, ◌++◌, Option, None, Some}
 use Rattle.std.proofs.Common.{length, arith, length-append}
 use Rattle.std.specs.Prelude.{pos, sum_by}
 use Rattle.std.proofs.lemmas.List.Sums.{sum_by-cons}
 use Rattle.pawn_meaning.specs.Program.{Slot, Body, Route, Function, Program}
-use Rattle.pawn_meaning.specs.Weight.{stmt_weight, route_weight, function_weight, weight, never}
+use Rattle.pawn_meaning.specs.Weight.{stmt_weight, route_weight, function_weight, weight, lean}
+use Rattle.pawn_meaning.specs.Weight.{folds}
 use Rattle.gen_sim.specs.Items.{item_cells, past}
 use Rattle.gen_sim.proofs.ItemLaws.{count-append}
 use Rattle.amx_ops.specs.declared.op.Op.TheVariants as op
 use Rattle.gen_sim.specs.SimpleCode.{taking}
 use Rattle.gen_laws.proofs.Counts.{count}
+use Rattle.gen_laws.proofs.LeanLaws.{lean_below}
 use Rattle.gen_laws.specs.StmtCode.{stmt_items}
 use Rattle.gen_laws.proofs.StmtWeights.{stmt_light}
 use Rattle.gen_laws.specs.BodyCode.{body_here, end_code, body_items}
@@ -20,10 +22,10 @@ use Rattle.gen_laws.specs.FileCode.{functions_items, program_items}
 
 module _ (program : Program) where
   abbrev bodies_weight : List Body → ℕ
-  bodies_weight bodies = sum_by (λ (body : Body). stmt_weight never body.stmt) bodies
+  bodies_weight bodies = sum_by (λ (body : Body). stmt_weight folds body.stmt) bodies
 
   body_light : (params : List Slot) (begin : ℕ) (body : Body)
-      → count (body_items program params begin body) + 18 ≤ stmt_weight never body.stmt
+      → count (body_items program params begin body) + 18 ≤ stmt_weight folds body.stmt
   body_light params begin body =
       let here = body_here program params body in
       omega (
@@ -40,7 +42,7 @@ module _ (program : Program) where
       omega (
         arith,
         count-append one (bodies_items program params (past begin one) bodies),
-        sum_by-cons (λ (it : Body). stmt_weight never it.stmt) body bodies,
+        sum_by-cons (λ (it : Body). stmt_weight folds it.stmt) body bodies,
         body_light params begin body,
         bodies_light params (past begin one) bodies,
       )
@@ -51,7 +53,7 @@ module _ (program : Program) where
   one_light function begin (body ∷ bodies) =
       omega (
         arith,
-        sum_by-cons (λ (it : Body). stmt_weight never it.stmt) body bodies,
+        sum_by-cons (λ (it : Body). stmt_weight folds it.stmt) body bodies,
         body_light function.params (begin + 4) body,
       )
 
@@ -71,17 +73,20 @@ module _ (program : Program) where
       )
 
   functions_light : (begin : ℕ) (functions : List Function)
-      → count (functions_items program begin functions) ≤ sum_by (function_weight never) functions
+      → count (functions_items program begin functions) ≤ sum_by (function_weight folds) functions
   functions_light begin [] = omega arith
   functions_light begin (function ∷ functions) =
       let one = function_items program begin function in
       omega (
         arith,
         count-append one (functions_items program (past begin one) functions),
-        sum_by-cons (function_weight never) function functions,
+        sum_by-cons (function_weight folds) function functions,
         light_by function begin function.dispatch,
         functions_light (past begin one) functions,
       )
 
+  pub program_lean : count (program_items program) ≤ lean program + 2
+  program_lean = omega (arith, functions_light 8 program.functions)
+
   pub program_light : count (program_items program) ≤ weight program + 2
-  program_light = omega (arith, functions_light 8 program.functions)
+  program_light = omega (arith, program_lean, lean_below program)

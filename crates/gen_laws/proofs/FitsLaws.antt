@@ -2,7 +2,7 @@
 use Rattle.std.proofs.Common.{◌≡◌, ◌+◌, ◌≤◌, ◌⊎◌, inl, inr, ℕ, Bool, true, length, refl}
 use Rattle.pawn_meaning.specs.Program.{Stmt}
 use Rattle.pawn_meaning.specs.ValidStmts.{IsValidStmt}
-use Rattle.pawn_meaning.specs.Weight.{stmt_weight, never}
+use Rattle.pawn_meaning.specs.Weight.{stmt_weight, folds}
 use Rattle.gen_sim.specs.Items.{item_cells}
 use Rattle.gen_laws.specs.Fine.{StartsAt}
 use Rattle.gen_sim.specs.Here.{Here}
@@ -17,7 +17,7 @@ pub stmt_fits : (here : Here) (s : Stmt) (in_list : Bool)
     → AreWell (length here.scope.program.natives)
     (λ at. StartsAt begin (stmt_items here begin s) at ⊎ IsExit here.exits at)
     (TableAt begin (stmt_items here begin s)) (stmt_items here begin s)
-    × (length (item_cells (stmt_items here begin s)) + 20 ≤ stmt_weight never s)
+    × (length (item_cells (stmt_items here begin s)) + 20 ≤ stmt_weight folds s)
 stmt_fits here s in_list h begin = (
   stmt_well (λ at. StartsAt begin (stmt_items here begin s) at ⊎ IsExit here.exits at)
       (TableAt begin (stmt_items here begin s)) s here in_list h

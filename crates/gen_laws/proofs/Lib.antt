@@ -30,6 +30,7 @@ pub mod FunctionWells
 pub mod InnerLaws
 pub mod LastLaws
 pub mod LayoutLaws
+pub mod LeanLaws
 pub mod LinkLaws
 pub mod OnceLaws
 pub mod ProgramLaws

@@ -1,6 +1,6 @@
 -- The shapes of nodes: their items lead to each other or to their end, where those of their parts
 -- do.
-use Rattle.std.proofs.Common.{◌≡◌, ◌+◌, ◌*◌, ◌<◌, ◌⊎◌, inl, inr, ℕ, ℤ, pos, List, [], ◌∷◌, ◌++◌}
+use Rattle.std.proofs.Common.{◌≡◌, ◌+◌, ◌*◌, ◌<◌, ◌⊎◌, inl, inr, ℕ, ℤ, pos, negsuc, List, [], ◌∷◌, ◌++◌}
 use Rattle.std.proofs.Common.{refl, sym, subst}
 use Rattle.std.proofs.Common.{Bool, true, false, Option, None, Some, neg_ℤ}
 use Rattle.pawn_cells.specs.declared.operator.Operator.{Operator}
@@ -12,16 +12,20 @@ use Rattle.pawn_meaning.specs.Program.{UpdateBy, Step, StepBy, Copy, Operate, Op
 use Rattle.pawn_meaning.specs.Program.{Native, Seq}
 use Rattle.pawn_meaning.specs.Program as node
 use Rattle.pawn_meaning.specs.Scope.{Scope}
+use Rattle.pawn_meaning.specs.Fold.{fold}
+use Rattle.amx_ops.specs.declared.op.Op.{Op}
 use Rattle.amx_ops.specs.declared.op.Op.TheVariants as op
 use Rattle.gen_sim.specs.Items.{Item, CallOf, size, past}
-use Rattle.gen_sim.specs.SimpleCode.{alone, taking, const_code, waiting_code, both_code}
+use Rattle.gen_sim.specs.SimpleCode.{alone, taking, operator_code, const_code, folded}
+use Rattle.gen_sim.specs.SimpleCode.{waiting_code, both_code}
 use Rattle.gen_sim.specs.JumpCode.{jump_to, other_at, end_at, choice_code, truth_code}
 use Rattle.gen_sim.specs.PlaceItems.{object_address, slot_offset, through_code}
 use Rattle.gen_sim.specs.AccessCode.{load_code, store_code, changed_code, stepped_code}
 use Rattle.gen_sim.specs.DirectCode.{Direct, direct_of, direct_load, direct_store, direct_changed}
 use Rattle.gen_sim.specs.DirectCode.{stepped_back, direct_step, read_by, value_begin, assign_by}
-use Rattle.gen_sim.specs.DirectCode.{update_by, step_by}
-use Rattle.gen_sim.specs.MovingCode.{both_by}
+use Rattle.gen_sim.specs.DirectCode.{update_by, step_by, direct_effect, effect_by}
+use Rattle.gen_sim.specs.OperandCode.{Right, Known, Placed, Waiting, right_by, read_place, right_of}
+use Rattle.gen_sim.specs.OperandCode.{loaded_code, known_code, binary_by}
 use Rattle.gen_sim.specs.CallCode.{give_back_code, pushed_code, temporary_code, call_code}
 use Rattle.gen_sim.specs.CallCode.{native_code}
 use Rattle.gen_sim.specs.ChainCode.{last_link_code, middle_link_code, fail_at, chain_end_code}
@@ -31,7 +35,7 @@ use Rattle.gen_laws.proofs.FineLaws.{fine_wider, fine_both, anywhere, closed_bot
 use Rattle.gen_laws.proofs.FineItems.{Own, alone_fine, any_fine, multiple_fine, multiple_up}
 use Rattle.gen_laws.proofs.FineItems.{native_fine, target_fine, push_pri, pop_pri, pop_alt}
 use Rattle.gen_laws.proofs.FineItems.{give_back_fine, load_fine, store_fine, changed_fine}
-use Rattle.gen_laws.proofs.FineItems.{stepped_fine}
+use Rattle.gen_laws.proofs.FineItems.{stepped_fine, operator_fine}
 
 module _ (natives : ℕ) where
   pub own_closed : (begin : ℕ) (items : List Item) → Own natives items
@@ -257,7 +261,7 @@ module _ (natives : ℕ) where
   AreFineDirect None = Unit {0}
   AreFineDirect (Some d) =
       IsFine natives Nowhere (taking d.loads d.operand)
-      × IsFine natives Nowhere (taking d.lefts d.operand)
+      × IsFine natives Nowhere (taking d.loads_alt d.operand)
       × IsFine natives Nowhere (taking d.stores d.operand)
 
   pub direct_fine : (scope : Scope) (p : Scalar) → AreFineDirect (direct_of scope p)
@@ -278,6 +282,48 @@ module _ (natives : ℕ) where
   )
   direct_fine scope (Element a e) = tt
   direct_fine scope (Char a e) = tt
+
+  -- what loads a right operand is fine
+  abbrev pub IsFineRight : Right → Type 0
+  IsFineRight (Known v) = Unit {0}
+  IsFineRight (Placed d) = IsFine natives Nowhere (taking d.loads_alt d.operand)
+  IsFineRight Waiting = Unit {0}
+
+  right_by_fine : (k : Option ℤ) (o : Option Direct) → AreFineDirect o → IsFineRight (right_by k o)
+  right_by_fine (Some v) o h = tt
+  right_by_fine None (Some d) h = h.1
+  right_by_fine None None h = tt
+
+  read_place_fine : (scope : Scope) (e : Expr) → AreFineDirect (read_place scope e)
+  read_place_fine scope (Read p) = direct_fine scope p
+  read_place_fine scope e = tt
+
+  pub right_fine : (scope : Scope) (e : Expr) → IsFineRight (right_of scope e)
+  right_fine scope e = right_by_fine (fold e) (read_place scope e) (read_place_fine scope e)
+
+  -- what adds 1 there, or takes 1 away, is fine
+  abbrev pub AreFineAdds : Direct → Option (Op × Op) → Type 0
+  AreFineAdds d None = Unit {0}
+  AreFineAdds d (Some ops) =
+      IsFine natives Nowhere (taking ops.0 d.operand)
+      × IsFine natives Nowhere (taking ops.1 d.operand)
+
+  abbrev pub AreFineEffects : Option Direct → Type 0
+  AreFineEffects None = Unit {0}
+  AreFineEffects (Some d) = AreFineAdds d d.adds
+
+  pub effects_fine : (scope : Scope) (p : Scalar) → AreFineEffects (direct_of scope p)
+  effects_fine scope (Global o) = (
+    any_fine natives Nowhere op.Inc (object_address scope.program o) refl refl,
+    any_fine natives Nowhere op.Dec (object_address scope.program o) refl refl,
+  )
+  effects_fine scope (node.Own s) = (
+    any_fine natives Nowhere op.IncS (slot_offset scope s) refl refl,
+    any_fine natives Nowhere op.DecS (slot_offset scope s) refl refl,
+  )
+  effects_fine scope (Through s) = tt
+  effects_fine scope (Element a e) = tt
+  effects_fine scope (Char a e) = tt
 
   module _ (begin : ℕ) where
     pub read_closed : (o : Option Direct) → AreFineDirect o → (p : Scalar) (place : List Item)
@@ -330,13 +376,73 @@ module _ (natives : ℕ) where
           ),
         )
 
-    pub both_by_closed : (quiet : Bool) (first second last : List Item)
-        → AreClosed natives begin first → AreClosed natives (past begin first + 4) second
-        → Own natives last → AreClosed natives begin (both_by quiet first second last)
-    both_by_closed true first second last h g t =
-        closed_both natives begin first (alone op.MoveAlt ∷ (second ++ last)) h
-        (closed_next natives (past begin first) (alone op.MoveAlt) (second ++ last)
-        (alone_fine natives (StartsAt (past begin first) (alone op.MoveAlt ∷ (second ++ last)))
-        op.MoveAlt refl refl) (part_closed natives (past begin first + 4) second last g t))
-    both_by_closed false first second last h g t =
-        both_closed natives begin first second last h g t
+    effect_fine : (d : Direct) → AreFineDirect (Some d) → (ops : Option (Op × Op))
+        → AreFineAdds d ops → (delta : ℤ) → Own natives (direct_effect d ops delta)
+    effect_fine d h None k delta =
+        (h.0, (any_fine natives Nowhere op.AddC delta refl refl, (h.2, tt)))
+    effect_fine d h (Some ops) k (pos n) = (k.0, tt)
+    effect_fine d h (Some ops) k (negsuc n) = (k.1, tt)
+
+    pub effect_by_closed : (o : Option Direct) → AreFineDirect o → AreFineEffects o → (p : Scalar)
+        (delta : ℤ) (prefix : Bool) (place : List Item) → AreClosed natives begin place
+        → AreClosed natives begin (effect_by o p delta prefix place)
+    effect_by_closed None h k p delta prefix place g = step_closed None h p delta prefix place g
+    effect_by_closed (Some d) h k p delta prefix place g =
+        own_closed natives begin (direct_effect d d.adds delta) (effect_fine d h d.adds k delta)
+
+    -- ---- operators, by how their right operand comes
+
+    loaded_fine : (o : Operator) → Own natives (loaded_code o)
+    loaded_fine between.Multiply = (alone_fine natives Nowhere op.Smul refl refl, tt)
+    loaded_fine between.Divide = (alone_fine natives Nowhere op.Sdiv refl refl, tt)
+    loaded_fine between.Remainder = (
+      alone_fine natives Nowhere op.Sdiv refl refl,
+      (alone_fine natives Nowhere op.MovePri refl refl, tt),
+    )
+    loaded_fine between.Add = (alone_fine natives Nowhere op.Add refl refl, tt)
+    loaded_fine between.Subtract = (alone_fine natives Nowhere op.Sub refl refl, tt)
+    loaded_fine between.ShiftLeft = (alone_fine natives Nowhere op.Shl refl refl, tt)
+    loaded_fine between.ShiftRight = (alone_fine natives Nowhere op.Sshr refl refl, tt)
+    loaded_fine between.ShiftUnsigned = (alone_fine natives Nowhere op.Shr refl refl, tt)
+    loaded_fine between.And = (alone_fine natives Nowhere op.And refl refl, tt)
+    loaded_fine between.Xor = (alone_fine natives Nowhere op.Xor refl refl, tt)
+    loaded_fine between.Or = (alone_fine natives Nowhere op.Or refl refl, tt)
+    loaded_fine between.Equal = (alone_fine natives Nowhere op.Eq refl refl, tt)
+    loaded_fine between.NotEqual = (alone_fine natives Nowhere op.Neq refl refl, tt)
+
+    to_alt_fine : (o : Operator) (v : ℤ)
+        → Own natives (taking op.ConstAlt v ∷ loaded_code o)
+    to_alt_fine o v = (any_fine natives Nowhere op.ConstAlt v refl refl, loaded_fine o)
+
+    known_fine : (o : Operator) (v : ℤ) → Own natives (known_code o v)
+    known_fine between.Multiply v = (any_fine natives Nowhere op.SmulC v refl refl, tt)
+    known_fine between.Divide v = to_alt_fine between.Divide v
+    known_fine between.Remainder v = to_alt_fine between.Remainder v
+    known_fine between.Add v = (any_fine natives Nowhere op.AddC v refl refl, tt)
+    known_fine between.Subtract v = (any_fine natives Nowhere op.AddC (neg v) refl refl, tt)
+    known_fine between.ShiftLeft v = (any_fine natives Nowhere op.ShlCPri v refl refl, tt)
+    known_fine between.ShiftRight v = to_alt_fine between.ShiftRight v
+    known_fine between.ShiftUnsigned v = (any_fine natives Nowhere op.ShrCPri v refl refl, tt)
+    known_fine between.And v = to_alt_fine between.And v
+    known_fine between.Xor v = to_alt_fine between.Xor v
+    known_fine between.Or v = to_alt_fine between.Or v
+    known_fine between.Equal v = (any_fine natives Nowhere op.EqCPri v refl refl, tt)
+    known_fine between.NotEqual v = to_alt_fine between.NotEqual v
+
+    pub binary_closed : (o : Operator) (how : Right) → IsFineRight how → (left right : List Item)
+        → AreClosed natives begin left → AreClosed natives (past begin left + 4) right
+        → AreClosed natives begin (binary_by o how left right)
+    binary_closed o (Known v) t left right h g =
+        part_closed natives begin left (known_code o v) h (known_fine o v)
+    binary_closed o (Placed d) t left right h g =
+        part_closed natives begin left (taking d.loads_alt d.operand ∷ loaded_code o) h
+        (t, loaded_fine o)
+    binary_closed o Waiting t left right h g =
+        both_closed natives begin left right (operator_code o) h g (operator_fine natives o)
+
+    -- ---- a constant in the place of what folds
+
+    pub folded_closed : (k : Option ℤ) (items : List Item) → AreClosed natives begin items
+        → AreClosed natives begin (folded k items)
+    folded_closed None items h = h
+    folded_closed (Some v) items h = own_closed natives begin (const_code v) (const_fine natives v)

@@ -14,8 +14,8 @@ use Rattle.pawn_meaning.specs.ValidStmts.{IsValidStmt, IsValidElse, AreValidCase
 use Rattle.gen_sim.specs.Items.{Item, past}
 use Rattle.gen_sim.specs.Contract.{ValueCode}
 use Rattle.gen_sim.specs.JumpCode.{other_at}
-use Rattle.gen_laws.specs.ExprCode.{value_items}
-use Rattle.gen_laws.proofs.ExprNodes.{value_does}
+use Rattle.gen_laws.specs.ExprCode.{value_items, effect_items}
+use Rattle.gen_laws.proofs.ExprNodes.{value_does, effect_does}
 use Rattle.gen_sim.specs.Here.{Exits, Here, behind, within}
 use Rattle.gen_sim.specs.FlowCode.{leave_code}
 use Rattle.gen_sim.specs.Flow.{StmtCode, StmtsCode, ElseCode, ConditionCode, PerhapsCode}
@@ -52,7 +52,7 @@ step_does : (scope : Scope) (e : Perhaps) → IsValidPerhaps scope e → (begin 
     → PerhapsCode scope e begin (step_items scope begin e)
 step_does scope Absent h begin = absent_step scope begin
 step_does scope (Present e) h begin =
-    present_step scope begin e (value_items scope begin e) (value_does scope e h begin)
+    present_step scope begin e (effect_items scope begin e) (effect_does scope e h begin)
 
 -- ---- the true exits in place of any
 
@@ -150,7 +150,7 @@ mutual
       let z = array_sized here.scope s o r h.1 in
       local_array_does here begin s o h.1 (fresh_one s f) z.first z.inner z.is
   stmt_does (Do e) here in_list h r f begin =
-      do_does here begin e (value_items here.scope begin e) (value_does here.scope e h begin)
+      do_does here begin e (effect_items here.scope begin e) (effect_does here.scope e h begin)
   stmt_does (If c a b) here in_list h r f begin =
       let condition = value_items here.scope begin c in
       let p = past begin condition in

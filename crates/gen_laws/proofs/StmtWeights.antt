@@ -11,7 +11,7 @@ use Rattle.pawn_meaning.specs.Program.{Cases, no_cases, then_case, Stmts, no_stm
 use Rattle.pawn_meaning.specs.Scope.{Scope}
 use Rattle.pawn_meaning.specs.ValidStmts.{slots_made, slots_made_by}
 use Rattle.pawn_meaning.specs.Weight.{perhaps_weight, stmt_weight, else_weight, cases_weight}
-use Rattle.pawn_meaning.specs.Weight.{stmts_weight, ranges_weight, values_in, never}
+use Rattle.pawn_meaning.specs.Weight.{stmts_weight, ranges_weight, values_in, folds}
 use Rattle.amx_ops.specs.declared.op.Op.TheVariants as op
 use Rattle.amx_ops.specs.Written.{cells_of}
 use Rattle.gen_sim.specs.Items.{Item, appended, item_cells, past}
@@ -26,7 +26,7 @@ use Rattle.gen_sim.specs.LoopCode.{until_end, until_exits, until_code}
 use Rattle.gen_sim.specs.StateCode.{entry_of, enter_code, switched_code}
 use Rattle.gen_laws.specs.SwitchCode.{values_of, cases_values, table_item, cases_at, table_code}
 use Rattle.gen_laws.proofs.Counts.{count, choice_count}
-use Rattle.gen_laws.proofs.WeightLaws.{value_light}
+use Rattle.gen_laws.proofs.WeightLaws.{value_light, effect_light}
 use Rattle.gen_laws.specs.ClosedCode.{unknown}
 use Rattle.gen_laws.specs.StmtCode.{condition_items, step_items, stmt_items, for_items, else_items}
 use Rattle.gen_laws.specs.StmtCode.{cases_items, cases_table, stmts_items}
@@ -91,20 +91,20 @@ switch_count here value p cases other begin items second =
     )
 
 condition_light : (scope : Scope) (e : Perhaps) (begin : ℕ)
-    → count (condition_items scope begin e) ≤ perhaps_weight never e + 2
+    → count (condition_items scope begin e) ≤ perhaps_weight folds e + 2
 condition_light scope Absent begin = omega arith
 condition_light scope (Present e) begin = omega (arith, value_light scope e begin)
 
 step_light : (scope : Scope) (e : Perhaps) (begin : ℕ)
-    → count (step_items scope begin e) ≤ perhaps_weight never e
+    → count (step_items scope begin e) ≤ perhaps_weight folds e
 step_light scope Absent begin = omega arith
-step_light scope (Present e) begin = omega (arith, value_light scope e begin)
+step_light scope (Present e) begin = omega (arith, effect_light scope e begin)
 
 -- ---- each statement
 
 mutual
   pub stmt_light : (s : Stmt) (here : Here) (begin : ℕ)
-      → count (stmt_items here begin s) + 20 ≤ stmt_weight never s
+      → count (stmt_items here begin s) + 20 ≤ stmt_weight folds s
   stmt_light (Block stmts) here begin =
       let leave = leave_code here.scope.slots (slots_made_by stmts) in
       omega (
@@ -120,7 +120,7 @@ mutual
         value_light here.scope e begin,
       )
   stmt_light (LocalArray s o) here begin = omega arith
-  stmt_light (Do e) here begin = omega (arith, value_light here.scope e begin)
+  stmt_light (Do e) here begin = omega (arith, effect_light here.scope e begin)
   stmt_light (If c a b) here begin =
       let condition = value_items here.scope begin c in
       let p = past begin condition in
@@ -252,13 +252,13 @@ mutual
   stmt_light Empty here begin = omega arith
 
   pub else_light : (other : Else) (here : Here) (begin : ℕ)
-      → count (else_items here begin other) ≤ else_weight never other
+      → count (else_items here begin other) ≤ else_weight folds other
   else_light no_else here begin = omega arith
   else_light (otherwise s) here begin = omega (arith, stmt_light s here begin)
 
   -- with the pairs of their table
   pub cases_light : (cases : Cases) (here : Here) (begin end : ℕ)
-      → count (cases_items here begin end cases) + 2 * cases_values cases ≤ cases_weight never cases
+      → count (cases_items here begin end cases) + 2 * cases_values cases ≤ cases_weight folds cases
   cases_light no_cases here begin end = omega arith
   cases_light (then_case ranges s cases) here begin end =
       let one = stmt_items here begin s in
@@ -272,7 +272,7 @@ mutual
       )
 
   pub stmts_light : (stmts : Stmts) (here : Here) (begin : ℕ)
-      → count (stmts_items here begin stmts) ≤ stmts_weight never stmts
+      → count (stmts_items here begin stmts) ≤ stmts_weight folds stmts
   stmts_light no_stmts here begin = omega arith
   stmts_light (then_stmt s stmts) here begin =
       let first = stmt_items here begin s in

@@ -16,7 +16,7 @@ use Rattle.gen_sim.specs.Items.{Item, past}
 use Rattle.gen_sim.specs.SimpleCode.{alone, taking, const_code}
 use Rattle.gen_sim.specs.JumpCode.{jump_to, other_at, choice_code}
 use Rattle.gen_sim.specs.PlaceItems.{object_address}
-use Rattle.gen_laws.specs.ExprCode.{value_items}
+use Rattle.gen_laws.specs.ExprCode.{value_items, effect_items}
 use Rattle.gen_sim.specs.Here.{Exits, Here, behind, within}
 use Rattle.gen_sim.specs.FlowCode.{leave_code}
 use Rattle.gen_sim.specs.LoopCode.{body_at, step_at, loop_exits, test_at, until_exits}
@@ -27,7 +27,7 @@ use Rattle.gen_laws.specs.Fine.{IsFine, AreFine}
 use Rattle.gen_laws.proofs.FineLaws.{Nowhere, fine_both}
 use Rattle.gen_laws.proofs.FineItems.{alone_fine, any_fine, length_fine, push_pri}
 use Rattle.gen_laws.proofs.Shapes.{const_fine}
-use Rattle.gen_laws.proofs.ExprForms.{value_closed}
+use Rattle.gen_laws.proofs.ExprForms.{value_closed, effect_closed}
 use Rattle.gen_laws.specs.ClosedCode.{unknown}
 use Rattle.gen_laws.specs.StmtCode.{condition_items, step_items, stmt_items, for_items, else_items}
 use Rattle.gen_laws.specs.StmtCode.{cases_items, cases_table, stmts_items}
@@ -72,6 +72,12 @@ module _ (T U : ℕ → Type 0) where
     value_well e h begin g =
         closed_well T U natives begin (value_items scope begin e) (value_closed scope e h begin) g
 
+    effect_well : (e : Expr) → IsValidExpr scope e → (begin : ℕ)
+        → Holds T U begin (effect_items scope begin e)
+        → AreWell natives T U (effect_items scope begin e)
+    effect_well e h begin g =
+        closed_well T U natives begin (effect_items scope begin e) (effect_closed scope e h begin) g
+
     -- and items of the node's own behind one
     valued_well : (e : Expr) → IsValidExpr scope e → (begin : ℕ) (last : List Item)
         → AreFine natives Nowhere last
@@ -93,7 +99,7 @@ module _ (T U : ℕ → Type 0) where
         → Holds T U begin (step_items scope begin e)
         → AreWell natives T U (step_items scope begin e)
     step_well Absent h begin g = tt
-    step_well (Present e) h begin g = value_well e h begin g
+    step_well (Present e) h begin g = effect_well e h begin g
 
   -- ---- each statement
 
@@ -129,7 +135,7 @@ module _ (T U : ℕ → Type 0) where
             ),
           ),
         )
-    stmt_well (Do e) here in_list h out begin g = value_well here.scope e h begin g
+    stmt_well (Do e) here in_list h out begin g = effect_well here.scope e h begin g
     stmt_well (If c a b) here in_list h out begin g =
         let natives = length here.scope.program.natives in
         let condition = value_items here.scope begin c in

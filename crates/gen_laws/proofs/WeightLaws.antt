@@ -9,7 +9,8 @@ use Rattle.pawn_meaning.specs.Program.{no_args, then_arg}
 use Rattle.pawn_meaning.specs.Scope.{Scope, extent}
 use Rattle.pawn_meaning.specs.Need.{count_of}
 use Rattle.pawn_meaning.specs.Weight.{scalar_weight, array_weight, expr_weight, links_weight}
-use Rattle.pawn_meaning.specs.Weight.{arg_weight, args_weight, never}
+use Rattle.pawn_meaning.specs.Weight.{arg_weight, args_weight, folds}
+use Rattle.pawn_meaning.specs.Fold.{fold}
 use Rattle.pawn_meaning.specs.declared.program_limits.TheConstants.{NODE_WEIGHT}
 use Rattle.amx_ops.specs.declared.op.Op.TheVariants as op
 use Rattle.gen_sim.specs.Items.{Item, CallOf, past}
@@ -24,13 +25,14 @@ use Rattle.gen_sim.specs.CallCode.{one_code, two_code, convert_code, give_back_c
 use Rattle.gen_sim.specs.ChainCode.{link_code, fail_at, chain_end_code}
 use Rattle.gen_laws.specs.ExprCode.{known_size, link_with, others_at, linked_with, place_items}
 use Rattle.gen_laws.specs.ExprCode.{array_items, value_items, links_items, arg_items, args_items}
+use Rattle.gen_laws.specs.ExprCode.{effect_items}
 use Rattle.gen_laws.proofs.Counts.{count, prefix_count, operator_count, load_count, store_count}
 use Rattle.gen_laws.proofs.Counts.{changed_count, stepped_count, turned_count, bounds_count}
 use Rattle.gen_laws.proofs.Counts.{two_count, convert_count, give_back_count, link_count}
 use Rattle.gen_sim.specs.DirectCode.{direct_of, value_begin}
-use Rattle.gen_sim.specs.MovingCode.{is_quiet}
+use Rattle.gen_sim.specs.OperandCode.{right_of}
 use Rattle.gen_laws.proofs.Counts.{direct_two, read_count, assign_count, update_count, step_count}
-use Rattle.gen_laws.proofs.Counts.{both_by_count}
+use Rattle.gen_laws.proofs.Counts.{right_two, binary_count, folded_count, effect_two, effect_count}
 use Rattle.gen_laws.proofs.Counts.{waiting_count, both_count, choice_count, last_link_count}
 use Rattle.gen_laws.proofs.Counts.{middle_link_count}
 
@@ -128,7 +130,7 @@ module _ (scope : Scope) where
 
   mutual
     pub place_light : (p : Scalar) (begin : ℕ)
-        → count (place_items scope begin p) + 20 ≤ scalar_weight never p
+        → count (place_items scope begin p) + 20 ≤ scalar_weight folds p
     place_light (Global o) begin = omega arith
     place_light (Own s) begin = omega arith
     place_light (Through s) begin = omega arith
@@ -143,7 +145,7 @@ module _ (scope : Scope) where
         (value_light e (index_at begin a))
 
     pub array_light : (a : Array) (begin : ℕ)
-        → count (array_items scope begin a) + 20 ≤ array_weight never a
+        → count (array_items scope begin a) + 20 ≤ array_weight folds a
     array_light (Object o) begin = omega arith
     array_light (SlotArray s) begin = omega arith
     array_light (ParamArray s known) begin = omega arith
@@ -158,7 +160,7 @@ module _ (scope : Scope) where
         (known_size (extent scope a)) _ _ (array_light a begin) (value_light e (index_at begin a))
 
     pub value_light : (e : Expr) (begin : ℕ)
-        → count (value_items scope begin e) + 20 ≤ expr_weight never e
+        → count (value_items scope begin e) + 20 ≤ expr_weight folds e
     value_light (Const v) begin = omega arith
     value_light (Read p) begin =
         omega (
@@ -167,73 +169,72 @@ module _ (scope : Scope) where
           place_light p begin,
         )
     value_light (Unary o e) begin =
-        omega (
+        folded_count (fold (Unary o e)) _ _ (omega (
           arith,
           count-append (value_items scope begin e) (alone (prefix_op o) ∷ []),
           prefix_count o,
           value_light e begin,
-        )
+        ))
     value_light (Binary o l r) begin =
         let left = value_items scope begin l in
         let q = past begin left + 4 in
-        omega (
+        folded_count (fold (Binary o l r)) _ _ (omega (
           arith,
-          both_by_count (is_quiet scope r) left (value_items scope q r) (operator_code o),
-          operator_count o,
+          binary_count o (right_of scope r) (right_two scope r) left (value_items scope q r),
           value_light l begin,
           value_light r q,
-        )
+        ))
     value_light (Chain e links) begin =
         let first = value_items scope begin e in
         let p = past begin first in
         let q = past p (links_items scope p 0 links) in
         let items = links_items scope p (fail_at q) links in
-        omega (
+        folded_count (fold (Chain e links)) _ _ (omega (
           arith,
           count-append first (linked_with q links items),
           chain_light q links items,
           value_light e begin,
           links_light links p (fail_at q),
-        )
+        ))
     value_light (And l r) begin =
         let left = value_items scope begin l in
         let p = past begin left in
         let right = value_items scope (p + 8) r in
-        omega (
+        folded_count (fold (And l r)) _ _ (omega (
           arith,
           count-append left (choice_code p (right ++ truth_code) (const_code (pos 0))),
           choice_count p (right ++ truth_code) (const_code (pos 0)),
           count-append right truth_code,
           value_light l begin,
           value_light r (p + 8),
-        )
+        ))
     value_light (Or l r) begin =
         let left = value_items scope begin l in
         let p = past begin left in
         let q = other_at p (const_code (pos 1)) in
         let right = value_items scope q r in
-        omega (
+        folded_count (fold (Or l r)) _ _ (omega (
           arith,
           count-append left (choice_code p (const_code (pos 1)) (right ++ truth_code)),
           choice_count p (const_code (pos 1)) (right ++ truth_code),
           count-append right truth_code,
           value_light l begin,
           value_light r q,
-        )
+        ))
     value_light (Cond c a b) begin =
         let condition = value_items scope begin c in
         let p = past begin condition in
         let first = value_items scope (p + 8) a in
         let q = other_at p first in
         let second = value_items scope q b in
-        omega (
+        folded_count (fold (Cond c a b)) _ _ (omega (
           arith,
           count-append condition (choice_code p first second),
           choice_count p first second,
           value_light c begin,
           value_light a (p + 8),
           value_light b q,
-        )
+        ))
     value_light (Assign p e) begin =
         let place = place_items scope begin p in
         let q = value_begin (direct_of scope p) begin place in
@@ -327,7 +328,7 @@ module _ (scope : Scope) where
 
     -- a link is no node: the operand's cells to spare are for it
     pub links_light : (links : Links) (begin fail : ℕ)
-        → count (links_items scope begin fail links) ≤ links_weight never links
+        → count (links_items scope begin fail links) ≤ links_weight folds links
     links_light no_links begin fail = omega arith
     links_light (then_link o e f swapped links) begin fail =
         let operand = value_items scope (begin + 4) e in
@@ -342,7 +343,7 @@ module _ (scope : Scope) where
         )
 
     pub arg_light : (a : Arg) (begin : ℕ)
-        → count (arg_items scope begin a) + 20 ≤ arg_weight never a
+        → count (arg_items scope begin a) + 20 ≤ arg_weight folds a
     arg_light (Value e) begin =
         omega (
           arith,
@@ -370,7 +371,7 @@ module _ (scope : Scope) where
         )
 
     pub args_light : (args : Args) (begin : ℕ)
-        → count (args_items scope begin args) ≤ args_weight never args
+        → count (args_items scope begin args) ≤ args_weight folds args
     args_light no_args begin = omega arith
     args_light (then_arg a args) begin =
         let others = args_items scope begin args in
@@ -381,3 +382,23 @@ module _ (scope : Scope) where
           args_light args begin,
           arg_light a p,
         )
+
+  pub effect_light : (e : Expr) (begin : ℕ)
+      → count (effect_items scope begin e) + 20 ≤ expr_weight folds e
+  effect_light (Step p delta prefix) begin =
+      omega (
+        arith,
+        effect_count (direct_of scope p) (direct_two scope p) (effect_two scope p) p delta prefix
+            (place_items scope begin p),
+        place_light p begin,
+      )
+  effect_light (Seq a b) begin =
+      let first = effect_items scope begin a in
+      let p = past begin first in
+      omega (
+        arith,
+        count-append first (effect_items scope p b),
+        effect_light a begin,
+        effect_light b p,
+      )
+  effect_light e begin = value_light e begin

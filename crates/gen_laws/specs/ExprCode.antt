@@ -8,14 +8,15 @@ use Rattle.pawn_meaning.specs.Program.{StepBy, Copy, Operate, OperateOne, Call, 
 use Rattle.pawn_meaning.specs.Program.{no_links, then_link, Arg, Value, Ref, Whole, Temp, Args}
 use Rattle.pawn_meaning.specs.Program.{no_args, then_arg}
 use Rattle.pawn_meaning.specs.Scope.{Scope, Extent, extent}
+use Rattle.pawn_meaning.specs.Fold.{fold}
 use Rattle.pawn_meaning.specs.Need.{count_of}
 use Rattle.gen_sim.specs.Items.{Item, past}
 use Rattle.gen_sim.specs.Results.{temporaries_in}
-use Rattle.gen_sim.specs.SimpleCode.{operator_code, const_code, unary_code, comma_code}
+use Rattle.gen_sim.specs.SimpleCode.{operator_code, const_code, folded, unary_code, comma_code}
 use Rattle.gen_sim.specs.AccessCode.{update_code, step_by_code}
 use Rattle.gen_sim.specs.DirectCode.{direct_of, read_by, value_begin, assign_by, update_by}
-use Rattle.gen_sim.specs.DirectCode.{step_by}
-use Rattle.gen_sim.specs.MovingCode.{is_quiet, both_by}
+use Rattle.gen_sim.specs.DirectCode.{step_by, effect_by}
+use Rattle.gen_sim.specs.OperandCode.{right_of, binary_by}
 use Rattle.gen_sim.specs.JumpCode.{other_at, cond_code, and_code, or_code}
 use Rattle.gen_sim.specs.PlaceItems.{object_code, slot_code, through_code}
 use Rattle.gen_sim.specs.IndexCode.{element_code, character_code, row_code, copy_code}
@@ -79,25 +80,30 @@ module _ (scope : Scope) where
     pub value_items : ℕ → Expr → List Item
     value_items begin (Const v) = const_code v
     value_items begin (Read p) = read_by (direct_of scope p) p (place_items begin p)
-    value_items begin (Unary o e) = unary_code o (value_items begin e)
+    value_items begin (Unary o e) =
+        folded (fold (Unary o e)) (unary_code o (value_items begin e))
     value_items begin (Binary o l r) =
         let left = value_items begin l in
-        both_by (is_quiet scope r) left (value_items (past begin left + 4) r)
-        (operator_code o)
+        folded (fold (Binary o l r))
+        (binary_by o (right_of scope r) left (value_items (past begin left + 4) r))
     value_items begin (Chain e links) =
         let first = value_items begin e in
         let p = past begin first in
         let q = past p (links_items p 0 links) in
-        first ++ linked_with q links (links_items p (fail_at q) links)
+        folded (fold (Chain e links))
+        (first ++ linked_with q links (links_items p (fail_at q) links))
     value_items begin (And l r) =
-        let left = value_items begin l in and_code begin left (value_items (past begin left + 8) r)
+        let left = value_items begin l in
+        folded (fold (And l r)) (and_code begin left (value_items (past begin left + 8) r))
     value_items begin (Or l r) =
         let left = value_items begin l in
-        or_code begin left (value_items (other_at (past begin left) (const_code (pos 1))) r)
+        folded (fold (Or l r))
+        (or_code begin left (value_items (other_at (past begin left) (const_code (pos 1))) r))
     value_items begin (Cond c a b) =
         let condition = value_items begin c in
         let first = value_items (past begin condition + 8) a in
-        cond_code begin condition first (value_items (other_at (past begin condition) first) b)
+        folded (fold (Cond c a b))
+        (cond_code begin condition first (value_items (other_at (past begin condition) first) b))
     value_items begin (Assign p e) =
         let place = place_items begin p in
         let direct = direct_of scope p in
@@ -147,3 +153,11 @@ module _ (scope : Scope) where
     args_items begin no_args = []
     args_items begin (then_arg a args) =
         let others = args_items begin args in others ++ arg_items (past begin others) a
+
+  -- of an expression whose value isn't used
+  abbrev pub effect_items : ℕ → Expr → List Item
+  effect_items begin (Step p delta prefix) =
+      effect_by (direct_of scope p) p delta prefix (place_items begin p)
+  effect_items begin (Seq a b) =
+      let first = effect_items begin a in comma_code first (effect_items (past begin first) b)
+  effect_items begin e = value_items begin e

@@ -9,7 +9,7 @@ use Rattle.pawn_meaning.specs.Scope.{Scope}
 use Rattle.pawn_meaning.specs.ValidStmts.{slots_made, slots_made_by}
 use Rattle.gen_sim.specs.Items.{Item, past}
 use Rattle.gen_sim.specs.SimpleCode.{const_code}
-use Rattle.gen_laws.specs.ExprCode.{value_items}
+use Rattle.gen_laws.specs.ExprCode.{value_items, effect_items}
 use Rattle.gen_sim.specs.Here.{Here, behind, within}
 use Rattle.gen_sim.specs.FlowCode.{leave_code, local_code, block_code, break_code, continue_code}
 use Rattle.gen_sim.specs.FlowCode.{return_code, exit_code, assert_code}
@@ -27,7 +27,7 @@ condition_items scope begin (Present e) = value_items scope begin e
 -- and an absent step nothing
 abbrev pub step_items : Scope → ℕ → Perhaps → List Item
 step_items scope begin Absent = []
-step_items scope begin (Present e) = value_items scope begin e
+step_items scope begin (Present e) = effect_items scope begin e
 
 abbrev mutual
   -- of one statement
@@ -36,7 +36,7 @@ abbrev mutual
       block_code here.scope.slots (slots_made_by stmts) (stmts_items here begin stmts)
   stmt_items here begin (Local s e) = local_code (value_items here.scope begin e)
   stmt_items here begin (LocalArray s o) = local_array_code here.scope s o
-  stmt_items here begin (Do e) = value_items here.scope begin e
+  stmt_items here begin (Do e) = effect_items here.scope begin e
   stmt_items here begin (If c a b) =
       closed_if begin (value_items here.scope begin c) (λ q. stmt_items here q a)
       (λ q. else_items here q b)

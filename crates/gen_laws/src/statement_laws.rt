@@ -9,7 +9,7 @@ pub fn statements_mean()
 
 /// The code of each valid statement is whole instructions with valid operands. Its jumps, switches
 /// and case tables lead to starts in it, to its end, or to the exits of the loop around. With
-/// twenty cells more it is within the statement's weight.
+/// twenty cells more it is within the statement's lean weight.
 pub fn statements_fit()
     ensures { StmtFits }
 {}

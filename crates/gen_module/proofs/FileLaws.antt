@@ -1,6 +1,6 @@
 -- The file that is made of its parts.
 use Rattle.std.proofs.Common.{◌≡◌, ℕ, ℤ, pos, List, [], ◌∷◌, Option, None, Some, map, refl, sym, ap}
-use Rattle.std.proofs.Common.{subst, ◌∙◌}
+use Rattle.std.proofs.Common.{subst, ◌∙◌, ◌+◌, ◌≤◌, length, arith}
 use Rattle.pawn_cells.specs.Cells.{cell_of}
 use Rattle.pawn_meaning.specs.ProgramNames.{HasNames}
 use Rattle.pawn_meaning.specs.Program as plain
@@ -10,7 +10,7 @@ use Rattle.pawn_meaning.specs.declared.program.Public.{Public}
 use Rattle.pawn_meaning.specs.declared.program.Tag.{Tag}
 use Rattle.pawn_meaning.specs.declared.program.Program.{Program}
 use Rattle.pawn_meaning.specs.Limits.{IsWithinLimits}
-use Rattle.pawn_meaning.specs.Weight.{counted}
+use Rattle.pawn_meaning.specs.Weight.{counted, lean}
 use Rattle.pawn_meaning.specs.World.{first_memory}
 use Rattle.amx_ops.specs.declared.amx.Amx.{Amx}
 use Rattle.amx_ops.specs.declared.amx.Record.{Record}
@@ -22,6 +22,8 @@ use Rattle.gen_sim.specs.Items.{cells_with}
 use Rattle.gen_laws.specs.CodeIsValid.{main_by}
 use Rattle.gen_laws.specs.FileCode.{entry_of, program_items}
 use Rattle.gen_laws.specs.FileOf.{file_of, ProgramsHaveFiles}
+use Rattle.gen_laws.proofs.FileWeights.{program_lean}
+use Rattle.gen_laws.proofs.LayoutLaws.{same_count}
 use Rattle.gen_module.specs.Few.{AreFew}
 use Rattle.gen_module.specs.Records.{public_record, tag_record, main_with}
 use Rattle.gen_module.proofs.FewLaws.{all_few}
@@ -121,3 +123,15 @@ file_agrees program amx have few is valid limits names =
     subst (λ a. Agrees source a) (sym is)
     (have source valid limits (all_few program.automata few) (few_natives source names)
     (program_writable source valid limits names))
+
+-- its code is within the lean weight and two cells
+pub file_lean : (program : Program) (amx : Amx) → amx ≡ file_of (program_view program)
+    → length amx.code ≤ lean (program_view program) + 2
+file_lean program amx is =
+    let source = program_view program in
+    subst (λ a. length a.code ≤ lean source + 2) (sym is)
+    (omega (
+      arith,
+      same_count (entry_of source) (program_items source),
+      program_lean source,
+    ))

@@ -1,4 +1,4 @@
-ghost use Rattle.std.specs.Prelude.{◌≡◌, ℕ, IfOk};
+ghost use Rattle.std.specs.Prelude.{◌≡◌, ◌+◌, ◌≤◌, ℕ, length, IfOk};
 ghost use Rattle.pawn_meaning.specs.ProgramNames.{HasNames};
 ghost use Rattle.pawn_meaning.specs.Valid.{IsValid};
 ghost use Rattle.pawn_meaning.specs.View.{program_view};
@@ -25,12 +25,15 @@ use pawn_meaning::Program;
 use std::alloc::Global;
 
 /// The file of a program, from its code, in which the calls still wait for their functions, and
-/// from the addresses of the functions. Of a valid program within the limits, with names as those
-/// of a source, it does what the program means.
+/// from the addresses of the functions. It has at most two cells of code more than the lean weight.
+/// Of a valid program within the limits, with names as those of a source, it does what the program
+/// means.
 pub fn file(alloc: Global, program: &Program, b: &Builder, entries: &[i32]) -> Result<Amx, Memory>
     requires code { b.now ≡ with_items (program_items (program_view program.now)) nothing }
     requires entries { Finds (entry_of (program_view program.now)) entries.now }
     ensures file { IfOk result (λ amx. amx ≡ file_of (program_view program.now)) }
+    ensures lean { IfOk result (λ amx.
+        length amx.code ≤ weights.lean (program_view program.now) + 2) }
     ensures agrees { IfOk result (λ amx. let source = program_view program.now in
         IsValid source → IsWithinLimits source → HasNames source → Agrees source amx) }
 {

@@ -4,7 +4,7 @@ ghost use Rattle.gen_module.specs.Starts.{Finds};
 ghost use Rattle.gen_module.specs.Records.{public_record, tag_record};
 
 use super::starts::start_at;
-use amx_ops::Record;
+use amx_ops::{Name, Record};
 use pawn_base::{Bytes, List, Memory};
 use pawn_meaning::{Public, Tag};
 use std::alloc::Global;
@@ -13,7 +13,8 @@ use std::alloc::Global;
 fn named(alloc: Global, address: i32, name: &Bytes) -> Result<Record, Memory>
     ensures { IfOk result (λ it. it ≡ record { address = address; name = name.now }) }
 {
-    let name = Bytes::from_slice(alloc, name.as_slice())?;
+    let bytes = Bytes::from_slice(alloc, name.as_slice())?;
+    let name = Name::from_bytes(alloc, bytes)?;
     Ok(Record { address, name })
 }
 

@@ -70,11 +70,11 @@ module _ (x : Site) {v : View} {pending : List ℤ} (d : Direct) (at : Place)
       ((look (read at) >>= (λ a. make a y >>= storing at)) u)
       (With x.program x.room v pending (past p (direct_changed d items)))
   direct_changes items make grows y makes p u t a pri l =
-      let q : ℕ = p + 4 * length (cells_of (with d.lefts d.operand)) in
+      let q : ℕ = p + 4 * length (cells_of (with d.loads_alt d.operand)) in
       direct_left x d at r p u t a l (λ b. make b y >>= storing at)
       (λ b n fb k alt same. then_items x q items (direct_store d)
       (With x.program x.room v pending (past q items)) (With x.program x.room v pending) u
-      (next_lies x p (taking d.lefts d.operand) (items ++ direct_store d) l)
+      (next_lies x p (taking d.loads_alt d.operand) (items ++ direct_store d) l)
       (make b y u) (storing at) (λ z m. (storing_grows at z).at m)
       (λ j. makes b fb q j u n k alt (same ∙ pri))
       (λ j z m i h. direct_storing z h.fits (past q items) m i h.stands h.value j))

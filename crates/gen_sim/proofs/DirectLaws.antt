@@ -1,5 +1,5 @@
 -- A place's own instruction reaches its cell: each place without an index has one.
-use Rattle.std.proofs.Common.{◌≡◌, ◌+◌, ◌*◌, ◌<◌, ◌≤◌, ℕ, ℤ, pos, List, [], ◌∷◌, Option, None}
+use Rattle.std.proofs.Common.{◌≡◌, ◌+◌, ◌*◌, ◌<◌, ◌≤◌, ℕ, ℤ, pos, negsuc, List, [], ◌∷◌, Option, None}
 use Rattle.std.proofs.Common.{Some, length, slice_get, refl, sym, ap, subst, ◌∙◌, arith}
 use Rattle.pawn_cells.specs.Cells.{IsCell, bits_of, wrapped_sum}
 use Rattle.host_script.specs.declared.event.End.TheVariants as end
@@ -13,10 +13,11 @@ use Rattle.pawn_meaning.specs.Run.{Outcome, Gives, Stops, More, Run, Done, then_
 use Rattle.pawn_meaning.specs.Run.{◌>>=◌, look, change}
 use Rattle.pawn_meaning.specs.References.{cell_at}
 use Rattle.pawn_meaning.specs.Meaning.{Fewer, place}
+use Rattle.amx_ops.specs.declared.op.Op.{Op}
 use Rattle.amx_ops.specs.declared.op.Op.TheVariants as op
 use Rattle.amx_ops.specs.Written.{cells_of}
 use Rattle.amx_ops.specs.State.{State}
-use Rattle.amx_ops.specs.Access.{load, store, in_frame}
+use Rattle.amx_ops.specs.Access.{load, store, raise, in_frame}
 use Rattle.amx_ops.specs.Effects.{at_next}
 use Rattle.amx_ops.specs.Step.{act}
 use Rattle.amx_ops.specs.Moves.{Config}
@@ -37,6 +38,15 @@ use Rattle.gen_sim.proofs.ItemSteps.{one_item}
 use Rattle.gen_sim.proofs.NodesPartLaws.{then_nothing}
 use Rattle.gen_sim.proofs.AccessLaws.{Loaded, Stored}
 
+-- they add 1 to a cell of this number, and take 1 away
+abbrev pub Adding : Site → View → ℤ → ℕ → Option (Op × Op) → Type 0
+Adding x v operand cell None = Unit {0}
+Adding x v operand cell (Some ops) =
+    (pending : List ℤ) (p : ℕ) (w : World) (c : Config)
+    → Stands x.program x.room v pending p w c → (q : ℕ)
+    → (act x.amx ops.0 operand q c.state ≡ raise c.state (4 * cell) (pos 1) (at_next q))
+    × (act x.amx ops.1 operand q c.state ≡ raise c.state (4 * cell) (negsuc 0) (at_next q))
+
 -- the instructions load and store a cell of this number, wherever the machine is in the view
 pub record Reached (x : Site) (v : View) (d : Direct) (cell : ℕ) : Type 0 where
   pub loading : {pending : List ℤ} {p : ℕ} {w : World} {c : Config}
@@ -45,12 +55,13 @@ pub record Reached (x : Site) (v : View) (d : Direct) (cell : ℕ) : Type 0 wher
       ≡ load c.state (4 * cell) (λ z. at_next q (record c.state { pri = z }))
   pub left : {pending : List ℤ} {p : ℕ} {w : World} {c : Config}
       → Stands x.program x.room v pending p w c → (q : ℕ)
-      → act x.amx d.lefts d.operand q c.state
+      → act x.amx d.loads_alt d.operand q c.state
       ≡ load c.state (4 * cell) (λ z. at_next q (record c.state { alt = z }))
   pub storing : {pending : List ℤ} {p : ℕ} {w : World} {c : Config}
       → Stands x.program x.room v pending p w c → (q : ℕ)
       → act x.amx d.stores d.operand q c.state
       ≡ store c.state (4 * cell) c.state.pri (at_next q)
+  pub adding : Adding x v d.operand cell d.adds
 
 -- a place is a cell that they reach
 pub record ReachedAt (x : Site) (v : View) (d : Direct) (at : Place) : Type 0 where
@@ -109,17 +120,17 @@ module _ (x : Site) {v : View} {pending : List ℤ} (d : Direct) where
   -- its cell is loaded to ALT, and PRI is as it was
   pub direct_left : {A : Type 0} {js : List Item} {Q : A → World → Config → Type 0} (at : Place)
       → ReachedAt x v d at → (p : ℕ) (u : World) (t : Config)
-      → Stands x.program x.room v pending p u t → Lies x p (taking d.lefts d.operand ∷ js)
+      → Stands x.program x.room v pending p u t → Lies x p (taking d.loads_alt d.operand ∷ js)
       → (go : ℤ → Run A)
       → ((y : ℤ) (n : Config) → IsCell y → Stands x.program x.room v pending
-      (p + 4 * length (cells_of (with d.lefts d.operand))) u n
+      (p + 4 * length (cells_of (with d.loads_alt d.operand))) u n
       → n.state.alt ≡ y → n.state.pri ≡ t.state.pri
       → DoesAt x (length (item_cells js)) u n (go y u) Q)
-      → DoesAt x (length (item_cells (taking d.lefts d.operand ∷ js))) u t
+      → DoesAt x (length (item_cells (taking d.loads_alt d.operand ∷ js))) u t
       ((look (read at) >>= go) u) Q
   direct_left {js = js} {Q = Q} at r p u t a l go next =
-      let it = with d.lefts d.operand in
-      subst (λ z. DoesAt x (length (item_cells (taking d.lefts d.operand ∷ js))) u t
+      let it = with d.loads_alt d.operand in
+      subst (λ z. DoesAt x (length (item_cells (taking d.loads_alt d.operand ∷ js))) u t
       ((look (read z) >>= go) u) Q) (sym r.is)
       (one_item x it js u
       (load_alt_by x a r.placed it l.lie.0
@@ -155,8 +166,9 @@ abbrev through_its : ℕ → Direct
 through_its slot =
     record {
       loads = op.LrefSPri;
-      lefts = op.LrefSAlt;
+      loads_alt = op.LrefSAlt;
       stores = op.SrefSPri;
+      adds = None;
       operand = pos (12 + 4 * slot);
     }
 
@@ -172,6 +184,7 @@ through_reached x v slot r at = record {
   storing = λ {pending} {p} {w} {c} b q.
       let its = param_reads x v b slot r at in
       rw (its.offset_is, its.reads.live, its.reads.value) refl;
+  adding = tt;
 }
 
 through_finds : (x : Site) (v : View) (slot : ℕ) {pending : List ℤ} {p : ℕ} {w : World} {c : Config}
@@ -197,8 +210,9 @@ module _ (scope : Scope) where
   pub global_direct : (o : ℕ) → IsCellObject (slice_get scope.program.objects o)
       → DirectPlace scope (Global o) (record {
         loads = op.LoadPri;
-        lefts = op.LoadAlt;
+        loads_alt = op.LoadAlt;
         stores = op.StorPri;
+        adds = Some (op.Inc, op.Dec);
         operand = object_address scope.program o;
       })
   global_direct o valid = record {
@@ -222,6 +236,10 @@ module _ (scope : Scope) where
                   (λ y. at_next q (record c.state { alt = y }))) at;
               storing = λ {pending} {p} {w} {c} b q.
                   ap (λ z. store c.state (bits_of z) c.state.pri (at_next q)) at;
+              adding = λ pending p w c b q. (
+                ap (λ z. raise c.state (bits_of z) (pos 1) (at_next q)) at,
+                ap (λ z. raise c.state (bits_of z) (negsuc 0) (at_next q)) at,
+              );
             };
           },
         );
@@ -231,8 +249,9 @@ module _ (scope : Scope) where
       → IsInSight scope slot
       → DirectPlace scope (Own slot) (record {
         loads = op.LoadSPri;
-        lefts = op.LoadSAlt;
+        loads_alt = op.LoadSAlt;
         stores = op.StorSPri;
+        adds = Some (op.IncS, op.DecS);
         operand = slot_offset scope slot;
       })
   own_direct slot kind sight = record {
@@ -264,6 +283,12 @@ module _ (scope : Scope) where
               storing = λ {pending} {p} {w} {c} b q.
                   ap (λ z. store c.state z c.state.pri (at_next q))
                   (in_frame_is x v (slot_offset scope slot) at.first b at.address);
+              adding = λ pending p w c b q. (
+                ap (λ z. raise c.state z (pos 1) (at_next q))
+                    (in_frame_is x v (slot_offset scope slot) at.first b at.address),
+                ap (λ z. raise c.state z (negsuc 0) (at_next q))
+                    (in_frame_is x v (slot_offset scope slot) at.first b at.address),
+              );
             };
           },
         );

@@ -27,41 +27,17 @@ use Rattle.gen_sim.proofs.AccessLaws.{Loaded, Stored}
 use Rattle.gen_sim.proofs.AccessNodes.{storing, storing_grows}
 use Rattle.gen_sim.proofs.DirectLaws.{DirectPlace, found_does, direct_loads, direct_stores}
 
--- the items evaluate an expression, and leave ALT as it was
-pub record QuietCode (scope : Scope) (e : Expr) (begin : ℕ) (items : List Item) : Type 0 where
-  pub does : (x : Site) → IsSite x → x.program ≡ scope.program → (turns : ℕ)
-      → CallsWithin x turns → (v : View) → Fits x.program x.room scope v → LieIn x begin items
-      → Starts x (past begin items) → (pending : List ℤ)
-      → used x.program x.room v pending + load e ≤ kept x.program x.room + sum v.needs
-      → (w : World) (c : Config) → Stands x.program x.room v pending begin w c
-      → DoesAt x (length (item_cells items)) w c (value (scene_at x) (with_turns x turns) e w)
-      (Loaded x v pending (past begin items) c.state.alt)
-
--- ALT isn't asked for
-pub quiet_value : (scope : Scope) (e : Expr) (begin : ℕ) (items : List Item)
-    → QuietCode scope e begin items → ValueCode scope e begin items
-quiet_value scope e begin items part = record {
-  does = λ x site same turns calls v fits lie starts pending deep w c s.
-      does_as x (length (item_cells items)) w (value (scene_at x) (with_turns x turns) e w)
-      (Loaded x v pending (past begin items) c.state.alt) (λ y n i k. k.0)
-      (part.does x site same turns calls v fits lie starts pending deep w c s);
-}
-
 module _ (scope : Scope) (begin : ℕ) where
-  pub const_quiet : (y : ℤ) → IsCell y → QuietCode scope (Const y) begin (const_code y)
-  const_quiet y fit = record {
+  pub read_direct : (p : Scalar) (d : Direct) → DirectPlace scope p d
+      → ValueCode scope (Read p) begin (direct_load d)
+  read_direct p d part = record {
     does = λ x site same turns calls v fits lie starts pending deep w c s.
-        item_sets x (with op.ConstPri y) {js = []} s (record { lie = lie; starts = starts }) y c.state.alt
-        refl (λ t b m n. given x b (record { stands = b; value = m; fits = fit }, n));
-  }
-
-  pub read_quiet : (p : Scalar) (d : Direct) → DirectPlace scope p d
-      → QuietCode scope (Read p) begin (direct_load d)
-  read_quiet p d part = record {
-    does = λ x site same turns calls v fits lie starts pending deep w c s.
-        found_does x d s (place (scene_at x) (with_turns x turns) p w)
+        does_as x (length (item_cells (direct_load d))) w
+        (value (scene_at x) (with_turns x turns) (Read p) w)
+        (Loaded x v pending (past begin (direct_load d)) c.state.alt) (λ y n i k. k.0)
+        (found_does x d s (place (scene_at x) (with_turns x turns) p w)
         (part.finds x same (with_turns x turns) v fits s) (λ at. look (read at))
-        (λ at r. direct_loads x d at r begin w c s (record { lie = lie; starts = starts }));
+        (λ at r. direct_loads x d at r begin w c s (record { lie = lie; starts = starts })));
   }
 
   pub assign_direct : (p : Scalar) (d : Direct) (e : Expr) (items : List Item)

@@ -26,7 +26,7 @@ use Rattle.gen_sim.specs.Site.{Site, DoesAt, scene_at}
 use Rattle.gen_sim.specs.Items.{Item, item_cells, past, with}
 use Rattle.gen_sim.specs.Fits.{own_sizes}
 use Rattle.gen_sim.specs.Code.{with_turns}
-use Rattle.gen_sim.specs.Contract.{ValueCode}
+use Rattle.gen_sim.specs.Contract.{EffectCode, ValueCode}
 use Rattle.gen_sim.proofs.ItemLaws.{count-append}
 use Rattle.gen_sim.proofs.StepLaws.{given, move_is}
 use Rattle.gen_sim.proofs.MadeLaws.{local_does}
@@ -66,7 +66,7 @@ module _ (here : Here) (begin : ℕ) where
   empty_does =
       record { fresh = tt; count = refl; does = λ x turns v o b l paid deep w c s. given x s s }
 
-  pub do_does : (e : Expr) (items : List Item) → ValueCode here.scope e begin items
+  pub do_does : (e : Expr) (items : List Item) → EffectCode here.scope e begin items
       → StmtCode here (Do e) begin items
   do_does e items part = record {
     fresh = tt;
@@ -74,8 +74,9 @@ module _ (here : Here) (begin : ℕ) where
     does = λ x turns v o b l paid deep w c s.
         gives_of x (length (item_cells items)) w (value (scene_at x) (with_turns x turns) e w)
         (λ y. Through)
-        (λ y u t. With x.program x.room v [] (past begin items) y u t) (λ y u t k. k.stands)
-        (value_at here b part l (omega (arith, deep)) w c s);
+        (λ y. Stands x.program x.room v [] (past begin items)) (λ y u t k. k)
+        (part.does x b.site b.same turns b.calls v b.fits l.lie l.starts [] (omega (arith, deep)) w
+        c s);
   }
 
   pub local_node_does : (slot : ℕ) (e : Expr) (items : List Item) → here.scope.params ≤ slot

@@ -19,9 +19,11 @@ pub mod DataLaws
 pub mod DirectChanges
 pub mod DirectLaws
 pub mod DirectNodes
+pub mod EffectNodes
 pub mod ElementNodes
 pub mod EndLaws
 pub mod Final
+pub mod FoldNodes
 pub mod FlowNodes
 pub mod FrameAddresses
 pub mod FrameLaws
@@ -57,6 +59,8 @@ pub mod NearNative
 pub mod NodesPartLaws
 pub mod ObjectLaws
 pub mod OperatorCalls
+pub mod OperandLaws
+pub mod OperandNodes
 pub mod OperatorLaws
 pub mod OperatorNodes
 pub mod Orders
@@ -65,7 +69,6 @@ pub mod ParameterLaws
 pub mod PartLaws
 pub mod PieceLaws
 pub mod PlaceNodes
-pub mod QuietNodes
 pub mod SeenLaws
 pub mod Sim
 pub mod SimpleNodes

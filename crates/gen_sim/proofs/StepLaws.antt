@@ -4,19 +4,20 @@ use Rattle.std.proofs.Common.{List, [], ◌∷◌, Option, None, Some, Bool, tru
 use Rattle.std.proofs.Common.{slice_set, nat_lt, refl, ap, ◌∙◌, arith, length-append, le-ltb}
 use Rattle.std.proofs.Common.{lt-ltb}
 use Rattle.std.proofs.lemmas.Bool.{ltb-true, ltb-false}
-use Rattle.pawn_cells.specs.Cells.{IsCell, bits_of}
+use Rattle.pawn_cells.specs.Cells.{IsCell, bits_of, add}
+use Rattle.pawn_cells.proofs.CellLaws.{wrap_cell}
 use Rattle.host_script.specs.declared.event.End.TheVariants as end
 use Rattle.pawn_meaning.specs.Memory.{Memory, Name, Cell, read, write, write_cells, read_cell}
 use Rattle.pawn_meaning.specs.World.{World}
 use Rattle.pawn_meaning.specs.Run.{Outcome, Gives, Stops, Run, Done, done, then_do, or_stop}
-use Rattle.pawn_meaning.specs.Run.{changed}
+use Rattle.pawn_meaning.specs.Run.{changed, change, ◌>>=◌}
 use Rattle.pawn_meaning.specs.References.{index}
 use Rattle.pawn_meaning.specs.Later.{Later, world_of}
 use Rattle.amx_ops.specs.declared.op.Op.TheVariants as op
 use Rattle.amx_ops.specs.Instructions.{fetched}
 use Rattle.amx_ops.specs.Written.{Written, cells_of, read_as}
 use Rattle.amx_ops.specs.State.{State, Goes, Errs, push}
-use Rattle.amx_ops.specs.Access.{load, store}
+use Rattle.amx_ops.specs.Access.{load, store, raise}
 use Rattle.amx_ops.specs.Effects.{at_next}
 use Rattle.amx_ops.specs.Step.{act, act_on}
 use Rattle.amx_ops.specs.Moves.{Config, moved, move}
@@ -260,6 +261,46 @@ module _ (x : Site) where
         → DoesAt x (1 + d) w c (then_do (changed (write (Cell name i) y w.memory) w) go) Q
     store_does y k fit e f go next =
         store_by (with op.StorI (pos 0)) y k fit f (rw e refl) go next
+
+    -- a cell gets so much more
+    pub raise_by : (it : Written) (delta : ℤ) → fetched x.amx.code p ≡ Some (read_as it)
+        → act x.amx it.op it.operand (p + 4 * length (cells_of it)) c.state
+        ≡ raise c.state (4 * cell) delta (at_next (p + 4 * length (cells_of it)))
+        → (go : ℤ → Done → Run A)
+        → ((y : ℤ) (n : Memory) (t : Config)
+        → Stands x.program x.room v pending (p + 4 * length (cells_of it))
+        (record w { memory = n }) t
+        → DoesAt x d w t (go y done (record w { memory = n })) Q)
+        → DoesAt x (1 + d) w c (then_do (or_stop (read (Cell name i) w.memory) end.Stray w)
+        (λ y. change (write (Cell name i) (add y delta)) >>= go y)) Q
+    raise_by it delta f e go next = by_value (read_cell name i w.memory) refl
+      where
+        by_memory : (y : ℤ) → read_cell name i w.memory ≡ Some y → (o : Option Memory)
+            → write_cells name i (add y delta ∷ []) w.memory ≡ o
+            → DoesAt x (1 + d) w c (then_do (changed o w) (go y)) Q
+        by_memory y g None o = stray a
+        by_memory y g (Some n) o =
+            let r = cell_reads x.program x.room a at y g in
+            let z : ℤ = add y delta in
+            let inside : cell < at.first + extent (Thing name at.sizes) =
+            omega (arith, at.cell_is, at.inside) in
+            let j : 4 * cell / 4 ≡ cell = omega arith in
+            let q : ℕ = p + 4 * length (cells_of it) in
+            let t : State =
+            record c.state { cells = slice_set c.state.cells cell z; cip = q } in
+            let h : raise c.state (4 * cell) delta (at_next q) ≡ Goes t =
+            rw (r.live, r.value, j) refl in
+            goes a it f t (e ∙ h)
+            (next y n (record c { state = t })
+            (cell_written x.program x.room a at z (wrap_cell _) n o
+            (below_top a.mem at.placed cell inside) q t refl refl refl refl refl))
+
+        by_value : (o : Option ℤ) → read_cell name i w.memory ≡ o
+            → DoesAt x (1 + d) w c (then_do (or_stop o end.Stray w)
+            (λ y. change (write (Cell name i) (add y delta)) >>= go y)) Q
+        by_value None o = stray a
+        by_value (Some y) o =
+            by_memory y o (write_cells name i (add y delta ∷ []) w.memory) refl
 
   -- ---- indexes
 

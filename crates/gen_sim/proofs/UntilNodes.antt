@@ -23,7 +23,7 @@ use Rattle.gen_sim.specs.Stands.{Stands, With}
 use Rattle.gen_sim.specs.Site.{Site, DoesAt, scene_at}
 use Rattle.gen_sim.specs.Items.{Item, item_cells, past, with}
 use Rattle.gen_sim.specs.Code.{with_turns}
-use Rattle.gen_sim.specs.Contract.{ValueCode}
+use Rattle.gen_sim.specs.Contract.{EffectCode, ValueCode}
 use Rattle.gen_sim.proofs.ItemLaws.{past-append, count-append, past_is}
 use Rattle.gen_sim.proofs.StepLaws.{given}
 use Rattle.gen_sim.specs.Lies.{Lies}
@@ -207,12 +207,12 @@ module _ (scope : Scope) (begin : ℕ) where
   absent_step =
       record { does = λ x site same turns calls v fits lie starts pending deep w c s. given x s s }
 
-  pub present_step : (e : Expr) (items : List Item) → ValueCode scope e begin items
+  pub present_step : (e : Expr) (items : List Item) → EffectCode scope e begin items
       → PerhapsCode scope (Present e) begin items
   present_step e items part = record {
     does = λ x site same turns calls v fits lie starts pending deep w c s.
         gives_of x (length (item_cells items)) w (value (scene_at x) (with_turns x turns) e w)
         (λ y. done)
-        (λ y u t. With x.program x.room v pending (past begin items) y u t) (λ y u t k. k.stands)
+        (λ y. Stands x.program x.room v pending (past begin items)) (λ y u t k. k)
         (part.does x site same turns calls v fits lie starts pending deep w c s);
   }

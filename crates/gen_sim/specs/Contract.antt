@@ -5,11 +5,11 @@ use Rattle.std.specs.List.{list_any}
 use Rattle.pawn_meaning.specs.Program.{Scalar, Array, Slot, Args, Expr}
 use Rattle.pawn_meaning.specs.Scope.{Scope, Extent, extent}
 use Rattle.pawn_meaning.specs.Need.{load, place_load, array_load, args_load, count_of}
-use Rattle.pawn_meaning.specs.Weight.{expr_weight, never}
+use Rattle.pawn_meaning.specs.Weight.{expr_weight, folds}
 use Rattle.pawn_meaning.specs.Meaning.{place, array, value, arguments}
 use Rattle.amx_ops.specs.Instructions.{Placed, placed_from}
 use Rattle.amx_ops.specs.Valid.{IsPiece}
-use Rattle.gen_sim.specs.Stands.{With}
+use Rattle.gen_sim.specs.Stands.{Stands, With}
 use Rattle.gen_sim.specs.Site.{scene_at}
 use Rattle.gen_sim.specs.Items.{Item, AreWritten, item_cells, cells_with, waits_from}
 use Rattle.gen_sim.specs.Results.{PlaceAt, ArrayAt, ArgumentsAt, temporaries_in}
@@ -21,6 +21,11 @@ use Rattle.gen_sim.specs.Code.{Code}
 pub record ValueCode (scope : Scope) (e : Expr) (begin : ℕ) (items : List Item) : Type 0 where
   pub does : Code scope (λ x fewer. value (scene_at x) fewer e) (load e) items begin
       (λ x v pending q. With x.program x.room v pending q)
+
+-- or one whose value isn't used
+pub record EffectCode (scope : Scope) (e : Expr) (begin : ℕ) (items : List Item) : Type 0 where
+  pub does : Code scope (λ x fewer. value (scene_at x) fewer e) (load e) items begin
+      (λ x v pending q y. Stands x.program x.room v pending q)
 
 -- the items find a place: its address is in PRI behind them
 pub record PlaceCode (scope : Scope) (p : Scalar) (begin : ℕ) (items : List Item) : Type 0 where
@@ -62,7 +67,7 @@ HaveNoFault natives begin items =
 
 -- the code of an expression was appended to some code and to what waited there, in a file with so
 -- many natives: whole instructions without a fault, the operands of whose calls wait; with four
--- cells more it is within the expression's weight; and it does what the expression means
+-- cells more it is within the expression's lean weight; and it does what the expression means
 pub record Appended (scope : Scope) (natives : ℕ) (e : Expr) (code : List ℤ) (waits : List (ℕ × ℕ))
     (more : List ℤ) (more_waits : List (ℕ × ℕ)) : Type 0 where
   pub items : List Item
@@ -70,5 +75,5 @@ pub record Appended (scope : Scope) (natives : ℕ) (e : Expr) (code : List ℤ)
   pub waits_are : more_waits ≡ waits ++ waits_from (length code) items
   pub whole : AreWritten items
   pub faultless : HaveNoFault natives (4 * length code) items
-  pub light : length (item_cells items) + 4 ≤ expr_weight never e
+  pub light : length (item_cells items) + 4 ≤ expr_weight folds e
   pub does : ValueCode scope e (4 * length code) items

@@ -20,8 +20,8 @@ pub mod Lies
 pub mod LinksCode
 pub mod LoopCode
 pub mod Mem
-pub mod MovingCode
 pub mod Next
+pub mod OperandCode
 pub mod Pieces
 pub mod PlaceItems
 pub mod Places

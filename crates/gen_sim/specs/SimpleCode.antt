@@ -1,7 +1,7 @@
 -- The code of nodes without a jump, of which each is its own step between the codes of its parts. A
 -- value comes in PRI; while a second part runs, what the first one gave waits on the stack, and
 -- then goes to ALT.
-use Rattle.std.specs.Prelude.{ℤ, pos, List, [], ◌∷◌, ◌++◌}
+use Rattle.std.specs.Prelude.{ℤ, pos, List, [], ◌∷◌, ◌++◌, Option, None, Some}
 use Rattle.pawn_cells.specs.declared.operator.Prefix.{Prefix}
 use Rattle.pawn_cells.specs.declared.operator.Prefix.TheVariants as before
 use Rattle.pawn_cells.specs.declared.operator.Operator.{Operator}
@@ -48,6 +48,11 @@ operator_code between.NotEqual = alone op.Neq ∷ []
 abbrev pub const_code : ℤ → List Item
 const_code v = taking op.ConstPri v ∷ []
 
+-- an expression that folds is a constant; any other has its node's items
+abbrev pub folded : Option ℤ → List Item → List Item
+folded None items = items
+folded (Some v) items = const_code v
+
 -- a prefix operator, on its operand's value
 abbrev pub unary_code : Prefix → List Item → List Item
 unary_code o e = e ++ alone (prefix_op o) ∷ []
@@ -61,7 +66,7 @@ waiting_code first second tail = first ++ (alone op.PushPri ∷ (second ++ tail)
 abbrev pub both_code : (first second last : List Item) → List Item
 both_code first second last = waiting_code first second (alone op.PopAlt ∷ last)
 
--- a binary operator, on the values of both operands
+-- a binary operator whose left operand waits on the stack
 abbrev pub binary_code : Operator → (left right : List Item) → List Item
 binary_code o left right = both_code left right (operator_code o)
 

@@ -1,3 +1,3 @@
 //! What a machine does for a run of a program: the relation between the two, and agreement from it.
-//! Nothing here knows of sources, or of the nodes of a program.
+//! Nothing here knows of sources.
 #![tactic(auto)]

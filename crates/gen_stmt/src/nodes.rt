@@ -3,7 +3,7 @@ ghost use Rattle.pawn_cells.specs.Cells.{cell_of as bits_as_cell};
 ghost use Rattle.pawn_meaning.specs.View.{expr_view, perhaps_view};
 ghost use Rattle.gen_sim.specs.SimpleCode.{alone, taking};
 ghost use Rattle.gen_sim.specs.PlaceItems.{object_code};
-ghost use Rattle.gen_laws.specs.ExprCode.{value_items};
+ghost use Rattle.gen_laws.specs.ExprCode.{value_items, effect_items};
 ghost use Rattle.gen_sim.specs.FlowCode.{leave_code, local_code, assert_code};
 ghost use Rattle.gen_laws.specs.MadeCode.{local_array_code};
 ghost use Rattle.gen_laws.specs.StmtCode.{condition_items, step_items};
@@ -56,6 +56,16 @@ pub fn condition(
     }
 }
 
+/// An expression whose value isn't used.
+fn unused(e: &Expr, place: &Place<'_>, locals: &Locals, code: Builder) -> Result<Builder, Memory>
+    requires { Stands place.now locals.now }
+    ensures { IfOk result (λ r. r ≡ with_items (effect_items
+        (scope_in place.now locals.now.made.items) (4 * length code.code) (expr_view e.now)) code) }
+{
+    let frame = locals.frame(place);
+    gen_expr::effect(e, &frame, code)
+}
+
 /// A loop's step, where there is one.
 pub fn step(
     c: &Option<Expr>,
@@ -69,13 +79,24 @@ pub fn step(
         (perhaps_view c.now)) code) }
 {
     match c {
-        Some(e) => valued(e, place, locals, code),
+        Some(e) => unused(e, place, locals, code),
         None => Ok(code),
     }
 }
 
-/// An expression in a draft.
+/// An expression in a draft, whose value isn't used.
 pub fn effect(e: &Expr, place: &Place<'_>, locals: &Locals, b: Draft) -> Result<Draft, Memory>
+    requires { Stands place.now locals.now }
+    ensures { IfOk result (λ r. Grown b r (λ exits. effect_items
+        (scope_in place.now locals.now.made.items) (4 * length b.code.code) (expr_view e.now))) }
+{
+    let Draft { code, holes } = b;
+    let code = unused(e, place, locals, code)?;
+    Ok(Draft { code, holes })
+}
+
+/// The value of an expression in a draft.
+pub fn value(e: &Expr, place: &Place<'_>, locals: &Locals, b: Draft) -> Result<Draft, Memory>
     requires { Stands place.now locals.now }
     ensures { IfOk result (λ r. Grown b r (λ exits. value_items
         (scope_in place.now locals.now.made.items) (4 * length b.code.code) (expr_view e.now))) }
@@ -94,7 +115,7 @@ pub fn local(s: u32, e: &Expr, at: &At<'_>, locals: &mut Locals, b: Draft) -> Re
         (scope_in at.now.place locals.old.made.items) (4 * length b.code.code)
         (expr_view e.now)))) }
 {
-    let valued = effect(e, &at.place, locals, b)?;
+    let valued = value(e, &at.place, locals, b)?;
     let pushed = valued.put(Op::PushPri, 0)?;
     locals.make(s, &at.place)?;
     Ok(pushed)
@@ -178,7 +199,7 @@ pub fn returned(e: &Expr, place: &Place<'_>, locals: &Locals, b: Draft) -> Resul
         Grown b r (λ exits. value_items scope (4 * length b.code.code) (expr_view e.now)
         ++ (leave_code scope.slots scope.made ++ alone Op.Retn ∷ []))) }
 {
-    let valued = effect(e, place, locals, b)?;
+    let valued = value(e, place, locals, b)?;
     let all = locals.mark();
     let left = dropped(all.made, all.cells, valued)?;
     let done = left.put(Op::Retn, 0)?;
@@ -199,7 +220,7 @@ pub fn halted(
         (scope_in place.now locals.now.made.items) (4 * length b.code.code) (expr_view e.now)
         ++ (taking Op.ConstAlt (bits_as_cell tag) ∷ taking Op.Halt reason ∷ []))) }
 {
-    let valued = effect(e, place, locals, b)?;
+    let valued = value(e, place, locals, b)?;
     let tagged = valued.put(Op::ConstAlt, tag.cast_signed())?;
     let done = tagged.put(Op::Halt, reason)?;
     Ok(done)

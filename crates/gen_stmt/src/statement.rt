@@ -17,7 +17,7 @@ use super::left::{leave_block, leave_loop};
 use super::locals::Locals;
 use super::loops::{close, close_until};
 use super::nodes::{
-    assertion, condition, effect, halted, local, local_array, returned, step, valued,
+    assertion, condition, effect, halted, local, local_array, returned, step, value, valued,
 };
 use super::place::{At, Place};
 use super::states::state;
@@ -50,7 +50,7 @@ pub fn statement(s: &Stmt, at: &At<'_>, locals: &mut Locals, b: Draft) -> Result
         Stmt::LocalArray(s, o) => local_array(*s, *o, at, locals, b),
         Stmt::Do(e) => effect(e, &at.place, locals, b),
         Stmt::If(c, a, other) => {
-            let first = first_part(a, at, locals, effect(c, &at.place, locals, b)?)?;
+            let first = first_part(a, at, locals, value(c, &at.place, locals, b)?)?;
             let end = last_cell(&first.code)?;
             let second = alternative(other, at, locals, first)?;
             second.land(end)
@@ -64,7 +64,7 @@ pub fn statement(s: &Stmt, at: &At<'_>, locals: &mut Locals, b: Draft) -> Result
             leave_block(begun, &at.place, locals, done)
         }
         Stmt::Switch(e, cases, other) => {
-            let valued = effect(e, &at.place, locals, b)?;
+            let valued = value(e, &at.place, locals, b)?;
             let (cased, led) = all_cases(cases, at, locals, valued)?;
             let done = alternative(other, at, locals, cased)?;
             led.close(cases.as_slice(), done)

@@ -5,3 +5,4 @@ mod frames;
 mod generated_nodes;
 mod lists;
 mod places;
+mod shapes;

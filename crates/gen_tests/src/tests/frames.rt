@@ -1,7 +1,7 @@
 use gen_expr::frame::Frame;
-use gen_expr::{Builder, expression};
+use gen_expr::{Builder, effect, expression};
 use pawn_base::List;
-use pawn_meaning::{Expr, Program, Shape, Slot};
+use pawn_meaning::{Expr, Program, Scalar, Shape, Slot};
 use std::alloc::Global;
 use std::boxed::Box;
 use std::test::Fail;
@@ -20,11 +20,11 @@ fn nothing(alloc: Global) -> Program {
     }
 }
 
-/// How many cells the code of an expression has, and how many calls in it wait. Its body's
-/// parameters are a cell, a reference, an array of three cells, and one of two rows of three. The
-/// tables have an address and an offset for number 0 alone.
+/// The code of an expression, whose value is used or not. Its body's parameters are a cell, a
+/// reference, an array of three cells, and one of two rows of three. The tables have an address and
+/// an offset for number 0 alone.
 #[tactic(auto, using(crate::proofs::ServesLaws::served))]
-pub(crate) fn taken(alloc: Global, e: Expr) -> Result<(usize, usize), Fail> {
+fn emitted(alloc: Global, e: Expr, used: bool) -> Result<Builder, Fail> {
     let e = Box::new(alloc, e)?;
     let program = nothing(alloc);
     let line = Shape {
@@ -52,11 +52,32 @@ pub(crate) fn taken(alloc: Global, e: Expr) -> Result<(usize, usize), Fail> {
         objects: &[0],
         offsets: &[Some(12)],
     };
-    let done = expression(&e, &frame, Builder::new(alloc))?;
+    if used {
+        Ok(expression(&e, &frame, Builder::new(alloc))?)
+    } else {
+        Ok(effect(&e, &frame, Builder::new(alloc))?)
+    }
+}
+
+/// How many cells the code of an expression has, and how many calls in it wait.
+pub(crate) fn taken(alloc: Global, e: Expr) -> Result<(usize, usize), Fail> {
+    let done = emitted(alloc, e, true)?;
     Ok((done.code().len(), done.waits().len()))
 }
 
-/// An operand of two cells.
+/// Whether the code of an expression is these cells.
+pub(crate) fn is_code(alloc: Global, e: Expr, wanted: &[i32]) -> Result<bool, Fail> {
+    let done = emitted(alloc, e, true)?;
+    Ok(done.code() == wanted)
+}
+
+/// Whether that of one whose value isn't used is these cells.
+pub(crate) fn is_effect(alloc: Global, e: Expr, wanted: &[i32]) -> Result<bool, Fail> {
+    let done = emitted(alloc, e, false)?;
+    Ok(done.code() == wanted)
+}
+
+/// An operand of two cells, which doesn't fold: the first parameter.
 pub(crate) fn one(alloc: Global) -> Result<Box<Expr>, Fail> {
-    Ok(Box::new(alloc, Expr::Const(1))?)
+    Ok(Box::new(alloc, Expr::Read(Scalar::Slot(0)))?)
 }

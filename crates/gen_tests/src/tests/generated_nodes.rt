@@ -11,9 +11,9 @@ fn operators(rt: HostRuntime) -> Result<(), Fail> {
     let inverse = Expr::Unary(Prefix::Invert, one(alloc)?);
     assert_eq!(rt; taken(alloc, inverse)?, (3, 0));
     let sum = Expr::Binary(Operator::Add, one(alloc)?, one(alloc)?);
-    assert_eq!(rt; taken(alloc, sum)?, (6, 0));
+    assert_eq!(rt; taken(alloc, sum)?, (5, 0));
     let rest = Expr::Binary(Operator::Remainder, one(alloc)?, one(alloc)?);
-    assert_eq!(rt; taken(alloc, rest)?, (7, 0));
+    assert_eq!(rt; taken(alloc, rest)?, (6, 0));
     let by_user = Expr::Operate(0, one(alloc)?, one(alloc)?, true);
     assert_eq!(rt; taken(alloc, by_user)?, (12, 1));
     let one_by_user = Expr::OperateOne(0, one(alloc)?);

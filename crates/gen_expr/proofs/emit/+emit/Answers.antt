@@ -1,16 +1,17 @@
 use Rattle.std.proofs.lemmas.Grind.{common_steps}
-use Rattle.std.proofs.Common.{◌≡◌, ◌+◌, ◌-◌, ◌*◌, ◌<◌, ◌==◌, ◌++◌, ℕ, Bool, false, List, pos, []}
-use Rattle.std.proofs.Common.{◌∷◌, length, get_or, sym, ap, subst, ◌∙◌, w32, FitsSigned, arith}
+use Rattle.std.proofs.Common.{◌≡◌, ◌+◌, ◌-◌, ◌*◌, ◌++◌, ℕ, pos, []}
+use Rattle.std.proofs.Common.{◌∷◌, length, sym, ap, subst, ◌∙◌, w32, FitsSigned, arith}
 use Rattle.std.proofs.Common.{rules}
 use Rattle.std.proofs.lemmas.Int.{to_z-of_z}
 use Rattle.pawn_meaning.specs.Scope.{row_extent, rest_extent}
+use Rattle.pawn_meaning.specs.Program.{Unary, Binary, Chain, And, Or, Cond}
+use Rattle.pawn_meaning.specs.Fold.{fold}
 use Rattle.pawn_meaning.specs.View.{scalar_view, array_view, expr_view, args_view, links_view}
-use Rattle.pawn_meaning.specs.declared.node.Link.{Link}
 use Rattle.amx_ops.specs.declared.op.Op.TheVariants as op
 use Rattle.gen_sim.specs.SimpleCode.{alone, taking, prefix_op, operator_code, const_code}
 use Rattle.gen_sim.specs.AccessCode.{load_code, changed_code, turned_code}
 use Rattle.gen_sim.specs.DirectCode.{direct_of}
-use Rattle.gen_sim.specs.MovingCode.{is_quiet}
+use Rattle.gen_sim.specs.OperandCode.{right_of, operate_by}
 use Rattle.gen_sim.specs.JumpCode.{truth_code, choice_code, other_at}
 use Rattle.gen_sim.specs.IndexCode.{bounds_code, in_characters}
 use Rattle.gen_sim.specs.CallCode.{one_code, two_code, convert_code}
@@ -20,16 +21,18 @@ use Rattle.gen_expr.specs.Standing.{scope_of}
 use Rattle.gen_expr.proofs.GrowLaws.{then_grow, then_ok}
 use Rattle.gen_expr.proofs.PartLaws.{keeps_cells}
 use Rattle.gen_expr.specs.ChainItems.{chain_items}
-use Rattle.gen_expr.specs.DirectView.{perhaps_direct}
-use Rattle.gen_expr.proofs.TargetLaws.{then_read, then_step, then_write, then_update, then_operate}
-use Rattle.gen_expr.proofs.TargetLaws.{right_moved, right_beside}
+use Rattle.gen_expr.specs.DirectView.{direct_view, perhaps_direct}
+use Rattle.gen_expr.specs.RightView.{right_view}
+use Rattle.gen_expr.proofs.TargetLaws.{then_read, then_step, then_write, then_update}
+use Rattle.gen_expr.proofs.OperandLaws.{operated_known, operated_placed, operated_waiting, open_node}
+use Rattle.gen_expr.proofs.OperandLaws.{constant_put}
 use Rattle.gen_expr.proofs.ArgLaws.{arg_grows, none_passed, all_passed, count_is}
 use Rattle.gen_expr.proofs.ChainLaws.{some_left, at_last, Linked, none_linked, none_chained}
 use Rattle.gen_expr.proofs.ChainLaws.{link_stepped, link_ended, all_in, all_ended_ok}
 use Rattle.gen_expr.proofs.NodeLaws.{second_waits, middle_done, last_done, part_turned}
 use Rattle.gen_expr.proofs.NodeLaws.{parts_done, call_done, native_done, then_part, then_both}
 use Rattle.gen_expr.proofs.NodeLaws.{then_choice, indexed, then_indexed, call_seen, native_seen}
-use Rattle.gen_expr.proofs.NodeLaws.{chain_seen, as_seen}
+use Rattle.gen_expr.proofs.NodeLaws.{chain_seen, chain_open, as_seen}
 use Rattle.gen_expr.proofs.emit.+emit.Goals as goal
 
 -- ---- places and arrays
@@ -102,84 +105,111 @@ array_beside-returns t c =
     (λ q. array_items (scope_of c.args.frame.now) q (array_view c.args.a.now))
     c.in_ok-waits.ensures c.in_ok-both.ensures.code
 
-pub right-returns-in_ok-both : goal.right-returns-in_ok-both
-right-returns-in_ok-both t c =
-    let s = scope_of c.args.frame.now in
-    let right = expr_view c.args.e.now in
-    right_moved (is_quiet s right) c.args.b c.in_ok-moved.moved c.in_ok-both.both
-    (λ q. value_items s q right) (sym (c.is_quiet.ensures s) ∙ c.if-is_quiet.true)
-    c.in_ok-moved.ensures c.in_ok-both.ensures
+-- ---- an operator behind its left operand
 
-pub right-returns-in_ok-done : goal.right-returns-in_ok-done
-right-returns-in_ok-done t c =
+pub operate-returns-in-Known : goal.operate-returns-in-Known
+operate-returns-in-Known t c =
     let s = scope_of c.args.frame.now in
-    let right = expr_view c.args.e.now in
-    right_beside (is_quiet s right) c.args.b c.in_ok-both-2.both c.in_ok-done.done
-    (value_items s (4 * length c.args.b.code + 4) right)
-    (sym (c.is_quiet.ensures s) ∙ c.if-is_quiet.false) c.in_ok-both-2.ensures c.in_ok-done.ensures
+    let e = expr_view c.args.e.now in
+    let f : FitsSigned w32 c.in-Known.v = search rules in
+    operated_known c.args.o c.in-Known.v (right_of s e) _ c.args.b _
+    (sym (ap right_view c.in-Known.is) ∙ c.in_ok-v.ensures)
+    (rw (to_z-of_z w32 c.in-Known.v f) at c.operate_known.ensures)
+
+pub operate-returns-in-Placed : goal.operate-returns-in-Placed
+operate-returns-in-Placed t c =
+    let s = scope_of c.args.frame.now in
+    let e = expr_view c.args.e.now in
+    operated_placed c.args.o (direct_view c.in-Placed.d) (right_of s e) _ c.args.b _
+    (sym (ap right_view c.in-Placed.is) ∙ c.in_ok-v.ensures) c.operate_placed.ensures
+
+pub operate-returns-in_ok-moved-in-Waiting : goal.operate-returns-in_ok-moved-in-Waiting
+operate-returns-in_ok-moved-in-Waiting t c =
+    let s = scope_of c.args.frame.now in
+    let e = expr_view c.args.e.now in
+    operated_waiting c.args.o (right_of s e) (value_items s (4 * length c.args.b.code + 4) e)
+    c.args.b c.in_ok-both-in-Waiting.both c.in_ok-moved-in-Waiting.moved _
+    (sym (ap right_view c.in-Waiting.is) ∙ c.in_ok-v.ensures)
+    c.in_ok-both-in-Waiting.ensures c.in_ok-moved-in-Waiting.ensures c.operator.ensures
 
 -- ---- values
 
-pub value-returns-in_ok-target-in-Read : goal.value-returns-in_ok-target-in-Read
-value-returns-in_ok-target-in-Read t c =
+pub value-returns-in-Some : goal.value-returns-in-Some
+value-returns-in-Some t c =
+    let f : FitsSigned w32 c.in-Some.v = search rules in
+    constant_put (scope_of c.args.frame.now) (expr_view c.args.e.now) c.in-Some.v c.args.b _
+    (sym c.folded.ensures ∙ c.in-Some.is) (rw (to_z-of_z w32 c.in-Some.v f) at c.put.ensures)
+
+pub node-returns-in_ok-target-in-Read : goal.node-returns-in_ok-target-in-Read
+node-returns-in_ok-target-in-Read t c =
     let s = scope_of c.args.frame.now in
     let p = scalar_view c.in-Read.p in
     rw c.in-Read.is (then_read (direct_of s p) _ p c.args.b _ _
     (place_items s (4 * length c.args.b.code) p)
     c.in_ok-target-in-Read.ensures.direct c.in_ok-target-in-Read.ensures.code c.read.ensures)
 
-pub value-returns-in_ok-value-in-Unary : goal.value-returns-in_ok-value-in-Unary
-value-returns-in_ok-value-in-Unary t c =
+pub node-returns-in_ok-value-in-Unary : goal.node-returns-in_ok-value-in-Unary
+node-returns-in_ok-value-in-Unary t c =
     let s = scope_of c.args.frame.now in
-    rw c.in-Unary.is (then_ok c.args.b _ _
-    (value_items s (4 * length c.args.b.code) (expr_view c.in-Unary.x.value))
+    let x = expr_view c.in-Unary.x.value in
+    rw c.in-Unary.is (open_node (fold (Unary c.in-Unary.o x)) _ c.args.b _
+    (rw c.in-Unary.is at c.requires.open)
+    (then_ok c.args.b _ _ (value_items s (4 * length c.args.b.code) x)
     (alone (prefix_op c.in-Unary.o) ∷ [])
-    (rw c.deref.ensures at c.in_ok-value-in-Unary.ensures) c.prefix.ensures)
+    (rw c.deref.ensures at c.in_ok-value-in-Unary.ensures) c.prefix.ensures))
 
-pub value-returns-in_ok-right-in-Binary : goal.value-returns-in_ok-right-in-Binary
-value-returns-in_ok-right-in-Binary t c =
+pub node-returns-in_ok-value-in-Binary : goal.node-returns-in_ok-value-in-Binary
+node-returns-in_ok-value-in-Binary t c =
     let s = scope_of c.args.frame.now in
-    let right = expr_view c.in-Binary.y.value in
-    rw c.in-Binary.is (then_operate (is_quiet s right) c.args.b _ _ _
-    (value_items s (4 * length c.args.b.code) (expr_view c.in-Binary.x.value))
-    (operator_code c.in-Binary.o) (λ q. value_items s q right)
+    let l = expr_view c.in-Binary.x.value in
+    let r = expr_view c.in-Binary.y.value in
+    rw c.in-Binary.is (open_node (fold (Binary c.in-Binary.o l r)) _ c.args.b _
+    (rw c.in-Binary.is at c.requires.open)
+    (then_part c.args.b _ _ (value_items s (4 * length c.args.b.code) l)
+    (λ q. operate_by c.in-Binary.o (right_of s r) (value_items s (q + 4) r))
     (rw c.deref-in-Binary-2.ensures at c.in_ok-value-in-Binary.ensures)
-    (rw c.deref-in-Binary.ensures at c.in_ok-right-in-Binary.ensures) c.operator.ensures)
+    (rw c.deref-in-Binary.ensures at c.operate.ensures)))
 
-pub value-returns-in_ok-value-in-And : goal.value-returns-in_ok-value-in-And
-value-returns-in_ok-value-in-And t c =
+pub node-returns-in_ok-value-in-And : goal.node-returns-in_ok-value-in-And
+node-returns-in_ok-value-in-And t c =
     let s = scope_of c.args.frame.now in
-    rw c.in-And.is (then_part c.args.b _ _
-    (value_items s (4 * length c.args.b.code) (expr_view c.in-And.x.value))
-    (λ q. choice_code q (value_items s (q + 8) (expr_view c.in-And.y.value) ++ truth_code)
-    (const_code (pos 0)))
+    let l = expr_view c.in-And.x.value in
+    let r = expr_view c.in-And.y.value in
+    rw c.in-And.is (open_node (fold (And l r)) _ c.args.b _ (rw c.in-And.is at c.requires.open)
+    (then_part c.args.b _ _ (value_items s (4 * length c.args.b.code) l)
+    (λ q. choice_code q (value_items s (q + 8) r ++ truth_code) (const_code (pos 0)))
     (rw c.deref-in-And-2.ensures at c.in_ok-value-in-And.ensures)
-    (rw c.deref-in-And.ensures at c.and_then.ensures))
+    (rw c.deref-in-And.ensures at c.and_then.ensures)))
 
-pub value-returns-in_ok-value-in-Or : goal.value-returns-in_ok-value-in-Or
-value-returns-in_ok-value-in-Or t c =
+pub node-returns-in_ok-value-in-Or : goal.node-returns-in_ok-value-in-Or
+node-returns-in_ok-value-in-Or t c =
     let s = scope_of c.args.frame.now in
-    rw c.in-Or.is (then_part c.args.b _ _
-    (value_items s (4 * length c.args.b.code) (expr_view c.in-Or.x.value))
+    let l = expr_view c.in-Or.x.value in
+    let r = expr_view c.in-Or.y.value in
+    rw c.in-Or.is (open_node (fold (Or l r)) _ c.args.b _ (rw c.in-Or.is at c.requires.open)
+    (then_part c.args.b _ _ (value_items s (4 * length c.args.b.code) l)
     (λ q. choice_code q (const_code (pos 1))
-    (value_items s (other_at q (const_code (pos 1))) (expr_view c.in-Or.y.value) ++ truth_code))
+    (value_items s (other_at q (const_code (pos 1))) r ++ truth_code))
     (rw c.deref-in-Or-2.ensures at c.in_ok-value-in-Or.ensures)
-    (rw c.deref-in-Or.ensures at c.or_else.ensures))
+    (rw c.deref-in-Or.ensures at c.or_else.ensures)))
 
-pub value-returns-in_ok-second-in-Cond : goal.value-returns-in_ok-second-in-Cond
-value-returns-in_ok-second-in-Cond t c =
+pub node-returns-in_ok-second-in-Cond : goal.node-returns-in_ok-second-in-Cond
+node-returns-in_ok-second-in-Cond t c =
     let s = scope_of c.args.frame.now in
-    rw c.in-Cond.is (then_choice c.args.b _ c.in_ok-opened-in-Cond.opened
-    c.in_ok-second-in-Cond.second _
-    (value_items s (4 * length c.args.b.code) (expr_view c.in-Cond.c.value))
-    (λ q. value_items s q (expr_view c.in-Cond.x.value))
-    (λ q. value_items s q (expr_view c.in-Cond.y.value)) c.in_ok-end-in-Cond.end
+    let test = expr_view c.in-Cond.c.value in
+    let x = expr_view c.in-Cond.x.value in
+    let y = expr_view c.in-Cond.y.value in
+    rw c.in-Cond.is (open_node (fold (Cond test x y)) _ c.args.b _
+    (rw c.in-Cond.is at c.requires.open)
+    (then_choice c.args.b _ c.in_ok-opened-in-Cond.opened
+    c.in_ok-second-in-Cond.second _ (value_items s (4 * length c.args.b.code) test)
+    (λ q. value_items s q x) (λ q. value_items s q y) c.in_ok-end-in-Cond.end
     (rw c.deref-in-Cond-2.ensures at c.in_ok-value-in-Cond.ensures)
     (rw c.deref-in-Cond.ensures at c.in_ok-opened-in-Cond.ensures) c.in_ok-end-in-Cond.ensures
-    (rw c.deref-in-Cond-3.ensures at c.in_ok-second-in-Cond.ensures) c.land.ensures)
+    (rw c.deref-in-Cond-3.ensures at c.in_ok-second-in-Cond.ensures) c.land.ensures))
 
-pub value-returns-in_ok-operand-in-Assign : goal.value-returns-in_ok-operand-in-Assign
-value-returns-in_ok-operand-in-Assign t c =
+pub node-returns-in_ok-operand-in-Assign : goal.node-returns-in_ok-operand-in-Assign
+node-returns-in_ok-operand-in-Assign t c =
     let s = scope_of c.args.frame.now in
     let p = scalar_view c.in-Assign.p in
     rw c.in-Assign.is (then_write (direct_of s p) _ _ p c.args.b _ _ _
@@ -190,8 +220,8 @@ value-returns-in_ok-operand-in-Assign t c =
     c.in_ok-target-in-Assign.ensures.code
     (rw c.deref-in-Assign.ensures at c.in_ok-operand-in-Assign.ensures.code) c.write.ensures)
 
-pub value-returns-in_ok-operand-in-Update : goal.value-returns-in_ok-operand-in-Update
-value-returns-in_ok-operand-in-Update t c =
+pub node-returns-in_ok-operand-in-Update : goal.node-returns-in_ok-operand-in-Update
+node-returns-in_ok-operand-in-Update t c =
     let s = scope_of c.args.frame.now in
     let p = scalar_view c.in-Update.p in
     rw c.in-Update.is (then_update (direct_of s p) _ _ p (operator_code c.in-Update.o)
@@ -202,8 +232,8 @@ value-returns-in_ok-operand-in-Update t c =
     c.in_ok-target-in-Update.ensures.code
     (rw c.deref-in-Update.ensures at c.in_ok-operand-in-Update.ensures.code) c.update.ensures)
 
-pub value-returns-in_ok-both-in-UpdateBy : goal.value-returns-in_ok-both-in-UpdateBy
-value-returns-in_ok-both-in-UpdateBy t c =
+pub node-returns-in_ok-both-in-UpdateBy : goal.node-returns-in_ok-both-in-UpdateBy
+node-returns-in_ok-both-in-UpdateBy t c =
     let s = scope_of c.args.frame.now in
     rw c.in-UpdateBy.is (then_both c.args.b _ _ _
     (place_items s (4 * length c.args.b.code) (scalar_view c.in-UpdateBy.p))
@@ -213,8 +243,8 @@ value-returns-in_ok-both-in-UpdateBy t c =
     c.in_ok-place-in-UpdateBy.ensures
     (rw c.deref-in-UpdateBy.ensures at c.in_ok-both-in-UpdateBy.ensures) c.updated_by.ensures)
 
-pub value-returns-in_ok-target-in-Step : goal.value-returns-in_ok-target-in-Step
-value-returns-in_ok-target-in-Step t c =
+pub node-returns-in_ok-target-in-Step : goal.node-returns-in_ok-target-in-Step
+node-returns-in_ok-target-in-Step t c =
     let s = scope_of c.args.frame.now in
     let p = scalar_view c.in-Step.p in
     let f : FitsSigned w32 c.in-Step.delta = search rules in
@@ -223,16 +253,16 @@ value-returns-in_ok-target-in-Step t c =
     c.in_ok-target-in-Step.ensures.direct c.in_ok-target-in-Step.ensures.code
     (rw (to_z-of_z w32 c.in-Step.delta f) at c.step.ensures))
 
-pub value-returns-in_ok-place-in-StepBy : goal.value-returns-in_ok-place-in-StepBy
-value-returns-in_ok-place-in-StepBy t c =
+pub node-returns-in_ok-place-in-StepBy : goal.node-returns-in_ok-place-in-StepBy
+node-returns-in_ok-place-in-StepBy t c =
     let s = scope_of c.args.frame.now in
     let p = scalar_view c.in-StepBy.p in
     rw c.in-StepBy.is (then_ok c.args.b _ _ (place_items s (4 * length c.args.b.code) p)
     (alone op.MoveAlt ∷ (load_code p ++ turned_code p (one_code c.in-StepBy.f) c.in-StepBy.first))
     c.in_ok-place-in-StepBy.ensures c.turned.ensures)
 
-pub value-returns-in_ok-array_beside-in-Copy : goal.value-returns-in_ok-array_beside-in-Copy
-value-returns-in_ok-array_beside-in-Copy t c =
+pub node-returns-in_ok-array_beside-in-Copy : goal.node-returns-in_ok-array_beside-in-Copy
+node-returns-in_ok-array_beside-in-Copy t c =
     let s = scope_of c.args.frame.now in
     rw c.in-Copy.is (then_both c.args.b _ _ _
     (array_items s (4 * length c.args.b.code) (array_view c.in-Copy.to.value))
@@ -241,8 +271,8 @@ value-returns-in_ok-array_beside-in-Copy t c =
     (rw c.deref-in-Copy.ensures at c.in_ok-first-in-Copy.ensures.code)
     (rw c.deref-in-Copy-2.ensures at c.in_ok-array_beside-in-Copy.ensures) c.copy.ensures)
 
-pub value-returns-in_ok-beside-in-Operate : goal.value-returns-in_ok-beside-in-Operate
-value-returns-in_ok-beside-in-Operate t c =
+pub node-returns-in_ok-beside-in-Operate : goal.node-returns-in_ok-beside-in-Operate
+node-returns-in_ok-beside-in-Operate t c =
     let s = scope_of c.args.frame.now in
     rw c.in-Operate.is (then_both c.args.b _ _ _
     (value_items s (4 * length c.args.b.code) (expr_view c.in-Operate.x.value))
@@ -251,16 +281,16 @@ value-returns-in_ok-beside-in-Operate t c =
     (rw c.deref-in-Operate-2.ensures at c.in_ok-value-in-Operate.ensures)
     (rw c.deref-in-Operate.ensures at c.in_ok-beside-in-Operate.ensures) c.operated.ensures)
 
-pub value-returns-in_ok-value-in-OperateOne : goal.value-returns-in_ok-value-in-OperateOne
-value-returns-in_ok-value-in-OperateOne t c =
+pub node-returns-in_ok-value-in-OperateOne : goal.node-returns-in_ok-value-in-OperateOne
+node-returns-in_ok-value-in-OperateOne t c =
     let s = scope_of c.args.frame.now in
     rw c.in-OperateOne.is (then_ok c.args.b _ _
     (value_items s (4 * length c.args.b.code) (expr_view c.in-OperateOne.x.value))
     (one_code c.in-OperateOne.f)
     (rw c.deref-in-OperateOne.ensures at c.in_ok-value-in-OperateOne.ensures) c.one.ensures)
 
-pub value-returns-in_ok-value-in-Seq : goal.value-returns-in_ok-value-in-Seq
-value-returns-in_ok-value-in-Seq t c =
+pub node-returns-in_ok-value-in-Seq : goal.node-returns-in_ok-value-in-Seq
+node-returns-in_ok-value-in-Seq t c =
     let s = scope_of c.args.frame.now in
     rw c.in-Seq.is (then_part c.args.b _ _
     (value_items s (4 * length c.args.b.code) (expr_view c.in-Seq.x.value))
@@ -268,31 +298,34 @@ value-returns-in_ok-value-in-Seq t c =
     (rw c.deref-in-Seq-2.ensures at c.in_ok-value-in-Seq.ensures)
     (rw c.deref-in-Seq.ensures at c.value-in-Seq-2.ensures))
 
-pub value-returns-in-Call : goal.value-returns-in-Call
-value-returns-in-Call t c =
+pub node-returns-in-Call : goal.node-returns-in-Call
+node-returns-in-Call t c =
     as_seen _ c.args.b _ _ (call_seen (scope_of c.args.frame.now)
     (4 * length c.args.b.code) c.args.e.now c.in-Call.f c.in-Call.args c.in-Call.is)
     c.called.ensures
 
-pub value-returns-in-Native : goal.value-returns-in-Native
-value-returns-in-Native t c =
+pub node-returns-in-Native : goal.node-returns-in-Native
+node-returns-in-Native t c =
     as_seen _ c.args.b _ _ (native_seen (scope_of c.args.frame.now)
     (4 * length c.args.b.code) c.args.e.now c.in-Native.n c.in-Native.args c.in-Native.is)
     c.native_called.ensures
 
-pub value-returns-in_ok-value-in-Chain : goal.value-returns-in_ok-value-in-Chain
-value-returns-in_ok-value-in-Chain t c =
+pub node-returns-in_ok-value-in-Chain : goal.node-returns-in_ok-value-in-Chain
+node-returns-in_ok-value-in-Chain t c =
     let s = scope_of c.args.frame.now in
     let p = 4 * length c.args.b.code in
     as_seen _ c.args.b _ _ (chain_seen s p c.args.e.now c.in-Chain.x c.in-Chain.links c.in-Chain.is)
+    (open_node (fold (Chain (expr_view c.in-Chain.x.value) (links_view c.in-Chain.links))) _
+    c.args.b _
+    (chain_open c.args.e.now c.in-Chain.x c.in-Chain.links c.in-Chain.is c.requires.open)
     (then_part c.args.b _ _ (value_items s p (expr_view c.in-Chain.x.value))
     (λ q. chain_items s q (links_view c.in-Chain.links))
-    (rw c.deref-in-Chain.ensures at c.in_ok-value-in-Chain.ensures) c.chain.ensures)
+    (rw c.deref-in-Chain.ensures at c.in_ok-value-in-Chain.ensures) c.chain.ensures))
 
 -- ---- jumps
 
-pub value-land-requires : goal.value-land-requires
-value-land-requires t c =
+pub node-land-requires : goal.node-land-requires
+node-land-requires t c =
     omega (
       arith,
       c.in_ok-end-in-Cond.ensures,

@@ -244,7 +244,7 @@ statement-returns-in_ok-second-in-If-clause-code t c =
     (stmt_view c.in-If.a.value))
     (λ exits q. else_items (here_in here.place made here.since.made exits) q
     (else_view c.in-If.other)) c.in_ok-end-in-If.end
-    c.in_ok-effect-in-If.ensures (rw c.deref.ensures at c.in_ok-first-in-If.ensures.code)
+    c.in_ok-value-in-If.ensures (rw c.deref.ensures at c.in_ok-first-in-If.ensures.code)
     c.in_ok-first-in-If.ensures.free c.in_ok-end-in-If.ensures
     (rw c.in_ok-first-in-If.ensures.made at c.in_ok-second-in-If.ensures.code) c.land.ensures)
 

@@ -9,7 +9,7 @@ pub returns : goal.returns
 returns c =
     let d = direct_view c.args.self in
     let change = operator_code c.args.o in
-    then_grow c.args.b c.in_ok-b.b c.in_ok-b-3.b (taking d.lefts d.operand ∷ [])
+    then_grow c.args.b c.in_ok-b.b c.in_ok-b-3.b (taking d.loads_alt d.operand ∷ [])
     (change ++ direct_store d) c.in_ok-b.ensures
     (then_grow c.in_ok-b.b c.in_ok-b-2.b c.in_ok-b-3.b change (direct_store d)
     c.in_ok-b-2.ensures c.in_ok-b-3.ensures)
