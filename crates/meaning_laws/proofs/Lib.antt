@@ -1,0 +1,15 @@
+pub mod Accesses
+pub mod Arguments
+pub mod Besides
+pub mod CallNodes
+pub mod Entries
+pub mod Finds
+pub mod MissingExamples
+pub mod NativeBesides
+pub mod NativeFinds
+pub mod Nodes
+pub mod Numbers
+pub mod Outlines
+pub mod Statements
+pub mod Steps
+pub mod Typings

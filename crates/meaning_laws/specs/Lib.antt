@@ -1,0 +1,4 @@
+pub mod MeaningWith
+pub mod Missing
+pub mod NothingIsMissing
+pub mod NumbersAreInRange
