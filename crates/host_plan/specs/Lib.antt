@@ -1,0 +1,4 @@
+pub mod Breaks
+pub mod Lines
+pub mod Plans
+pub mod Words

@@ -1,0 +1,5 @@
+//! Tests of several machines in one host.
+#![tactic(auto)]
+
+#[cfg(test)]
+mod tests;

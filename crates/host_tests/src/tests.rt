@@ -1,0 +1,3 @@
+mod light;
+mod rows;
+mod stage;
