@@ -1,0 +1,14 @@
+pub mod Held
+pub mod Images
+pub mod Lending
+pub mod Loads
+pub mod Memory
+pub mod Modes
+pub mod Names
+pub mod Refusals
+pub mod Shown
+pub mod Slots
+pub mod Starts
+pub mod Texts
+pub mod Turns
+pub mod Written

@@ -1,0 +1,7 @@
+pub mod Cells
+pub mod Compiled
+pub mod Loads
+pub mod Named
+pub mod Saved
+pub mod Sees
+pub mod Shows
