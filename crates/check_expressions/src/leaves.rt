@@ -50,6 +50,7 @@ fn text_at(
 
 /// A text, which is one more object.
 #[tactic(auto, using(check_nodes::proofs::PartLaws::parts, crate::proofs::PairLaws::pairs))]
+#[inline(never)]
 pub fn text_of(
     alloc: Global,
     objects: &mut u32,
@@ -92,6 +93,7 @@ fn name_in_sight(alloc: Global, at: At, sight: Option<Sight>) -> Result<Typed, P
 }
 
 /// A name.
+#[inline(never)]
 pub fn name_of(alloc: Global, scopes: &Scopes, at: At, it: &Bytes) -> Result<Typed, PartFault>
     ensures { PartAnswers typed_view
         (names.name_rule at (found (scope_view scopes.now) it.now)) result }
@@ -153,6 +155,7 @@ fn size_of_text(
 
 /// `sizeof` with its operand.
 #[tactic(auto, unfolding(types_rules::specs::NamesAndNumbers::sizeof_rule), using(check_nodes::proofs::PartLaws::parts))]
+#[inline(never)]
 pub fn sizeof_rule(
     alloc: Global,
     scopes: &Scopes,
@@ -195,6 +198,7 @@ fn tag_of_name(alloc: Global, scopes: &Scopes, at: At, it: &Bytes) -> Result<Typ
 
 /// `tagof` with its operand.
 #[tactic(auto, unfolding(types_rules::specs::NamesAndNumbers::tagof_rule))]
+#[inline(never)]
 pub fn tagof_rule(
     alloc: Global,
     cx: &Context,
@@ -264,6 +268,7 @@ fn call_with(
 
 /// A call by a name.
 #[tactic(auto, using(check_nodes::proofs::PartLaws::parts, crate::proofs::PairLaws::pairs))]
+#[inline(never)]
 pub fn call_of(
     alloc: Global,
     cx: &Context,

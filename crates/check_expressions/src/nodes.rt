@@ -65,6 +65,7 @@ fn single_typed(
 
 /// A node of one operand.
 #[tactic(auto, using(check_nodes::proofs::PartLaws::parts, crate::proofs::PairLaws::pairs))]
+#[inline(never)]
 pub fn with_operand(
     alloc: Global,
     cx: &Context,
@@ -114,6 +115,7 @@ fn double_typed(
 }
 
 /// A node of two operands.
+#[inline(never)]
 pub fn with_operands(
     alloc: Global,
     cx: &Context,
@@ -134,6 +136,7 @@ pub fn with_operands(
 // ---- chains and choices
 
 /// A chain of comparisons behind its first operand.
+#[inline(never)]
 pub fn chained(
     alloc: Global,
     cx: &Context,
@@ -172,6 +175,7 @@ fn chosen(
 }
 
 /// `? :`
+#[inline(never)]
 pub fn choose(
     alloc: Global,
     cx: &Context,

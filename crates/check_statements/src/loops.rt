@@ -21,6 +21,7 @@ use std::alloc::Global;
 
 /// A block by its statements.
 #[tactic(auto, using(check_locals::proofs::ToldLaws::parts))]
+#[inline(never)]
 pub fn block_told(alloc: Global, it: Option<Stood>) -> Outcome
     ensures { Tells stood_view
         (after (told stood_view it) (λ x. Stands (spec.block_rule x))) result }
@@ -59,6 +60,7 @@ fn if_by(
 }
 
 /// An `if` by its parts, which stand or fall.
+#[inline(never)]
 pub fn if_told(
     setting: &Setting,
     at: At,
@@ -94,6 +96,7 @@ fn while_by(setting: &Setting, at: At, c: Typed, s: Stood) -> Result<Stood, Chec
 }
 
 /// A `while` by its parts, which stand or fall.
+#[inline(never)]
 pub fn while_told(setting: &Setting, at: At, c: Option<Typed>, s: Option<Stood>) -> Outcome
     ensures { Tells stood_view (both (told typed_view c) (told stood_view s)
         (λ x y. after (use_in setting.now at x) (λ c. Stands (spec.while_rule c y)))) result }
@@ -118,6 +121,7 @@ fn do_while_by(setting: &Setting, at: At, s: Stood, c: Typed) -> Result<Stood, C
 }
 
 /// A `do` by its parts, which stand or fall.
+#[inline(never)]
 pub fn do_while_told(setting: &Setting, at: At, s: Option<Stood>, c: Option<Typed>) -> Outcome
     ensures { Tells stood_view (both (told stood_view s) (told typed_view c)
         (λ x y. after (use_in setting.now at y) (λ c. Stands (spec.do_while_rule x c)))) result }
@@ -164,6 +168,7 @@ fn for_by(
 }
 
 /// A `for` by its parts, which stand or fall.
+#[inline(never)]
 pub fn for_told(
     setting: &Setting,
     at: At,
