@@ -11,7 +11,7 @@ use Rattle.command_parts.specs.declared.stop.Stop.TheVariants.{Refused, BadWords
 use Rattle.command_parts.specs.declared.stop.Stop.TheVariants.{FileFault, Invalid}
 use Rattle.command_parts.specs.declared.stop.Stop.TheVariants.{InvalidAt, NoScript}
 use Rattle.command_parts.specs.declared.stop.Stop.TheVariants.{BadScript, NoEntry, Unregistered}
-use Rattle.command_parts.specs.declared.stop.Stop.TheVariants.{NoMemory}
+use Rattle.command_parts.specs.declared.stop.Stop.TheVariants.{NoMemory, BadPlan}
 use Rattle.command_parts.specs.Stop.{status_of}
 use Rattle.command_parts.specs.Calls.{Calls, CommandCalls}
 use Rattle.command_parts.specs.Told.{Told, Writes, status_told, TellsStop}
@@ -30,6 +30,7 @@ fault_of (BadScript kind field) e = absurd (cc e)
 fault_of (NoEntry name) e = absurd (cc e)
 fault_of (Unregistered name) e = absurd (cc e)
 fault_of NoMemory e = absurd (cc e)
+fault_of (BadPlan line) e = absurd (cc e)
 
 fault_only : (stop : Stop) (told : Told) → status_told (status_of stop) told ≡ status.FileFault
     → stop ≡ FileFault
@@ -55,6 +56,7 @@ stop_is (BadScript kind field) = inr (λ e. absurd (cc e))
 stop_is (NoEntry name) = inr (λ e. absurd (cc e))
 stop_is (Unregistered name) = inr (λ e. absurd (cc e))
 stop_is NoMemory = inr (λ e. absurd (cc e))
+stop_is (BadPlan line) = inr (λ e. absurd (cc e))
 
 -- where the files failed, the status says it, or the sink failed too
 told_either : (told : Told) (answer : Status) → answer ≡ status_told status.FileFault told

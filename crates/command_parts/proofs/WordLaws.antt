@@ -14,7 +14,7 @@ use Rattle.command_parts.specs.declared.command_words.WordsFault.{WordsFault}
 use Rattle.command_parts.specs.declared.command_words.WordsFault.TheVariants.{Bad, Memory}
 use Rattle.command_parts.specs.Command.{is_plain, first_plain, optional_plain, alone, command_of}
 use Rattle.command_parts.specs.Command.{command_by, verify_of, list_of, run_of, resume_of, go_of}
-use Rattle.command_parts.specs.Command.{compile_of, assemble_of, compact_of, compact_word}
+use Rattle.command_parts.specs.Command.{compile_of, assemble_of, many_of, compact_of, compact_word}
 use Rattle.command_parts.specs.Command.{measure_by, sample_of, usage_of}
 use Rattle.command_parts.specs.Command.{asked_by, explain_of, help_of, version_of, sizes_of}
 use Rattle.command_parts.specs.Command.{explain_on, help_on}
@@ -273,14 +273,24 @@ module _ (word : List ℕ) (words : List (List ℕ)) (result : Result Command Wo
   by_assemble a b c d e h i reads =
       rw (sym a, sym b, sym c, sym d, sym e, sym h, sym i) reads
 
+  pub by_many : false ≡ bytes_eq word (codes "verify") → false ≡ bytes_eq word (codes "list")
+      → false ≡ bytes_eq word (codes "run")
+      → false ≡ bytes_eq word (codes "resume") → false ≡ bytes_eq word (codes "go")
+      → false ≡ bytes_eq word (codes "compile") → false ≡ bytes_eq word (codes "assemble")
+      → true ≡ bytes_eq word (codes "many")
+      → Reads (many_of words) result → Reads (command_by word words) result
+  by_many a b c d e h i j reads =
+      rw (sym a, sym b, sym c, sym d, sym e, sym h, sym i, sym j) reads
+
   pub by_measure : false ≡ bytes_eq word (codes "verify") → false ≡ bytes_eq word (codes "list")
       → false ≡ bytes_eq word (codes "run")
       → false ≡ bytes_eq word (codes "resume") → false ≡ bytes_eq word (codes "go")
       → false ≡ bytes_eq word (codes "compile") → false ≡ bytes_eq word (codes "assemble")
+      → false ≡ bytes_eq word (codes "many")
       → Reads (measure_by word words) result
       → Reads (command_by word words) result
-  by_measure a b c d e h i reads =
-      rw (sym a, sym b, sym c, sym d, sym e, sym h, sym i) reads
+  by_measure a b c d e h i j reads =
+      rw (sym a, sym b, sym c, sym d, sym e, sym h, sym i, sym j) reads
 
   pub by_sample : true ≡ bytes_eq word (codes "sample") → Reads (sample_of words) result
       → Reads (measure_by word words) result

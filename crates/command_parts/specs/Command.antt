@@ -6,9 +6,10 @@ use Rattle.std.specs.Prelude.{option_map, option_and_then, if◌then◌else◌}
 use Rattle.command_parts.specs.declared.command.Command.{Command}
 use Rattle.command_parts.specs.declared.command.Command.TheVariants.{Compile, Verify, List as Lists}
 use Rattle.command_parts.specs.declared.command.Command.TheVariants.{Run, Resume, Go, Assemble}
-use Rattle.command_parts.specs.declared.command.Command.TheVariants.{Sample, Usage}
+use Rattle.command_parts.specs.declared.command.Command.TheVariants.{Sample, Usage, Many}
 use Rattle.command_parts.specs.declared.options.Options.{Options}
-use Rattle.command_parts.specs.declared.options.TheConstants.{DEFAULT_STEPS, DEFAULT_SLEEPS, MAIN}
+use Rattle.host_run.specs.declared.entry.TheConstants.{MAIN}
+use Rattle.command_parts.specs.declared.options.TheConstants.{DEFAULT_STEPS, DEFAULT_SLEEPS}
 use Rattle.command_parts.specs.declared.measure_words.TheConstants.{MOST_FUNCTIONS}
 use Rattle.command_parts.specs.Options.{no_options, number_up_to, options_from}
 use Rattle.command_parts.specs.declared.command.Command.TheVariants.{Sizes, Explain, Help, Version}
@@ -166,6 +167,10 @@ abbrev pub go_of : List (List ℕ) → Option Command
 go_of words = named (λ src. named (λ amx more.
     with_options (go_with src amx (optional_plain more).0) (optional_plain more).1)) words
 
+-- `many`: a plan of machines and events
+abbrev pub many_of : List (List ℕ) → Option Command
+many_of words = named (λ plan. alone (Many plan)) words
+
 -- ---- those that measure
 
 -- a number that isn't 0
@@ -210,6 +215,7 @@ command_by word words =
     else if bytes_eq word (codes "go") then go_of words
     else if bytes_eq word (codes "compile") then compile_of words
     else if bytes_eq word (codes "assemble") then assemble_of words
+    else if bytes_eq word (codes "many") then many_of words
     else measure_by word words
 
 -- the same, with those that tell of texts and sizes

@@ -4,6 +4,7 @@ use Rattle.std.specs.Prelude.{◌≡◌, ◌⊎◌, ℕ, List, Option, Result, O
 use Rattle.sha2.specs.Sha256.{sha256}
 use Rattle.pawn_outside.specs.Held.{Held}
 use Rattle.amx_ops.specs.declared.amx.Amx.{Amx}
+use Rattle.amx_format.specs.File.{IsFile}
 use Rattle.amx_format.specs.Header.{header_of}
 use Rattle.command_parts.specs.declared.stop.Stop.{Stop}
 use Rattle.command_parts.specs.declared.stop.Stop.TheVariants.{NoMemory}
@@ -12,6 +13,7 @@ use Rattle.command_parts.specs.Unread.{IsRead}
 use Rattle.command_parts.specs.ValidFile.{IsValidFile, Broken, NoFile}
 use Rattle.command_parts.specs.declared.program.Digested.{Digested}
 use Rattle.command_parts.specs.declared.program.Program.{Program}
+use Rattle.command_parts.specs.declared.program.ReadProgram.{ReadProgram}
 use Rattle.command_parts.specs.ScriptFile.{IsScriptNamed, NoScript}
 
 -- of so many bytes of a file as its header counts
@@ -47,7 +49,13 @@ abbrev pub IsDigestedOf : List ℕ → Result Digested Stop → Type 0
 IsDigestedOf bytes (Ok it) = IsDigested bytes it.file it.digest
 IsDigestedOf bytes (Err stop) = (stop ≡ NoMemory) ⊎ Broken bytes stop
 
+-- the files are good, and these are the bytes of the one
+pub record IsReadProgram (held : Option Held) (amx script : List ℕ) (it : ReadProgram) : Type 0
+  where
+    pub good : IsProgram held amx script it.program
+    pub bytes : IsFile it.bytes it.program.file
+
 -- behind a good file the script is read
-abbrev pub IsProgramRead : Option Held → List ℕ → List ℕ → Result Program Stop → Type 0
-IsProgramRead held amx script (Ok it) = IsProgram held amx script it
+abbrev pub IsProgramRead : Option Held → List ℕ → List ℕ → Result ReadProgram Stop → Type 0
+IsProgramRead held amx script (Ok it) = IsReadProgram held amx script it
 IsProgramRead held amx script (Err stop) = NoProgram held amx script stop

@@ -6,7 +6,7 @@ use Rattle.command_parts.specs.declared.status.Status.TheVariants.{TooLarge, Fil
 use Rattle.command_parts.specs.declared.status.Status.TheVariants.{Invalid, BadScript, BadImage}
 use Rattle.command_parts.specs.declared.status.Status.TheVariants.{NoEntry, Unregistered}
 use Rattle.command_parts.specs.declared.status.Status.TheVariants.{Ended, Steps}
-use Rattle.command_parts.specs.declared.status.Status.TheVariants.{Asleep, NoMemory}
+use Rattle.command_parts.specs.declared.status.Status.TheVariants.{Asleep, NoMemory, BadPlan}
 
 -- the number that the program ends with
 abbrev pub status_number : Status → ℕ
@@ -26,3 +26,4 @@ status_number Ended = 12
 status_number Steps = 13
 status_number Asleep = 14
 status_number NoMemory = 15
+status_number BadPlan = 16

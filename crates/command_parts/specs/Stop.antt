@@ -22,6 +22,7 @@ status_of (stop.BadScript kind field) = status.BadScript
 status_of (stop.NoEntry name) = status.NoEntry
 status_of (stop.Unregistered name) = status.Unregistered
 status_of stop.NoMemory = status.NoMemory
+status_of (stop.BadPlan line) = status.BadPlan
 
 -- a field of a script, as it is printed
 abbrev pub field_text : Field → List ℕ
@@ -60,3 +61,4 @@ line_of (stop.BadScript kind field) =
 line_of (stop.NoEntry name) = named_line (codes "no entry ") name
 line_of (stop.Unregistered name) = named_line (codes "unregistered ") name
 line_of stop.NoMemory = codes "no memory\n"
+line_of (stop.BadPlan line) = named_line (codes "bad plan ") (decimal line)

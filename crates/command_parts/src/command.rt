@@ -92,4 +92,5 @@ pub enum Command {
     Go(GoWords),
     Sample(SampleWords),
     Usage { src: Name },
+    Many { plan: Name },
 }

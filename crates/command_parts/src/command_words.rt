@@ -4,7 +4,7 @@ ghost use Rattle.std.specs.String.{string_bytes};
 ghost use Rattle.command_parts.specs.Reading.{Reads, IsBad};
 ghost use Rattle.command_parts.specs.Command.{command_of, command_by, compile_of, compact_of};
 ghost use Rattle.command_parts.specs.Command.{compact_word, verify_of, list_of, run_of, go_of};
-ghost use Rattle.command_parts.specs.Command.{resume_of, assemble_of};
+ghost use Rattle.command_parts.specs.Command.{resume_of, assemble_of, many_of};
 ghost use Rattle.command_parts.specs.Command.{run_with, resume_with, go_with};
 ghost use Rattle.command_parts.specs.Command.{is_plain, first_plain, optional_plain};
 ghost use Rattle.command_parts.specs.Front.{AreImageWords, AreTwoNames, IsOnlyName, NoTwoNames};
@@ -13,7 +13,8 @@ use super::asked_words::read_asked;
 use super::command::{AssembleWords, Command, CompileWords, GoWords, ResumeWords, RunWords};
 use super::measure_words::read_measure;
 use super::name::Name;
-use super::options::{DEFAULT_SLEEPS, DEFAULT_STEPS, MAIN, Options, read_options};
+use super::options::{DEFAULT_SLEEPS, DEFAULT_STEPS, Options, read_options};
+use host_run::MAIN;
 use pawn_base::{Bytes, Memory};
 use std::alloc::Global;
 use thiserror::Error;
@@ -76,6 +77,8 @@ pub fn read_command(alloc: Global, word: &str, rest: &[String]) -> Result<Comman
         read_compile(alloc, rest)
     } else if word == "assemble" {
         read_assemble(alloc, rest)
+    } else if word == "many" {
+        read_many(alloc, rest)
     } else {
         read_measure(alloc, word, rest)
     }
@@ -136,6 +139,13 @@ fn read_assemble(alloc: Global, words: &[String]) -> Result<Command, WordsFault>
         Some(compact) => Ok(Command::Assemble(AssembleWords { text, amx, compact })),
         None => Err(WordsFault::Bad),
     }
+}
+
+fn read_many(alloc: Global, words: &[String]) -> Result<Command, WordsFault>
+    ensures { Reads (many_of (map string_bytes words.now)) result }
+{
+    let plan = read_only_name(alloc, words)?;
+    Ok(Command::Many { plan })
 }
 
 /// Reads the names of a file, of its script and of its image, then options.

@@ -18,9 +18,6 @@ pub const DEFAULT_STEPS: u64 = 10_000_000;
 /// How many sleeps are continued, where the words don't say.
 pub const DEFAULT_SLEEPS: u32 = 1_000;
 
-/// The entry, where the words don't name a public.
-pub const MAIN: [u8; 4] = *b"main";
-
 /// The greatest number of steps that may be asked.
 pub const MOST_STEPS: u64 = 0xFFFF_FFFF_FFFF_FFFF;
 

@@ -12,6 +12,7 @@ use super::valid::valid_file;
 use amx_format::file_size;
 use amx_image::digest;
 use amx_verify::Verified;
+use pawn_base::Bytes;
 use pawn_outside::Files;
 use script_reader::Script;
 use std::alloc::Global;
@@ -25,6 +26,13 @@ pub struct Program {
     pub script: Script,
 }
 
+/// A program, with the bytes that its file was read from.
+#[derive(Drop)]
+pub struct ReadProgram {
+    pub program: Program,
+    pub bytes: Bytes,
+}
+
 /// A valid file with its digest.
 #[derive(Drop)]
 struct Digested {
@@ -32,27 +40,28 @@ struct Digested {
     digest: [u8; 32],
 }
 
-/// Reads a file and a script by their names.
+/// Reads a file and a script by their names. The file's bytes are kept, for its machine.
 pub fn read_program<F: Files>(
     alloc: Global,
     amx: &str,
     script: &str,
     files: &mut F,
-) -> Result<Program, Stop>
+) -> Result<ReadProgram, Stop>
     ensures calls { OnlyRead F.held F.faults F.never_fails files.old files.new
         (result ≡ Err Stop.FileFault) }
     ensures answer { IsProgramRead (F.held files.old) amx.now script.now result }
-    ensures ranges { IfOk result (λ it. IsScript it.script) }
+    ensures ranges { IfOk result (λ it. IsScript it.program.script) }
 {
     let bytes = read_bytes(alloc, amx, FILE_LIMIT, files)?;
     let digested = digested_file(alloc, bytes.as_slice())?;
     let script = read_script_file(alloc, script, files)?;
     let Digested { file, digest } = digested;
-    Ok(Program {
+    let program = Program {
         file,
         digest,
         script,
-    })
+    };
+    Ok(ReadProgram { program, bytes })
 }
 
 /// The valid file that bytes are, with its digest.

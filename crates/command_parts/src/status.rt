@@ -30,6 +30,8 @@ pub enum Status {
     /// The run sleeps, and isn't continued.
     Asleep,
     NoMemory,
+    /// The bytes are no plan of machines and events.
+    BadPlan,
 }
 
 impl Status {
@@ -53,6 +55,7 @@ impl Status {
             Status::Steps => 13,
             Status::Asleep => 14,
             Status::NoMemory => 15,
+            Status::BadPlan => 16,
         }
     }
 }

@@ -29,6 +29,8 @@ pub enum Stop {
     /// A native that isn't listed.
     Unregistered(Bytes),
     NoMemory,
+    /// Bytes are no plan, for its line with this number.
+    BadPlan(u64),
 }
 
 impl From<Memory> for Stop {
@@ -58,6 +60,7 @@ impl Stop {
             Stop::NoEntry(_) => Status::NoEntry,
             Stop::Unregistered(_) => Status::Unregistered,
             Stop::NoMemory => Status::NoMemory,
+            Stop::BadPlan(_) => Status::BadPlan,
         }
     }
 
@@ -78,6 +81,7 @@ impl Stop {
             Stop::NoEntry(name) => say_named(out, b"no entry ", name.as_slice()),
             Stop::Unregistered(name) => say_named(out, b"unregistered ", name.as_slice()),
             Stop::NoMemory => say(out, &[b"no memory\n"]),
+            Stop::BadPlan(line) => say_bad_plan(out, *line),
         }
     }
 }
@@ -123,6 +127,14 @@ fn say_bad_script<S: Sink>(out: &mut S, kind: u8, field: Field) -> Result<(), Si
     let mut kinds = Buffer::new();
     let kind = kinds.format(kind).as_bytes();
     say(out, &[b"bad script ", kind, b" ", field_text(field), b"\n"])
+}
+
+fn say_bad_plan<S: Sink>(out: &mut S, line: u64) -> Result<(), SinkFault>
+    ensures { let line = line_of (Stop.BadPlan line) in
+        Said S.taken S.faults S.has_room out.old out.new line result }
+{
+    let mut lines = Buffer::new();
+    say_named(out, b"bad plan ", lines.format(line).as_bytes())
 }
 
 /// A field of a script, as it is printed.

@@ -7,6 +7,8 @@ mod page;
 mod piece;
 mod row;
 mod stage;
+#[cfg(test)]
+mod tests;
 
 use stage::Stage;
 use std::{env, fs};

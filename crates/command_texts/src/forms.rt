@@ -5,7 +5,7 @@ ghost use Rattle.command_texts.specs.Forms.{forms, forms_by};
 pub type Form = (&'static str, &'static str, &'static str);
 
 /// The commands.
-pub const FORMS: [Form; 13] = [
+pub const FORMS: [Form; 14] = [
     (
         "compile",
         "compile SRC AMX [--compact]",
@@ -41,6 +41,11 @@ pub const FORMS: [Form; 13] = [
         "resume",
         "resume AMX SCRIPT IMAGE [--steps N] [--count]",
         "goes on from an image",
+    ),
+    (
+        "many",
+        "many PLAN",
+        "runs the machines of a plan side by side, by the events that it lists",
     ),
     (
         "sample",

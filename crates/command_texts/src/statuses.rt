@@ -5,7 +5,7 @@ use super::kind::Kind;
 use super::row::Row;
 
 /// The statuses of the program.
-pub const STATUSES: [Row; 16] = [
+pub const STATUSES: [Row; 17] = [
     (
         Kind::Status,
         0,
@@ -38,8 +38,8 @@ pub const STATUSES: [Row; 16] = [
     (
         Kind::Status,
         4,
-        "`too large NAME`: a source, an include, a text or a script above 16,777,216 bytes, an \
-            AMX file above 67,108,864, an image above 167,772,160",
+        "`too large NAME`: a source, an include, a text, a script or a plan above 16,777,216 \
+            bytes, an AMX file above 67,108,864, an image above 167,772,160",
         "`verify` of a film",
         "name another file; split the source",
     ),
@@ -119,6 +119,14 @@ pub const STATUSES: [Row; 16] = [
         "`no memory`",
         "a process with too little memory",
         "give the process more memory",
+    ),
+    (
+        Kind::Status,
+        16,
+        "`bad plan LINE`: the first line that no plan with the lines before it can have, or the \
+            one behind the last, where a line or a line's end is missing",
+        "`many hello.p`",
+        "write the line as `machine AMX SCRIPT`, `start I NAME` or `go I N`, machines first",
     ),
 ];
 

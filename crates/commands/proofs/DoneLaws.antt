@@ -8,7 +8,7 @@ use Rattle.command_parts.specs.declared.program.Program.{Program}
 use Rattle.command_parts.specs.Program.{IsProgram}
 use Rattle.command_parts.specs.Told.{Writes}
 use Rattle.command_parts.specs.declared.command.RunWords.{RunWords}
-use Rattle.commands.specs.Entry.{address_named}
+use Rattle.host_run.specs.Entry.{address_named}
 use Rattle.commands.specs.Prepared.{IsServed, Unserved}
 use Rattle.commands.specs.Served.{unregistered}
 use Rattle.commands.specs.Served as natives

@@ -1,10 +1,7 @@
--- The number of an entry has its address.
-use Rattle.std.proofs.Common.{◌≡◌, ◌∙◌, ◌<◌, ℕ, zero, suc, ℤ, pos, negsuc, List, [], ◌∷◌, Bool}
-use Rattle.std.proofs.Common.{true, false, Option, None, Some, length, slice_get, option_map}
-use Rattle.std.proofs.Common.{option_and_then, cond, IfSome, refl, ap, sym, subst, arith}
-use Rattle.std.specs.Prelude.{bytes_eq}
+-- A start at a number is one at its address.
+use Rattle.std.proofs.Common.{◌≡◌, ◌∙◌, zero, suc, ℤ, pos, negsuc, [], Some, option_and_then, ap}
 use Rattle.std.proofs.lemmas.List.Elements.{All-nil}
-use Rattle.pawn_cells.specs.Cells.{IsCell, equal}
+use Rattle.pawn_cells.specs.Cells.{IsCell}
 use Rattle.amx_ops.specs.declared.amx.Amx.{Amx}
 use Rattle.amx_ops.specs.State.{State}
 use Rattle.amx_ops.specs.States.{IsState}
@@ -12,36 +9,6 @@ use Rattle.amx_ops.specs.Keeps.{IsRunnable}
 use Rattle.amx_ops.specs.Trace.{Main, Public, start_at}
 use Rattle.amx_ops.proofs.KeepsLaws.{keeps_states}
 use Rattle.amx_machine.specs.Starts.{address_by}
-use Rattle.command_parts.specs.declared.options.TheConstants.{MAIN}
-use Rattle.commands.specs.Entry.{public_named, IsEntryOf}
-
-get_some : {A : Type 0} (xs : List A) (n : ℕ) → n < length xs → (x : A) × (slice_get xs n ≡ Some x)
-get_some [] n h = absurd (omega (arith, h))
-get_some (x ∷ xs) zero h = (x, refl)
-get_some (x ∷ xs) (suc n) h = get_some xs n (omega (arith, h))
-
-module _ (amx : Amx) (name : List ℕ) where
-  abbrev found : Option ℕ
-  found = public_named amx.publics name
-
-  pub main_by : (b : Bool) (o : Option ℤ) → equal amx.entry (negsuc 0) ≡ b
-      → bytes_eq name MAIN ≡ true → o ≡ cond b None (Some (negsuc 0))
-      → IsEntryOf amx name o
-  main_by true o h e is =
-      let P : Option ℤ → Type 0 = IsEntryOf amx name in subst P (sym is) (rw (e, h) refl)
-  main_by false o h e is =
-      let P : Option ℤ → Type 0 = IsEntryOf amx name in
-      subst P (sym is) (amx.entry, rw (e, h) refl, rw h refl)
-
-  pub public_by : (f : Option ℕ) (o : Option ℤ) → found ≡ f → IfSome f (λ n. n < length amx.publics)
-      → bytes_eq name MAIN ≡ false
-      → o ≡ option_map pos f → IsEntryOf amx name o
-  public_by None o h w e is =
-      let P : Option ℤ → Type 0 = IsEntryOf amx name in subst P (sym is) (rw (e, h) refl)
-  public_by (Some n) o h w e is =
-      let P : Option ℤ → Type 0 = IsEntryOf amx name in
-      let it = get_some amx.publics n w in
-      subst P (sym is) (it.0.address, rw (e, h, it.1) refl, rw it.1 refl)
 
 -- a start at a number is one at its address, and leaves a state in its form
 module _ (amx : Amx) (s t : State) (address : ℤ) (runs : IsRunnable amx) (h : IsState amx s)

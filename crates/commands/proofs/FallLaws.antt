@@ -43,6 +43,7 @@ has_stop status.Ended = ⊥
 has_stop status.Steps = ⊥
 has_stop status.Asleep = ⊥
 has_stop status.NoMemory = Unit {0}
+has_stop status.BadPlan = Unit {0}
 
 stop_has : (stop : Cause) → has_stop (status_of stop)
 stop_has (cause.Refused kind file line) = tt
@@ -57,6 +58,7 @@ stop_has (cause.BadScript kind field) = tt
 stop_has (cause.NoEntry name) = tt
 stop_has (cause.Unregistered name) = tt
 stop_has cause.NoMemory = tt
+stop_has (cause.BadPlan line) = tt
 
 told_has : (stop : Cause) (told : Told) → has_stop (status_told (status_of stop) told)
 told_has stop (Ok done) = stop_has stop

@@ -1,5 +1,5 @@
 -- What `go` does of good files, and what stops it.
-use Rattle.std.proofs.Common.{◌≡◌, ◌≢◌, ◌∙◌, ◌<◌, ◌^◌, inl, inr, ℕ, List, Option, Ok, Err, length}
+use Rattle.std.proofs.Common.{◌≡◌, ◌≢◌, ◌∙◌, inl, inr, ℕ, List, Option, Ok, Err}
 use Rattle.std.proofs.Common.{refl, sym, ap, ap₂, subst}
 use Rattle.pawn_outside.specs.declared.fault.SinkFault.{SinkFault}
 use Rattle.pawn_outside.specs.Held.{Held, with_put}
@@ -12,7 +12,6 @@ use Rattle.host_script.specs.declared.event.End.TheVariants as run_end
 use Rattle.amx_ops.specs.declared.amx.Amx.{Amx}
 use Rattle.amx_ops.specs.Runs.{Stop as RunStop, Steps, Asleep, Over_by}
 use Rattle.amx_format.specs.declared.encoding.Encoding.TheVariants.{Plain}
-use Rattle.amx_format.proofs.LimitLaws.{within_limits}
 use Rattle.pawn_front.specs.declared.compiled.Compiled.{Compiled}
 use Rattle.pawn_front.specs.declared.compiled.Warning.{Warning}
 use Rattle.pawn_front.specs.Compiled.{IsCompiled}
@@ -195,7 +194,3 @@ module _ {S : Type 0} {taken : S → Option (List ℕ)} {faults : S → ℕ} {ha
         written = said_cut (line_of NoMemory) (Err fault) refl first;
         is = refl;
       })
-
--- a valid file's natives fit a machine
-pub natives_fit : (bytes : List ℕ) (amx : Amx) → IsValidFile bytes amx → length amx.natives < 2 ^ 31
-natives_fit bytes amx valid = (within_limits bytes amx valid.file).natives

@@ -21,7 +21,7 @@ use Rattle.commands.specs.Good.{IsFree, GoodFilesAreRead, GoodProgramsStart}
 use Rattle.command_parts.specs.Program.{IsProgram, IsDigested, NoProgram}
 use Rattle.command_parts.specs.Program as program
 use Rattle.command_parts.specs.ScriptFile.{IsScriptOf, IsNoScript}
-use Rattle.commands.specs.Entry.{address_named}
+use Rattle.host_run.specs.Entry.{address_named}
 use Rattle.commands.specs.Prepared.{IsServed, NoStart, no_entry, no_native, wants_memory}
 use Rattle.commands.specs.Served.{unregistered}
 use Rattle.commands.specs.Served as natives

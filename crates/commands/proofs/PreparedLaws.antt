@@ -11,7 +11,7 @@ use Rattle.command_parts.specs.declared.stop.Stop.TheVariants.{NoEntry, Unregist
 use Rattle.command_parts.specs.Unread.{IsStopOf}
 use Rattle.command_parts.specs.declared.program.Program.{Program}
 use Rattle.commands.specs.declared.ready_segment.ReadySegment.{ReadySegment}
-use Rattle.commands.specs.Entry.{address_named}
+use Rattle.host_run.specs.Entry.{address_named}
 use Rattle.commands.specs.Prepared.{IsPrepared, NoStart, no_entry, wants_memory}
 use Rattle.commands.specs.ReadySegment.{program_of}
 use Rattle.commands.specs.Served.{HasUnserved, unregistered, no_memory}

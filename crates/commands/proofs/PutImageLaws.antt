@@ -33,7 +33,7 @@ use Rattle.command_parts.specs.declared.status.Status.TheVariants as status
 use Rattle.command_parts.specs.Program.{IsProgram}
 use Rattle.command_parts.specs.ScriptFile.{IsScriptOf}
 use Rattle.command_parts.specs.Told.{Told, Writes, status_told}
-use Rattle.commands.specs.Entry.{address_named, entry_named}
+use Rattle.host_run.specs.Entry.{address_named, entry_named}
 use Rattle.commands.specs.GoodImage.{HoldsImage}
 use Rattle.commands.specs.Names.{Names, run_words, resume_words}
 use Rattle.commands.specs.Prepared.{IsServed}

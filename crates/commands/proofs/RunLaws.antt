@@ -11,7 +11,7 @@ use Rattle.command_parts.specs.declared.program.Program.{Program}
 use Rattle.command_parts.specs.Program.{IsProgram, NoProgram}
 use Rattle.command_parts.specs.Told.{Writes, TellsStop}
 use Rattle.command_parts.specs.declared.command.RunWords.{RunWords}
-use Rattle.commands.specs.Entry.{address_named, IsEntryOf}
+use Rattle.host_run.specs.Entry.{address_named, IsEntryOf}
 use Rattle.commands.specs.Prepared.{Unserved, no_native}
 use Rattle.commands.specs.Runs.{RunsProgram, Runs}
 use Rattle.commands.proofs.PreparedLaws.{entry_missing}

@@ -23,7 +23,7 @@ use Rattle.host_run.specs.Session.{told}
 use Rattle.host_run.specs.declared.end.SessionEnd.{SessionEnd}
 use Rattle.commands.specs.declared.ready_segment.ReadySegment.{ReadySegment}
 use Rattle.command_parts.specs.declared.command.RunWords.{RunWords}
-use Rattle.commands.specs.Entry.{IsEntryOf}
+use Rattle.host_run.specs.Entry.{IsEntryOf}
 use Rattle.commands.specs.Counted.{IsErrorTold, RunsTrace}
 use Rattle.commands.specs.Finishes.{Finishes}
 use Rattle.commands.specs.Played.{TellsTrace}

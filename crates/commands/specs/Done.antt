@@ -8,7 +8,7 @@ use Rattle.command_parts.specs.declared.program.Program.{Program}
 use Rattle.command_parts.specs.Program.{IsProgram}
 use Rattle.command_parts.specs.Told.{Writes}
 use Rattle.command_parts.specs.declared.command.RunWords.{RunWords}
-use Rattle.commands.specs.Entry.{address_named}
+use Rattle.host_run.specs.Entry.{address_named}
 use Rattle.commands.specs.Prepared.{IsServed}
 use Rattle.commands.specs.Runs.{IsStopped, RunsEntry, Runs}
 use Rattle.command_parts.specs.declared.command.ResumeWords.{ResumeWords}

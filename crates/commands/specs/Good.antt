@@ -9,7 +9,7 @@ use Rattle.command_parts.specs.Unread.{IsRead}
 use Rattle.command_parts.specs.ValidFile.{IsValidFile, NoFile}
 use Rattle.command_parts.specs.declared.program.Program.{Program}
 use Rattle.command_parts.specs.Program.{IsProgram, NoProgram}
-use Rattle.commands.specs.Entry.{address_named}
+use Rattle.host_run.specs.Entry.{address_named}
 use Rattle.commands.specs.Prepared.{IsServed, NoStart}
 
 -- a stop that what files hold has no part in

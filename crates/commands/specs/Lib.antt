@@ -2,7 +2,6 @@ pub mod Assembles
 pub mod Compiles
 pub mod Counted
 pub mod Done
-pub mod Entry
 pub mod Finishes
 pub mod Goes
 pub mod Good

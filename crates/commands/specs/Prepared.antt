@@ -12,7 +12,7 @@ use Rattle.command_parts.specs.declared.stop.Stop.{Stop}
 use Rattle.command_parts.specs.declared.stop.Stop.TheVariants.{NoEntry, NoMemory}
 use Rattle.command_parts.specs.declared.program.Program.{Program}
 use Rattle.commands.specs.declared.ready_segment.ReadySegment.{ReadySegment}
-use Rattle.commands.specs.Entry.{address_named}
+use Rattle.host_run.specs.Entry.{address_named}
 use Rattle.commands.specs.Served.{AreServed, HasUnserved}
 
 -- its natives are served

@@ -10,7 +10,7 @@ use Rattle.command_parts.specs.declared.status.Status.{Status}
 use Rattle.command_parts.specs.declared.status.Status.TheVariants.{Asleep}
 use Rattle.command_parts.specs.Program.{IsProgram}
 use Rattle.command_parts.specs.Told.{Writes}
-use Rattle.commands.specs.Entry.{address_named}
+use Rattle.host_run.specs.Entry.{address_named}
 use Rattle.commands.specs.Good.{IsFree}
 use Rattle.commands.specs.GoodImage.{HoldsImage}
 use Rattle.commands.specs.Names.{Names, run_words, resume_words}

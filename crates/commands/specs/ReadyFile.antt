@@ -6,7 +6,7 @@ use Rattle.amx_ops.specs.declared.amx.Amx.{Amx}
 use Rattle.amx_ops.specs.Trace.{Main, address_of}
 use Rattle.amx_machine.specs.Machine.{first}
 use Rattle.host_run.specs.Bound.{bound_of}
-use Rattle.command_parts.specs.declared.options.TheConstants.{MAIN}
+use Rattle.host_run.specs.declared.entry.TheConstants.{MAIN}
 use Rattle.command_parts.specs.declared.stop.Stop.{Stop}
 use Rattle.command_parts.specs.declared.stop.Stop.TheVariants.{NoEntry, NoMemory}
 use Rattle.commands.specs.declared.ready_file.ReadyFile.{ReadyFile}

@@ -10,7 +10,7 @@ use Rattle.command_parts.specs.declared.status.Status.{Status}
 use Rattle.command_parts.specs.declared.stop.Stop.{Stop}
 use Rattle.command_parts.specs.declared.program.Program.{Program}
 use Rattle.command_parts.specs.declared.command.RunWords.{RunWords}
-use Rattle.commands.specs.Entry.{address_named}
+use Rattle.host_run.specs.Entry.{address_named}
 use Rattle.commands.specs.Finishes.{Finishes}
 use Rattle.commands.specs.Prepared.{IsServed, NoStart}
 use Rattle.commands.specs.Used.{with_used}

@@ -102,8 +102,9 @@ fn run_bytes<S: Sink>(alloc: Global, prepared: &Prepared, words: &GoWords, out: 
         out.new result }
     ensures fault { ¬ (result ≡ Status.FileFault) }
 {
-    match valid_file(alloc, prepared.compiled.bytes.as_slice()) {
-        Ok(file) => run_file(alloc, file, &prepared.script, words, out),
+    let bytes = prepared.compiled.bytes.as_slice();
+    match valid_file(alloc, bytes) {
+        Ok(file) => run_file(alloc, file, bytes, &prepared.script, words, out),
         Err(stop) => tell_stop(stop, out),
     }
 }

@@ -6,7 +6,6 @@ mod bind;
 mod command_laws;
 mod compiles;
 mod counted;
-mod entry;
 mod goes;
 mod image;
 mod lines;

@@ -1,6 +1,6 @@
-ghost use Rattle.std.specs.Prelude.{◌<◌, ◌^◌, length};
 ghost use Rattle.pawn_outside.specs.Said.{Said};
 ghost use Rattle.host_script.specs.Ranges.{IsScript};
+ghost use Rattle.amx_format.specs.File.{IsFile};
 ghost use Rattle.commands.specs.Counted.{RunsTrace};
 ghost use Rattle.commands.specs.Played.{trace_of};
 ghost use Rattle.commands.specs.ReadyFile.{IsReadyFile};
@@ -15,21 +15,23 @@ use host_script::Script;
 use pawn_outside::Sink;
 use std::alloc::Global;
 
-/// Runs a file from its main under a script, for so many steps at most in each segment, and goes on
-/// behind so many sleeps as the words say; writes its trace, or what keeps it from being run.
+/// Runs a file, read from these bytes, from its main under a script, for so many steps at most in
+/// each segment, and goes on behind so many sleeps as the words say; writes its trace, or what
+/// keeps it from being run.
 pub fn run_file<S: Sink>(
     alloc: Global,
     file: Verified,
+    bytes: &[u8],
     script: &Script,
     words: &GoWords,
     out: &mut S,
 ) -> Status
+    requires bytes { IsFile bytes.now file }
     requires script { IsScript script.now }
-    requires natives { length file.natives < 2 ^ 31 }
     ensures { RunsFile (Said S.taken S.faults S.has_room) file script.now words.now out.old
         out.new result }
 {
-    match make_ready(alloc, file, script) {
+    match make_ready(alloc, file, bytes, script) {
         Ok(ready) => play(ready, script, words, out),
         Err(stop) => tell_stop(stop, out),
     }

@@ -1,13 +1,14 @@
-ghost use Rattle.std.specs.Prelude.{◌≡◌, ◌<◌, ◌^◌, None, Some, if◌then◌else◌, length, negsuc};
+ghost use Rattle.std.specs.Prelude.{◌≡◌, None, Some, if◌then◌else◌, negsuc};
 ghost use Rattle.pawn_cells.specs.Cells.{equal};
 ghost use Rattle.host_script.specs.Ranges.{IsScript};
+ghost use Rattle.amx_format.specs.File.{IsFile};
 ghost use Rattle.commands.specs.ReadyFile.{Readies, ServesFile};
 
 use super::bind::bind_natives;
 use amx_machine::Machine;
 use amx_verify::Verified;
-use command_parts::{MAIN, Stop, no_entry};
-use host_run::Bound;
+use command_parts::{Stop, no_entry};
+use host_run::{Bound, MAIN};
 use host_script::Script;
 use std::alloc::Global;
 
@@ -18,15 +19,21 @@ pub struct ReadyFile {
     pub bound: Bound,
 }
 
-/// Looks main up, then the natives in a script, and makes a machine.
-pub fn make_ready(alloc: Global, file: Verified, script: &Script) -> Result<ReadyFile, Stop>
+/// Looks main up, then the natives in a script, and makes a machine of the bytes that the file was
+/// read from.
+pub fn make_ready(
+    alloc: Global,
+    file: Verified,
+    bytes: &[u8],
+    script: &Script,
+) -> Result<ReadyFile, Stop>
+    requires bytes { IsFile bytes.now file }
     requires script { IsScript script.now }
-    requires natives { length file.natives < 2 ^ 31 }
     ensures { Readies file script.now result }
 {
     match main_at(file.amx().entry) {
         None => Err(no_entry(alloc, &MAIN)),
-        Some(_) => serve(alloc, file, script),
+        Some(_) => serve(alloc, file, bytes, script),
     }
 }
 
@@ -38,12 +45,12 @@ fn main_at(address: i32) -> Option<i32>
 }
 
 /// Binds the natives, and makes a machine.
-fn serve(alloc: Global, file: Verified, script: &Script) -> Result<ReadyFile, Stop>
+fn serve(alloc: Global, file: Verified, bytes: &[u8], script: &Script) -> Result<ReadyFile, Stop>
+    requires bytes { IsFile bytes.now file }
     requires script { IsScript script.now }
-    requires natives { length file.natives < 2 ^ 31 }
     ensures { ServesFile file script.now result }
 {
     let bound = bind_natives(alloc, &file, script)?;
-    let machine = Machine::load(alloc, file)?;
+    let machine = Machine::load_file(alloc, file, bytes)?;
     Ok(ReadyFile { machine, bound })
 }

@@ -1,5 +1,8 @@
+ghost use Rattle.std.specs.Prelude.{◌≡◌, IfOk};
 ghost use Rattle.host_script.specs.Ranges.{IsScript};
+ghost use Rattle.amx_format.specs.File.{IsFile};
 ghost use Rattle.amx_format.specs.Limits.{IsWithinLimits};
+ghost use Rattle.amx_machine.specs.Machine.{first};
 ghost use Rattle.pawn_outside.specs.Said.{Said};
 ghost use Rattle.host_run.specs.Segments.{segment_of};
 ghost use Rattle.command_parts.specs.Calls.{CommandCalls};
@@ -13,9 +16,11 @@ use super::bind::bind_natives;
 use super::counted::tell_run;
 use amx_image::{ImageBuffer, save_into};
 use amx_machine::Machine;
+use amx_verify::Verified;
 use command_parts::{Status, Stop, put, tell_stop};
 use host_run::{Bound, session};
 use host_script::Script;
+use pawn_base::{Bytes, Memory};
 use pawn_outside::{Files, Sink};
 use std::alloc::Global;
 
@@ -31,6 +36,14 @@ pub struct ReadySegment {
     pub at: u32,
     /// Room for an image of the machine.
     pub buffer: ImageBuffer,
+}
+
+/// The machine of a file, from the bytes that it was read from, which are given up.
+pub fn load(alloc: Global, file: Verified, bytes: Bytes) -> Result<Machine, Memory>
+    requires { IsFile bytes file }
+    ensures { IfOk result (λ machine. machine ≡ first file) }
+{
+    Machine::load_file(alloc, file, bytes.as_slice())
 }
 
 /// Binds the natives of a machine to a script at a position of it, and takes room for an image.

@@ -1,5 +1,5 @@
 ghost use Rattle.host_script.specs.Ranges.{IsScript};
-ghost use Rattle.amx_format.specs.Limits.{IsWithinLimits};
+ghost use Rattle.amx_format.specs.File.{IsFile};
 ghost use Rattle.pawn_outside.specs.Said.{Said};
 ghost use Rattle.command_parts.specs.Calls.{CommandCalls};
 ghost use Rattle.commands.specs.Resumes.{Resumes, ResumesProgram};
@@ -8,7 +8,10 @@ use super::image::tell_image;
 use super::ready_segment::run_on;
 use super::runs::runnable;
 use super::wake::{WakeFault, wake};
-use command_parts::{Program, ResumeWords, Status, read_bytes, read_program, tell_stop};
+use command_parts::{
+    Program, ReadProgram, ResumeWords, Status, read_bytes, read_program, tell_stop,
+};
+use pawn_base::Bytes;
 use pawn_outside::{Files, Sink};
 use std::alloc::Global;
 
@@ -28,20 +31,25 @@ pub fn resume<F: Files, S: Sink>(
     ensures calls { CommandCalls F.faults F.never_fails files.old files.new result }
 {
     match read_program(alloc, words.amx.as_str(), words.script.as_str(), files) {
-        Ok(program) => resume_program(alloc, program, words, files, out),
+        Ok(read) => {
+            let ReadProgram { program, bytes } = read;
+            resume_program(alloc, program, bytes, words, files, out)
+        }
         Err(stop) => tell_stop(stop, out),
     }
 }
 
-/// Reads the image of a program, wakes a machine at it, and goes on.
+/// Reads the image of a program, whose file was read from these bytes, wakes a machine at it, and
+/// goes on.
 fn resume_program<F: Files, S: Sink>(
     alloc: Global,
     program: Program,
+    bytes: Bytes,
     words: &ResumeWords,
     files: &mut F,
     out: &mut S,
 ) -> Status
-    requires limits { IsWithinLimits program.file }
+    requires file { IsFile bytes program.file }
     requires script { IsScript program.script }
     ensures answer { ResumesProgram (Said S.taken S.faults S.has_room) program words.now
         (F.held files.old) (F.held files.new) out.old out.new result }
@@ -54,7 +62,7 @@ fn resume_program<F: Files, S: Sink>(
         Ok(image) => image,
         Err(stop) => return tell_stop(stop, out),
     };
-    match wake(alloc, image.as_slice(), program) {
+    match wake(alloc, image.as_slice(), program, bytes) {
         Ok(ready) => run_on(ready, words.steps, words.count, name, files, out),
         Err(WakeFault::Stop(stop)) => tell_stop(stop, out),
         Err(WakeFault::Image(fault)) => tell_image(fault, out),

@@ -1,21 +1,23 @@
 ghost use Rattle.std.specs.Prelude.{◌≡◌, Some};
 ghost use Rattle.host_script.specs.Ranges.{IsScript};
-ghost use Rattle.amx_format.specs.Limits.{IsWithinLimits};
+ghost use Rattle.amx_format.specs.File.{IsFile};
 ghost use Rattle.pawn_outside.specs.Said.{Said};
 ghost use Rattle.amx_machine.specs.Machine.{first};
 ghost use Rattle.command_parts.specs.Calls.{CommandCalls};
-ghost use Rattle.commands.specs.Entry.{IsEntryOf};
+ghost use Rattle.host_run.specs.Entry.{IsEntryOf};
 ghost use Rattle.commands.specs.Prepared.{CanRun, IsPrepared, IsReadyFor};
 ghost use Rattle.commands.specs.ReadySegment.{program_of};
 ghost use Rattle.commands.specs.Runs.{Runs, RunsProgram, RunsEntry};
 
 use super::counted::{say_error, tell_run};
-use super::entry::entry_of;
-use super::ready_segment::{ReadySegment, ready_at, run_on};
-use amx_machine::Machine;
+use super::ready_segment::{ReadySegment, load, ready_at, run_on};
 use amx_ops::Amx;
 use amx_verify::Verified;
-use command_parts::{Program, RunWords, Status, Stop, no_entry, read_program, tell_stop};
+use command_parts::{
+    Program, ReadProgram, RunWords, Status, Stop, no_entry, read_program, tell_stop,
+};
+use host_run::entry_of;
+use pawn_base::Bytes;
 use pawn_outside::{Files, Sink};
 use std::alloc::Global;
 
@@ -27,27 +29,31 @@ pub fn run<F: Files, S: Sink>(alloc: Global, words: &RunWords, files: &mut F, ou
     ensures calls { CommandCalls F.faults F.never_fails files.old files.new result }
 {
     match read_program(alloc, words.amx.as_str(), words.script.as_str(), files) {
-        Ok(program) => run_program(alloc, program, words, files, out),
+        Ok(read) => {
+            let ReadProgram { program, bytes } = read;
+            run_program(alloc, program, bytes, words, files, out)
+        }
         Err(stop) => tell_stop(stop, out),
     }
 }
 
-/// Runs a program.
+/// Runs a program, whose file was read from these bytes.
 fn run_program<F: Files, S: Sink>(
     alloc: Global,
     program: Program,
+    bytes: Bytes,
     words: &RunWords,
     files: &mut F,
     out: &mut S,
 ) -> Status
-    requires limits { IsWithinLimits program.file }
+    requires file { IsFile bytes program.file }
     requires script { IsScript program.script }
     ensures answer { RunsProgram (Said S.taken S.faults S.has_room) program words.now
         (F.held files.old) (F.held files.new) out.old out.new result }
     ensures calls { CommandCalls F.faults F.never_fails files.old files.new result }
 {
     match entry_of(runnable(&program.file), words.entry.as_slice()) {
-        Some(entry) => match prepare(alloc, program) {
+        Some(entry) => match prepare(alloc, program, bytes) {
             Ok(ready) => start(ready, entry, words, files, out),
             Err(stop) => tell_stop(stop, out),
         },
@@ -68,8 +74,8 @@ pub fn runnable(file: &Verified) -> &Amx
 }
 
 /// Loads a machine, and makes it ready.
-fn prepare(alloc: Global, program: Program) -> Result<ReadySegment, Stop>
-    requires limits { IsWithinLimits program.file }
+fn prepare(alloc: Global, program: Program, bytes: Bytes) -> Result<ReadySegment, Stop>
+    requires file { IsFile bytes program.file }
     requires script { IsScript program.script }
     ensures { IsReadyFor program (first program.file) 0 result }
 {
@@ -78,7 +84,7 @@ fn prepare(alloc: Global, program: Program) -> Result<ReadySegment, Stop>
         digest,
         script,
     } = program;
-    let machine = Machine::load(alloc, file)?;
+    let machine = load(alloc, file, bytes)?;
     ready_at(alloc, machine, digest, script, 0)
 }
 

@@ -1,8 +1,9 @@
-ghost use Rattle.std.specs.Prelude.{◌≡◌, ◌<◌, ◌^◌, length, Err, IfOk, []};
+ghost use Rattle.std.specs.Prelude.{◌≡◌, Err, IfOk, []};
 ghost use Rattle.pawn_outside.specs.Said.{Said};
 ghost use Rattle.host_script.specs.Ranges.{IsScript};
 ghost use Rattle.host_script.specs.Script.{plain};
 ghost use Rattle.amx_ops.specs.declared.amx.Amx.{Amx};
+ghost use Rattle.amx_format.specs.File.{IsFile};
 ghost use Rattle.amx_format.specs.declared.encoding.Encoding.TheVariants.{Plain};
 ghost use Rattle.command_parts.specs.Calls.{CommandCalls};
 ghost use Rattle.command_parts.specs.ValidFile.{IsValidFile};
@@ -90,31 +91,37 @@ fn run_bytes<S: Sink>(alloc: Global, bytes: &[u8], out: &mut S) -> Status
     ensures fault { ¬ (result ≡ Status.FileFault) }
 {
     match valid_file(alloc, bytes) {
-        Ok(file) => run_plain(alloc, file, out),
+        Ok(file) => run_plain(alloc, file, bytes, out),
         Err(stop) => tell_stop(stop, out),
     }
 }
 
-/// Runs a file under the plain script.
-fn run_plain<S: Sink>(alloc: Global, file: Verified, out: &mut S) -> Status
-    requires natives { length file.natives < 2 ^ 31 }
+/// Runs a file, read from these bytes, under the plain script.
+fn run_plain<S: Sink>(alloc: Global, file: Verified, bytes: &[u8], out: &mut S) -> Status
+    requires bytes { IsFile bytes.now file }
     ensures { RunsSample (Said S.taken S.faults S.has_room) file out.old out.new result }
 {
     match plain(alloc) {
-        Ok(script) => run_under(alloc, file, &script, out),
+        Ok(script) => run_under(alloc, file, bytes, &script, out),
         Err(stop) => tell_stop(stop, out),
     }
 }
 
 /// Runs a file under a script, which is the plain one.
-fn run_under<S: Sink>(alloc: Global, file: Verified, script: &Script, out: &mut S) -> Status
+fn run_under<S: Sink>(
+    alloc: Global,
+    file: Verified,
+    bytes: &[u8],
+    script: &Script,
+    out: &mut S,
+) -> Status
+    requires bytes { IsFile bytes.now file }
     requires script { IsScript script.now }
     requires is_plain { script.now ≡ plain }
-    requires natives { length file.natives < 2 ^ 31 }
     ensures { RunsSample (Said S.taken S.faults S.has_room) file out.old out.new result }
 {
     let cells = file.amx().code.len();
-    match make_ready(alloc, file, script) {
+    match make_ready(alloc, file, bytes, script) {
         Ok(ready) => {
             let (steps, end) = run_ready(ready, script, DEFAULT_STEPS, 0, out);
             tell_counted(end, steps, cells, out)

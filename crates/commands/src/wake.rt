@@ -1,12 +1,11 @@
 ghost use Rattle.host_script.specs.Ranges.{IsScript};
-ghost use Rattle.amx_format.specs.Limits.{IsWithinLimits};
+ghost use Rattle.amx_format.specs.File.{IsFile};
 ghost use Rattle.commands.specs.Wakes.{Wakes};
 
-use super::ready_segment::{ReadySegment, ready_at};
+use super::ready_segment::{ReadySegment, load, ready_at};
 use amx_image::{ImageFault, restore_into};
-use amx_machine::Machine;
 use command_parts::{Program, Stop};
-use pawn_base::Memory;
+use pawn_base::{Bytes, Memory};
 use std::alloc::Global;
 
 /// Why a machine isn't woken at an image.
@@ -50,9 +49,15 @@ impl From<ImageFault> for WakeFault {
     }
 }
 
-/// A machine of a program, set to the state of an image, with all that it takes to go on.
-pub fn wake(alloc: Global, image: &[u8], program: Program) -> Result<ReadySegment, WakeFault>
-    requires limits { IsWithinLimits program.file }
+/// A machine of a program, whose file was read from these bytes, set to the state of an image, with
+/// all that it takes to go on.
+pub fn wake(
+    alloc: Global,
+    image: &[u8],
+    program: Program,
+    bytes: Bytes,
+) -> Result<ReadySegment, WakeFault>
+    requires file { IsFile bytes program.file }
     requires script { IsScript program.script }
     ensures { Wakes program image.now result }
 {
@@ -61,7 +66,7 @@ pub fn wake(alloc: Global, image: &[u8], program: Program) -> Result<ReadySegmen
         digest,
         script,
     } = program;
-    let mut machine = Machine::load(alloc, file)?;
+    let mut machine = load(alloc, file, bytes)?;
     let at = restore_into(&mut machine, &digest, image)?;
     let ready = ready_at(alloc, machine, digest, script, at)?;
     Ok(ready)

@@ -4,7 +4,7 @@ use Rattle.pawn_outside.specs.Held.{Held}
 use Rattle.command_parts.specs.declared.command.Command.{Command}
 use Rattle.command_parts.specs.declared.command.Command.TheVariants.{Compile, Verify, List, Run}
 use Rattle.command_parts.specs.declared.command.Command.TheVariants.{Resume, Go, Assemble, Sample}
-use Rattle.command_parts.specs.declared.command.Command.TheVariants.{Usage}
+use Rattle.command_parts.specs.declared.command.Command.TheVariants.{Usage, Many}
 use Rattle.command_parts.specs.declared.command.Command.TheVariants.{Sizes, Explain, Help, Version}
 use Rattle.command_parts.specs.declared.status.Status.{Status}
 use Rattle.command_parts.specs.declared.stop.Stop.{Stop}
@@ -19,6 +19,7 @@ use Rattle.commands.specs.Resumes.{Resumes}
 use Rattle.commands.specs.Goes.{Goes}
 use Rattle.commands.specs.Samples.{Samples}
 use Rattle.commands.specs.Usages.{Usages}
+use Rattle.command_many.specs.Many.{ServesPlan}
 use Rattle.command_texts.specs.Explained.{explained}
 use Rattle.command_texts.specs.Forms.{helped}
 use Rattle.pawn_cli.specs.ReadsFile.{Verifies, Lists}
@@ -68,6 +69,8 @@ Does writes (Some (Sample words)) held after old new answer =
     Samples writes words held after old new answer
 Does writes (Some (Usage src)) held after old new answer =
     Usages writes src held after old new answer
+Does writes (Some (Many plan)) held after old new answer =
+    ServesPlan writes plan held after old new answer
 
 -- a call is stopped by its words, or does what its command does
 abbrev pub Answers : {S : Type 0} → Writes S → Option Command → Option Held → Option Held → S → S

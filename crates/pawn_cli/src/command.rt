@@ -9,6 +9,7 @@ use super::list::list;
 use super::sizes::sizes;
 use super::texts::{tell_explained, tell_help, tell_version};
 use super::verify::verify;
+use command_many::many;
 use command_parts::{Command, Status, Stop, WordsFault, read_words, tell_stop};
 use commands::{assemble, compile, go, resume, run, sample, usage};
 use pawn_outside::{Files, Sink};
@@ -62,5 +63,6 @@ fn serve<F: Files, S: Sink>(alloc: Global, command: Command, files: &mut F, out:
         Command::Go(words) => go(alloc, &words, files, out),
         Command::Sample(words) => sample(alloc, &words, files, out),
         Command::Usage { src } => usage(alloc, src.as_str(), files, out),
+        Command::Many { plan } => many(alloc, plan.as_str(), files, out),
     }
 }

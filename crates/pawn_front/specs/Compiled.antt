@@ -1,7 +1,8 @@
 -- What `compile` answers: the file of the program that the source means, or why there is none.
-use Rattle.std.specs.Prelude.{◌≡◌, ◌≤◌, ℕ, List, Option, Result, Ok, Err, length}
+use Rattle.std.specs.Prelude.{◌≡◌, ◌≤◌, ◌+◌, ℕ, List, Option, Result, Ok, Err, length}
 use Rattle.pawn_outside.specs.Held.{Held}
 use Rattle.pawn_meaning.specs.Program.{Program}
+use Rattle.pawn_meaning.specs.Weight.{lean}
 use Rattle.amx_ops.specs.declared.amx.Amx.{Amx}
 use Rattle.amx_format.specs.File.{IsFile}
 use Rattle.amx_format.specs.Layout.{IsLayout}
@@ -16,10 +17,11 @@ use Rattle.pawn_front.specs.Faults.{NotCompiled}
 use Rattle.pawn_front.specs.Means.{Means}
 
 -- bytes of a file that does what a program means, in the writer's layout; there are no more than a
--- file may have
+-- file may have, and no more cells of code than the program's lean weight and two
 pub record HasFile (program : Program) (encoding : Encoding) (bytes : List ℕ) : Type 0 where
   pub amx : Amx
   pub agrees : Agrees program amx
+  pub light : length amx.code ≤ lean program + 2
   pub file : IsFile bytes amx
   pub layout : IsLayout encoding amx bytes
   pub small : length bytes ≤ FILE_LIMIT

@@ -10,7 +10,6 @@ use pawn_meaning::Program;
 use std::alloc::Global;
 
 /// The bytes of a program's file.
-#[tactic(auto, using(crate::proofs::MakingLaws::file_is))]
 pub fn file_bytes(alloc: Global, program: &Program, encoding: Encoding) -> Result<Bytes, Memory>
     requires { IsGoodProgram (program_view program.now) }
     ensures { IfOk result (HasFile (program_view program.now) encoding) }

@@ -25,7 +25,7 @@ use Rattle.command_parts.specs.declared.status.Status.{Status}
 use Rattle.command_parts.specs.declared.status.Status.TheVariants as status
 use Rattle.command_parts.specs.Program.{IsProgram}
 use Rattle.command_parts.specs.Told.{Writes}
-use Rattle.commands.specs.Entry.{address_named}
+use Rattle.host_run.specs.Entry.{address_named}
 use Rattle.commands.specs.Finishes.{Finishes, run_text, stop_line, status_of_stop}
 use Rattle.commands.specs.GoodImage.{HoldsImage}
 use Rattle.commands.specs.Names.{Names, run_words, resume_words}

@@ -14,8 +14,8 @@ use Rattle.amx_ops.specs.Trace.{Entry, Main, address_of}
 use Rattle.amx_ops.specs.Trace as trace
 use Rattle.gen_agrees.specs.Agrees.{function_of}
 use Rattle.gen_agrees.specs.Shape.{HasShape, HasEntry, names}
-use Rattle.command_parts.specs.declared.options.TheConstants.{MAIN}
-use Rattle.commands.specs.Entry.{public_named, entry_named, address_named}
+use Rattle.host_run.specs.declared.entry.TheConstants.{MAIN}
+use Rattle.host_run.specs.Entry.{public_named, entry_named, address_named}
 use Rattle.pawn_laws.specs.EntryFunction.{function_named}
 
 -- an entry of both, with its address

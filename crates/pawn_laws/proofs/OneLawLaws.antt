@@ -24,7 +24,7 @@ use Rattle.command_parts.specs.Told.{Told, Writes, status_told}
 use Rattle.command_parts.specs.Unread.{IsRead}
 use Rattle.command_parts.specs.ValidFile.{IsValidFile}
 use Rattle.commands.specs.Compiles.{Compiles, CompilesGood, Puts, encoding_of}
-use Rattle.commands.specs.Entry.{address_named}
+use Rattle.host_run.specs.Entry.{address_named}
 use Rattle.commands.specs.Good.{IsFree}
 use Rattle.commands.specs.Names.{Names, run_words}
 use Rattle.commands.specs.Prepared.{IsServed}

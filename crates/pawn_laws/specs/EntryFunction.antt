@@ -2,7 +2,7 @@
 -- first public that is named so.
 use Rattle.std.specs.Prelude.{ℕ, List, Option, bytes_eq, find, option_map, if◌then◌else◌}
 use Rattle.pawn_meaning.specs.Program.{Program, Public}
-use Rattle.command_parts.specs.declared.options.TheConstants.{MAIN}
+use Rattle.host_run.specs.declared.entry.TheConstants.{MAIN}
 
 -- none where there is no main, or no such public
 abbrev pub function_named : Program → List ℕ → Option ℕ

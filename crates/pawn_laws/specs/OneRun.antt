@@ -9,7 +9,7 @@ use Rattle.amx_ops.specs.Trace.{trace_from}
 use Rattle.gen_agrees.specs.AgreesOn.{Meanings}
 use Rattle.run_laws.specs.TraceOf.{IsTraceOf}
 use Rattle.command_parts.specs.Told.{Writes}
-use Rattle.commands.specs.Entry.{address_named}
+use Rattle.host_run.specs.Entry.{address_named}
 use Rattle.commands.specs.Finishes.{run_text, status_of_stop}
 use Rattle.pawn_laws.specs.Calls.{Call, WroteTogether, last_answer}
 

@@ -1,5 +1,5 @@
 use Rattle.command_parts.proofs.WordLaws.{by_verify, by_list, by_run, by_resume, by_go, by_compile}
-use Rattle.command_parts.proofs.WordLaws.{by_assemble, by_measure}
+use Rattle.command_parts.proofs.WordLaws.{by_assemble, by_many, by_measure}
 use Rattle.command_parts.proofs.command_words.read_command.Goals as goal
 
 pub returns-then-eq : goal.returns-then-eq
@@ -38,8 +38,14 @@ returns-then-eq-7 c =
     c.if-eq-3.ensures c.if-eq-4.ensures c.if-eq-5.ensures
     c.if-eq-6.ensures c.if-eq-7.ensures c.read_assemble.ensures
 
-pub returns-else-eq-7 : goal.returns-else-eq-7
-returns-else-eq-7 c =
+pub returns-then-eq-8 : goal.returns-then-eq-8
+returns-then-eq-8 c =
+    by_many c.args.word.now _ c.read_many.result c.if-eq.ensures c.if-eq-2.ensures
+    c.if-eq-3.ensures c.if-eq-4.ensures c.if-eq-5.ensures
+    c.if-eq-6.ensures c.if-eq-7.ensures c.if-eq-8.ensures c.read_many.ensures
+
+pub returns-else-eq-8 : goal.returns-else-eq-8
+returns-else-eq-8 c =
     by_measure c.args.word.now _ c.read_measure.result c.if-eq.ensures c.if-eq-2.ensures
     c.if-eq-3.ensures c.if-eq-4.ensures c.if-eq-5.ensures c.if-eq-6.ensures c.if-eq-7.ensures
-    c.read_measure.ensures
+    c.if-eq-8.ensures c.read_measure.ensures

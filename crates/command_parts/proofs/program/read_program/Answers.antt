@@ -61,10 +61,16 @@ pub returns-clause-answer : goal.returns-clause-answer
 returns-clause-answer g c =
     let file = c.in_ok-digested.digested in
     record {
-      file =
-          read_is c.in_ok-bytes.ensures.answer c.as_slice.ensures
-          (λ b. IsDigested b file.file file.digest) c.in_ok-digested.ensures;
-      natives =
-          subst (λ (held : Option Held). IsScriptNamed held c.args.script.now c.in_ok-script.script)
-          c.in_ok-bytes.ensures.calls.same c.in_ok-script.ensures.answer;
+      good =
+          record {
+            file =
+                read_is c.in_ok-bytes.ensures.answer c.as_slice.ensures
+                (λ b. IsDigested b file.file file.digest) c.in_ok-digested.ensures;
+            natives =
+                subst
+                (λ (held : Option Held). IsScriptNamed held c.args.script.now
+                c.in_ok-script.script)
+                c.in_ok-bytes.ensures.calls.same c.in_ok-script.ensures.answer;
+          };
+      bytes = rw c.as_slice.ensures at c.in_ok-digested.ensures.valid.file;
     }

@@ -1,17 +1,16 @@
 use Rattle.command_parts.proofs.FaultCountLaws.{stop_no_fault}
 use Rattle.command_parts.proofs.ValidLaws.{bytes_no_fault}
-use Rattle.commands.proofs.GoFileLaws.{natives_fit, reads_none, reads_same, run_no_fault}
+use Rattle.commands.proofs.GoFileLaws.{reads_none, reads_same, run_no_fault}
 use Rattle.commands.proofs.goes.run_bytes.Goals as goal
 
-pub run_file-requires-clause-natives : goal.run_file-requires-clause-natives
-run_file-requires-clause-natives g c =
-    natives_fit c.as_slice.result.now c.in-Ok.file c.in-Ok.ensures
+pub run_file-requires-clause-bytes : goal.run_file-requires-clause-bytes
+run_file-requires-clause-bytes g c = c.in-Ok.ensures.file
 
 pub returns-in-Ok-clause-answer : goal.returns-in-Ok-clause-answer
 returns-in-Ok-clause-answer g c =
-    reads_same c.args.prepared.now.compiled.bytes c.as_slice.result.now c.args.prepared.now.script
+    reads_same c.args.prepared.now.compiled.bytes c.as_slice-bytes.result.now c.args.prepared.now.script
     c.args.words.now c.in-Ok.file
-    c.run_file.result c.as_slice.ensures c.in-Ok.ensures c.run_file.ensures
+    c.run_file.result c.as_slice-bytes.ensures c.in-Ok.ensures c.run_file.ensures
 
 pub returns-in-Ok-clause-fault : goal.returns-in-Ok-clause-fault
 returns-in-Ok-clause-fault g c =
@@ -19,9 +18,9 @@ returns-in-Ok-clause-fault g c =
 
 pub returns-in-Err-clause-answer : goal.returns-in-Err-clause-answer
 returns-in-Err-clause-answer g c =
-    reads_none c.args.prepared.now.compiled.bytes c.as_slice.result.now c.args.prepared.now.script
+    reads_none c.args.prepared.now.compiled.bytes c.as_slice-bytes.result.now c.args.prepared.now.script
     c.args.words.now c.in-Err.stop
-    c.tell_stop.result c.as_slice.ensures c.in-Err.ensures c.tell_stop.ensures
+    c.tell_stop.result c.as_slice-bytes.ensures c.in-Err.ensures c.tell_stop.ensures
 
 pub returns-in-Err-clause-fault : goal.returns-in-Err-clause-fault
 returns-in-Err-clause-fault g c =

@@ -1,6 +1,11 @@
 use Rattle.std.proofs.lemmas.Result.{err_from_is_err_and}
 use Rattle.commands.specs.Served.{no_memory}
+use Rattle.amx_format.proofs.LimitLaws.{within_limits}
 use Rattle.commands.proofs.ready_file.serve.Goals as goal
+
+pub bind_natives-requires-clause-natives : goal.bind_natives-requires-clause-natives
+bind_natives-requires-clause-natives c =
+    (within_limits c.args.bytes.now c.args.file c.requires.bytes).natives
 
 pub returns-in_err-bound : goal.returns-in_err-bound
 returns-in_err-bound c =

@@ -1,16 +1,15 @@
 use Rattle.std.proofs.Common.{refl}
 use Rattle.command_parts.proofs.FaultCountLaws.{only_calls, calls_then, calls_stopped}
-use Rattle.commands.proofs.RunLaws.{within}
 use Rattle.commands.proofs.ResumeLaws.{stops_unread, resumes_good}
 use Rattle.commands.proofs.resumes.resume.Goals as goal
 
-pub resume_program-requires-clause-limits : goal.resume_program-requires-clause-limits
-resume_program-requires-clause-limits g c = within _ _ _ c.in-Ok.program c.in-Ok.ensures.answer
+pub resume_program-requires-clause-file : goal.resume_program-requires-clause-file
+resume_program-requires-clause-file g c = c.in-Ok.ensures.answer.bytes
 
 pub returns-in-Ok-clause-answer : goal.returns-in-Ok-clause-answer
 returns-in-Ok-clause-answer g c =
-    resumes_good c.args.words.now _ _ _ _ _ c.in-Ok.program c.resume_program.result c.as_str.ensures
-    c.as_str-2.ensures c.in-Ok.ensures.answer
+    resumes_good c.args.words.now _ _ _ _ _ c.in-Ok.read.program c.resume_program.result c.as_str.ensures
+    c.as_str-2.ensures c.in-Ok.ensures.answer.good
     c.in-Ok.ensures.calls.same c.resume_program.ensures.answer
 
 pub returns-in-Ok-clause-calls : goal.returns-in-Ok-clause-calls

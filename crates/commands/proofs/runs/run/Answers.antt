@@ -1,15 +1,15 @@
 use Rattle.std.proofs.Common.{refl}
 use Rattle.command_parts.proofs.FaultCountLaws.{only_calls, calls_then, calls_stopped}
-use Rattle.commands.proofs.RunLaws.{within, stops_unread, runs_good}
+use Rattle.commands.proofs.RunLaws.{stops_unread, runs_good}
 use Rattle.commands.proofs.runs.run.Goals as goal
 
-pub run_program-requires-clause-limits : goal.run_program-requires-clause-limits
-run_program-requires-clause-limits g c = within _ _ _ c.in-Ok.program c.in-Ok.ensures.answer
+pub run_program-requires-clause-file : goal.run_program-requires-clause-file
+run_program-requires-clause-file g c = c.in-Ok.ensures.answer.bytes
 
 pub returns-in-Ok-clause-answer : goal.returns-in-Ok-clause-answer
 returns-in-Ok-clause-answer g c =
-    runs_good c.args.words.now _ _ _ _ _ c.in-Ok.program c.run_program.result c.as_str.ensures
-    c.as_str-2.ensures c.in-Ok.ensures.answer
+    runs_good c.args.words.now _ _ _ _ _ c.in-Ok.read.program c.run_program.result c.as_str.ensures
+    c.as_str-2.ensures c.in-Ok.ensures.answer.good
     c.in-Ok.ensures.calls.same c.run_program.ensures.answer
 
 pub returns-in-Ok-clause-calls : goal.returns-in-Ok-clause-calls

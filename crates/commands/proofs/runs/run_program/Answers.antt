@@ -4,7 +4,8 @@ use Rattle.command_parts.proofs.FaultCountLaws.{calls_nothing, stop_no_fault}
 use Rattle.pawn_outside.specs.Said.{Said}
 use Rattle.host_script.specs.Ranges.{IsScript}
 use Rattle.command_parts.specs.declared.program.Program.{Program}
-use Rattle.commands.specs.Entry.{IsEntryOf}
+use Rattle.host_run.specs.Entry.{IsEntryOf}
+use Rattle.amx_format.proofs.LimitLaws.{within_limits}
 use Rattle.commands.specs.Prepared.{CanRun}
 use Rattle.commands.specs.Runs.{RunsEntry}
 use Rattle.commands.proofs.PreparedLaws.{prepared_file, prepared_program, is_prepared}
@@ -13,7 +14,9 @@ use Rattle.commands.proofs.RunLaws.{stops_at_entry, stops_at_native}
 use Rattle.commands.proofs.runs.run_program.Goals as goal
 
 pub entry_of-requires : goal.entry_of-requires
-entry_of-requires g c = rw c.runnable.ensures.value c.requires.limits.publics
+entry_of-requires g c =
+    let limits = within_limits c.args.bytes c.args.program.file c.requires.file in
+    rw c.runnable.ensures.value limits.publics
 
 pub start-requires-clause-can : goal.start-requires-clause-can
 start-requires-clause-can g c =

@@ -1,12 +1,10 @@
 use Rattle.command_parts.proofs.FaultCountLaws.{stop_no_fault}
 use Rattle.command_parts.proofs.ValidLaws.{bytes_no_fault}
-use Rattle.commands.proofs.GoFileLaws.{natives_fit}
 use Rattle.commands.proofs.SampleLaws.{sample_no_fault, sample_read, sample_unread}
 use Rattle.commands.proofs.samples.run_bytes.Goals as goal
 
 pub run_plain-requires : goal.run_plain-requires
-run_plain-requires g c =
-    record { natives = natives_fit c.args.bytes.now c.in-Ok.file c.in-Ok.ensures }
+run_plain-requires g c = record { bytes = c.in-Ok.ensures.file }
 
 pub returns-in-Ok-clause-answer : goal.returns-in-Ok-clause-answer
 returns-in-Ok-clause-answer g c =

@@ -1,6 +1,7 @@
 use Rattle.std.proofs.Common.{inl, inr, sym, subst}
 use Rattle.std.proofs.lemmas.Result.{err_from_is_err_and}
 use Rattle.amx_format.specs.Limits.{IsWithinLimits}
+use Rattle.amx_format.proofs.LimitLaws.{within_limits}
 use Rattle.commands.specs.Resumes.{wants_memory}
 use Rattle.commands.proofs.ResumeLaws.{has_all, image_of, none_of, restored_is, unserved}
 use Rattle.commands.proofs.wake.wake.Goals as goal
@@ -25,7 +26,8 @@ ready_at-requires-clause-limits c =
     restored_is c.args.program.file c.args.program.digest c.args.image.now
     c.in_ok-machine.machine c.restore_into.new.machine c.in_ok-at.at
     c.in_ok-machine.ensures c.in_ok-at.ensures.0 c.in_ok-at.ensures.1 in
-    subst IsWithinLimits (sym restored.file) c.requires.limits
+    subst IsWithinLimits (sym restored.file)
+    (within_limits c.args.bytes c.args.program.file c.requires.file)
 
 pub returns-in_err-ready : goal.returns-in_err-ready
 returns-in_err-ready c =

@@ -57,3 +57,7 @@ returns-in-Sample-clause-answer g c = rw c.in-Sample.is c.sample.ensures.answer
 pub returns-in-Usage-clause-answer : goal.returns-in-Usage-clause-answer
 returns-in-Usage-clause-answer g c =
     rw c.in-Usage.is (rw c.as_str-in-Usage.ensures at c.usage.ensures.answer)
+
+pub returns-in-Many-clause-answer : goal.returns-in-Many-clause-answer
+returns-in-Many-clause-answer g c =
+    rw c.in-Many.is (rw c.as_str-in-Many.ensures at c.many.ensures.answer)
