@@ -16,6 +16,7 @@ impl Core {
     ghost use Rattle.amx_step.specs.Turns.{IsTurn};
 
     /// PRI = so many bytes at an address, without sign.
+    #[inline(always)]
     fn load_part(&mut self, at: u32, count: u32, next: u32) -> Turn
         requires { IsCount count }
         ensures { IsTurn (load_part self.old.state at count
@@ -31,6 +32,7 @@ impl Core {
     }
 
     /// So many bytes at an address = the low bytes of a value.
+    #[inline(always)]
     fn store_part(&mut self, at: u32, count: u32, value: i32, next: u32) -> Turn
         requires { IsCount count }
         ensures { IsTurn (store_part self.old.state at count value (at_next next))
@@ -53,7 +55,12 @@ impl Core {
             self.old result self.new }
     {
         let at = self.pri.cast_unsigned();
-        self.load_part(at, count.cast_unsigned(), next)
+        // Compiled for one byte alone, there is no division.
+        if count == 1 {
+            self.load_part(at, 1, next)
+        } else {
+            self.load_part(at, count.cast_unsigned(), next)
+        }
     }
 
     /// 1, 2 or 4 bytes at ALT = low bytes of PRI.
@@ -64,7 +71,11 @@ impl Core {
             self.old result self.new }
     {
         let (at, value) = (self.alt.cast_unsigned(), self.pri);
-        self.store_part(at, count.cast_unsigned(), value, next)
+        if count == 1 {
+            self.store_part(at, 1, value, next)
+        } else {
+            self.store_part(at, count.cast_unsigned(), value, next)
+        }
     }
 
     /// The cell that an address lies in.
