@@ -4,7 +4,6 @@ use pawn_token::Sign;
 
 /// An expression (Language Guide, "Operators and expressions"). Each begins with its first token.
 #[cycle(expression)]
-#[derive(Drop)]
 pub enum Expr {
     /// A number or a character, as a cell.
     Number(At, i32),
@@ -67,4 +66,43 @@ pub enum SizeofOperand {
 pub enum TagofOperand {
     Name(Name),
     Tag(Name),
+}
+
+impl Drop for Expr {
+    #[cycle(expr_drop)]
+    fn drop(self) {
+        match self {
+            Expr::Number(_, _) => {}
+            Expr::Text(_, _bytes, _) | Expr::Name(_, _bytes) => {}
+            Expr::Sizeof(_, _operand) => {}
+            Expr::Tagof(_, _operand) => {}
+            Expr::Call(_, _name, args, _) => drop(args),
+            Expr::Paren(_, x) | Expr::Prefix(_, _, x) | Expr::Postfix(_, _, x) => drop_operand(x),
+            Expr::Tagged(_, _tag, x) => drop_operand(x),
+            Expr::Chain(_, x, links) => {
+                drop_operand(x);
+                drop(links);
+            }
+            Expr::Index(_, x, y)
+            | Expr::Character(_, x, y)
+            | Expr::Binary(_, _, x, y)
+            | Expr::Assign(_, _, x, y) => {
+                drop_operand(x);
+                drop_operand(y);
+            }
+            Expr::Choice(_, x, y, z) => {
+                drop_operand(x);
+                drop_operand(y);
+                drop_operand(z);
+            }
+        }
+    }
+}
+
+/// It has a frame of its own, so that `drop` keeps no room for an operand: as many frames of that
+/// stand as the tree has levels.
+#[inline(never)]
+#[cycle(expr_drop)]
+fn drop_operand(x: Box<Expr>) {
+    drop(Box::into_inner(x))
 }

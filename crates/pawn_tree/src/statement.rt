@@ -6,7 +6,6 @@ use pawn_base::List;
 
 /// A statement (Language Guide, "Statements").
 #[cycle(statement)]
-#[derive(Drop)]
 pub enum Stmt {
     /// `;`
     Empty(At),
@@ -55,4 +54,67 @@ pub enum Case {
 pub struct Range {
     pub first: Expr,
     pub last: Option<Expr>,
+}
+
+impl Drop for Stmt {
+    #[cycle(stmt_drop)]
+    fn drop(self) {
+        match self {
+            Stmt::Empty(_) | Stmt::Break(_) | Stmt::Continue(_) => {}
+            Stmt::Do(_, x) | Stmt::Assert(_, x) => drop(x),
+            Stmt::Return(_, x) | Stmt::Exit(_, x) | Stmt::Sleep(_, x) => drop(x),
+            Stmt::State(_, x, name) => {
+                drop(x);
+                drop(name);
+            }
+            Stmt::Local(_, x) => drop(x),
+            Stmt::Constant(_, x) => drop(x),
+            Stmt::Block(_, list) => drop_block(list),
+            Stmt::If(_, x, s, other) => {
+                drop(x);
+                drop_body(s);
+                if let Some(s) = other {
+                    drop_body(s);
+                }
+            }
+            Stmt::While(_, x, s) | Stmt::DoWhile(_, s, x) => {
+                drop(x);
+                drop_body(s);
+            }
+            Stmt::For(_, first, test, step, s) => {
+                drop(first);
+                drop(test);
+                drop(step);
+                drop_body(s);
+            }
+            Stmt::Switch(_, x, cases, other) => {
+                drop(x);
+                drop_cases(cases);
+                if let Some(s) = other {
+                    drop_body(s);
+                }
+            }
+        }
+    }
+}
+
+// ---- each with a frame of its own, so that `drop` keeps no room for a statement: as many of its
+// frames stand as the tree has levels
+
+#[inline(never)]
+#[cycle(stmt_drop)]
+fn drop_body(s: Box<Stmt>) {
+    drop(Box::into_inner(s))
+}
+
+#[inline(never)]
+#[cycle(stmt_drop)]
+fn drop_block(list: List<Stmt>) {
+    drop(list)
+}
+
+#[inline(never)]
+#[cycle(stmt_drop)]
+fn drop_cases(list: List<Case>) {
+    drop(list)
 }
