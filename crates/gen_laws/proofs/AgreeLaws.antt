@@ -1,6 +1,6 @@
 -- A file's trace agrees with the program's meaning.
-use Rattle.std.proofs.Common.{◌≡◌, ◌+◌, ◌*◌, ◌^◌, ◌<◌, ◌≤◌, ◌⊎◌, inl, inr, ℕ, zero, suc, ℤ, pos}
-use Rattle.std.proofs.Common.{List, [], ◌∷◌, Option, None, Some, length, slice_get, refl, sym}
+use Rattle.std.proofs.Common.{◌≡◌, ◌*◌, ◌^◌, ◌<◌, ◌≤◌, ◌⊎◌, inl, inr, ℕ, ℤ, pos}
+use Rattle.std.proofs.Common.{List, [], ◌∷◌, Option, Some, length, slice_get, refl, sym}
 use Rattle.std.proofs.Common.{subst, arith}
 use Rattle.std.proofs.lemmas.Bool.{cases_lt}
 use Rattle.pawn_cells.specs.Cells.{bits_of}
@@ -17,7 +17,7 @@ use Rattle.amx_ops.specs.declared.amx.Amx.{Amx}
 use Rattle.amx_ops.specs.Runs.{Traced, Steps, Over_by, joined}
 use Rattle.amx_ops.specs.State.{State}
 use Rattle.amx_ops.specs.Moves.{Config, move}
-use Rattle.amx_ops.specs.Trace.{loaded, start_at, begun, trace_by, trace_from}
+use Rattle.amx_ops.specs.Trace.{loaded, begun, trace_by, trace_from}
 use Rattle.amx_ops.proofs.CutLaws.{joined_cut}
 use Rattle.gen_agrees.specs.Agrees.{IsRoom}
 use Rattle.gen_agrees.specs.AgreesOn.{Meanings, Mark, is_cut, AgreesOn}

@@ -1,11 +1,11 @@
 -- A body's code does what its statement means, and goes back to the caller.
-use Rattle.std.proofs.Common.{◌≡◌, ◌+◌, ◌*◌, ◌-◌, ◌≤◌, ℕ, ℤ, pos, List, [], ◌∷◌, Some, true, false}
+use Rattle.std.proofs.Common.{◌≡◌, ◌+◌, ◌*◌, ◌-◌, ◌≤◌, ℕ, ℤ, pos, List, [], ◌∷◌, Some, Bool, true, false}
 use Rattle.std.proofs.Common.{length, sum, slice_get, refl, sym, ◌∙◌, arith}
 use Rattle.pawn_meaning.specs.Program.{Body, Function}
 use Rattle.pawn_meaning.specs.Valid.{IsValidBody, body_scope}
 use Rattle.pawn_meaning.specs.ValidStmts.{slots_made, all_slots_made}
 use Rattle.pawn_meaning.specs.World.{World}
-use Rattle.pawn_meaning.specs.Run.{Gives}
+use Rattle.pawn_meaning.specs.Run.{Outcome, Gives, Stops, More}
 use Rattle.pawn_meaning.specs.Natives.{Held}
 use Rattle.pawn_meaning.specs.Calls.{Way, Through, Broke, Continued, Returned, value_of}
 use Rattle.pawn_meaning.specs.Meaning.{run}
@@ -38,6 +38,10 @@ use Rattle.gen_sim.specs.Flow.{Begins, StmtCode}
 use Rattle.gen_sim.proofs.LoopNodes.{inner_does}
 use Rattle.gen_laws.specs.Fresh.{Fresh, Ready}
 use Rattle.gen_laws.specs.StmtCode.{stmt_items}
+use Rattle.gen_sim.proofs.KindLaws.{Known, known_does}
+use Rattle.gen_sim.proofs.WayLaws.{IsOut}
+use Rattle.gen_laws.specs.GoesOn.{never_goes_on}
+use Rattle.gen_laws.proofs.GoesOnLaws.{never_out}
 use Rattle.gen_laws.proofs.FreshLaws.{makes_none}
 use Rattle.gen_laws.proofs.StmtNodes.{stmt_does}
 use Rattle.gen_laws.specs.BodyCode.{no_exits, body_here, end_code, body_items}
@@ -46,6 +50,18 @@ use Rattle.gen_laws.proofs.ReturnLaws.{returns}
 
 clash : false ≡ true → ⊥
 clash e = cc
+
+-- an instruction starts at the end of a statement
+end_starts : (x : Site) (p : ℕ) (b : Bool) → LieIn x p (end_code b) → Starts x p
+end_starts x p true l = rw l.0 refl
+end_starts x p false l = rw l.0 refl
+
+-- what is known of a run only in one case
+where_never : (o : Outcome Way) (b : Bool) → (b ≡ true → Known o IsOut)
+    → Known o (λ way. b ≡ true → IsOut way)
+where_never (Gives way w) b h = h
+where_never (Stops e w) b h = tt
+where_never (More w) b h = tt
 
 module _ (x : Site) (site : IsSite x) (function : Function) (number : ℕ) (body : Body)
     (there : slice_get function.bodies number ≡ Some body)
@@ -99,11 +115,14 @@ module _ (x : Site) (site : IsSite x) (function : Function) (number : ℕ) (body
     abbrev outer : Outer
     outer = record { loop = inner; body = inner; caller = v; waits = waits; back = back }
 
-    at_end : LieIn x end end_code
-    at_end = lie_rest x at items end_code l
+    at_end : LieIn x end (end_code (never_goes_on body.stmt))
+    at_end = lie_rest x at items (end_code (never_goes_on body.stmt)) l
 
     lies : Lies x at items
-    lies = record { lie = lie_first x at items end_code l; starts = rw at_end.0 refl }
+    lies = record {
+      lie = lie_first x at items (end_code (never_goes_on body.stmt)) l;
+      starts = end_starts x end (never_goes_on body.stmt) at_end;
+    }
 
     high : total inner.high ≡ 3 + length cells + (length waits + total v.high)
     high =
@@ -140,19 +159,21 @@ module _ (x : Site) (site : IsSite x) (function : Function) (number : ℕ) (body
     }
 
     -- through its end 0 is the value
-    finish : (way : Way) (w : World) (c : Config) → Left x no_exits outer inner end way w c
-        → DoesAt x (length (item_cells end_code)) w c (Gives way w)
+    finish : (b : Bool) → LieIn x end (end_code b) → (way : Way) (w : World) (c : Config)
+        → (b ≡ true → IsOut way) → Left x no_exits outer inner end way w c
+        → DoesAt x (length (item_cells (end_code b))) w c (Gives way w)
         (λ z. Back x.program x.room v waits back (value_of z))
-    finish Through w c k =
+    finish true l Through w c out k = elim (out refl) [ ]
+    finish false l Through w c out k =
         let t : State = record c.state { pri = pos 0; cip = end + 4 } in
         let s = stands_on x.program x.room k (end + 4) t refl refl refl refl refl in
-        goes x {d = 1} k (with op.ZeroPri (pos 0)) at_end.0 t refl
+        goes x {d = 1} k (with op.ZeroPri (pos 0)) l.0 t refl
         (returns x v (need function) back held cells waits hold laid starts Through value_of
         (pos 0) refl (end + 4) w (record c { state = t })
-        (record { stands = s; value = refl; fits = small_cell 0 (omega arith) }) at_end.3.0)
-    finish Broke w c k = absurd (clash k.0)
-    finish Continued w c k = absurd (clash k.0)
-    finish (Returned y) w c k =
+        (record { stands = s; value = refl; fits = small_cell 0 (omega arith) }) l.3.0)
+    finish b l Broke w c out k = absurd (clash k.0)
+    finish b l Continued w c out k = absurd (clash k.0)
+    finish b l (Returned y) w c out k =
         gives (move x.amx x.script) (length x.amx.code) x.room
         (grown (move x.amx x.script) (length x.amx.code) x.room (omega arith)
         (stays (move x.amx x.script) (length x.amx.code) x.room c w k.back.stands.said k))
@@ -162,9 +183,17 @@ module _ (x : Site) (site : IsSite x) (function : Function) (number : ℕ) (body
         (run (scene_at x) (with_turns x turns) body.stmt w)
         (λ way. Back x.program x.room v waits back (value_of way))
     body_runs w c s =
-        size_is (move x.amx x.script) (length x.amx.code) x.room (sym (count-append items end_code))
-        (after_it (move x.amx x.script) (length x.amx.code) x.room
-        (run (scene_at x) (with_turns x turns) body.stmt w) (Left x no_exits outer inner end)
+        let all = run (scene_at x) (with_turns x turns) body.stmt w in
+        let never = never_goes_on body.stmt in
+        size_is (move x.amx x.script) (length x.amx.code) x.room
+        (sym (count-append items (end_code never)))
+        (after_it (move x.amx x.script) (length x.amx.code) x.room all
+        (λ way u t. Left x no_exits outer inner end way u t × (never ≡ true → IsOut way))
+        (known_does x (length (item_cells items)) w all (Left x no_exits outer inner end)
+        (λ way. never ≡ true → IsOut way)
+        (where_never all never
+        (λ e. never_out (scene_at x) (with_turns x turns) body.stmt e w))
         (inner_does here none part x turns inner outer (begins w c s) lies
-        (omega (arith, paid, count-append items end_code))
-        all_deep w c s) finish)
+        (omega (arith, paid, count-append items (end_code never)))
+        all_deep w c s))
+        (λ way u t k. finish never at_end way u t k.1 k.0))

@@ -15,25 +15,29 @@ use Rattle.pawn_meaning.specs.Need.{count_of}
 use Rattle.amx_ops.specs.declared.op.Op.TheVariants as op
 use Rattle.gen_sim.specs.Items.{Item, CallOf, past}
 use Rattle.gen_sim.specs.Results.{temporaries_in}
-use Rattle.gen_sim.specs.SimpleCode.{alone, taking, operator_code, const_code, prefix_op}
-use Rattle.gen_sim.specs.SimpleCode.{waiting_code}
-use Rattle.gen_sim.specs.AccessCode.{load_code, store_code, changed_code, stepped_code, turned_code}
+use Rattle.gen_sim.specs.SimpleCode.{alone, taking, const_code, prefix_op}
+use Rattle.gen_sim.specs.AccessCode.{load_code, changed_code, turned_code, address_code}
 use Rattle.gen_sim.specs.DirectCode.{direct_of, value_begin}
-use Rattle.gen_sim.specs.OperandCode.{right_of}
+use Rattle.gen_sim.specs.OperandCode.{right_of, operate_by}
+use Rattle.gen_sim.specs.PushCode.{value_push, place_push, array_push, left_by}
 use Rattle.gen_sim.specs.JumpCode.{other_at, choice_code, truth_code}
-use Rattle.gen_sim.specs.IndexCode.{bounds_code, in_characters}
+use Rattle.gen_sim.specs.BaseCode.{Base, base_of, base_item, index_begin, indexed_code}
+use Rattle.gen_sim.specs.IndexCode.{bounds_code, in_characters, element_code, character_code}
+use Rattle.gen_sim.specs.IndexCode.{rest_code, row_code}
 use Rattle.gen_sim.specs.CallCode.{one_code, two_code, convert_code, give_back_code}
 use Rattle.gen_sim.specs.ChainCode.{link_code, fail_at}
-use Rattle.gen_laws.specs.ExprCode.{known_size, others_at, linked_with, place_items, array_items}
+use Rattle.gen_laws.specs.ExprCode.{known_size, others_at, linked_with, index_items, place_items}
+use Rattle.gen_laws.specs.ExprCode.{array_items}
 use Rattle.gen_laws.specs.ExprCode.{value_items, links_items, arg_items, args_items, effect_items}
 use Rattle.gen_laws.specs.Called.{AreCalled}
 use Rattle.gen_laws.proofs.CalledItems.{both_called, waiting_called, choice_called}
-use Rattle.gen_laws.proofs.CalledItems.{operator_called, load_called, read_called, assign_called}
-use Rattle.gen_laws.proofs.CalledItems.{binary_called, folded_called, update_called, step_called}
+use Rattle.gen_laws.proofs.CalledItems.{load_called, read_called, assign_called}
+use Rattle.gen_laws.proofs.CalledItems.{const_called, operate_called, folded_called, update_called, step_called}
 use Rattle.gen_laws.proofs.CalledItems.{bounds_called, give_back_called, changed_called}
-use Rattle.gen_laws.proofs.CalledItems.{stepped_called, turned_called, two_called}
-use Rattle.gen_laws.proofs.CalledItems.{convert_called, link_called, link_with_called}
+use Rattle.gen_laws.proofs.CalledItems.{turned_called, two_called, convert_called, link_with_called}
+use Rattle.gen_laws.proofs.CalledItems.{address_called}
 use Rattle.gen_laws.proofs.CalledItems.{linked_called, effect_by_called}
+use Rattle.gen_laws.proofs.PushLaws.{pushed_called, left_called}
 
 module _ (C : ℕ → Type 0) (scope : Scope)
     (known : (f : ℕ) (params : List Slot) → Takes scope.program f params → C f) where
@@ -41,32 +45,53 @@ module _ (C : ℕ → Type 0) (scope : Scope)
   if_known count None h = tt
   if_known count (Some f) h = known f _ h
 
-  -- an array, an index, the check of its bounds, and what is done with both
-  indexed_called : (array index : List Item) (size : Option ℕ) (last : List Item)
-      → AreCalled C array → AreCalled C index → AreCalled C last
-      → AreCalled C (waiting_code array index (bounds_code size ++ last))
-  indexed_called array index size last a i l =
-      waiting_called C array index (bounds_code size ++ last) a i
-      (both_called C (bounds_code size) last (bounds_called C size) l)
+  -- an array and an index, and what is done with both
+  indexed_called : (base : Option Base) (array index tail : List Item) → AreCalled C array
+      → AreCalled C index → AreCalled C tail → AreCalled C (indexed_code base array index tail)
+  indexed_called None array index tail a i l = waiting_called C array index tail a i l
+  indexed_called (Some b) array index tail a i l = both_called C index tail i l
+
+  base_called : (base : Option Base) → AreCalled C (base_item base ∷ [])
+  base_called None = tt
+  base_called (Some b) = tt
+
+  element_called : (base : Option Base) (size : Option ℕ) (array index : List Item)
+      → AreCalled C array → AreCalled C index → AreCalled C (element_code base size array index)
+  element_called base size array index a i =
+      indexed_called base array index (bounds_code size ++ base_item base ∷ []) a i
+      (both_called C (bounds_code size) (base_item base ∷ []) (bounds_called C size)
+      (base_called base))
+
+  character_called : (base : Option Base) (size : Option ℕ) (array index : List Item)
+      → AreCalled C array → AreCalled C index → AreCalled C (character_code base size array index)
+  character_called base size array index a i =
+      let last = taking op.AlignPri (pos 1) ∷ base_item base ∷ [] in
+      indexed_called base array index (bounds_code (in_characters size) ++ last) a i
+      (both_called C (bounds_code (in_characters size)) last (bounds_called C (in_characters size))
+      (base_called base))
+
+  place_calls : (p : Scalar) (begin : ℕ) → AreCalled C (index_items scope begin p)
+      → AreCalled C (place_items scope begin p)
+  place_calls p begin h =
+      both_called C (index_items scope begin p) (address_code p) h (address_called C p)
 
   mutual
-    pub place_called : (p : Scalar) → IsValidScalar scope p → (begin : ℕ)
-        → AreCalled C (place_items scope begin p)
-    place_called (Global o) h begin = tt
-    place_called (Own s) h begin = tt
-    place_called (Through s) h begin = tt
-    place_called (Element a e) h begin =
+    pub index_called : (p : Scalar) → IsValidScalar scope p → (begin : ℕ)
+        → AreCalled C (index_items scope begin p)
+    index_called (Global o) h begin = tt
+    index_called (Own s) h begin = tt
+    index_called (Through s) h begin = tt
+    index_called (Element a e) h begin =
         let array = array_items scope begin a in
-        let q = past begin array + 4 in
-        indexed_called array (value_items scope q e) (known_size (extent scope a))
-        (alone op.PopAlt ∷ alone op.Idxaddr ∷ []) (array_called a h.1 begin) (value_called e h.2 q) tt
-    place_called (Char a e) h begin =
+        let q = index_begin (base_of scope a) begin array in
+        element_called (base_of scope a) (known_size (extent scope a)) array (value_items scope q e)
+        (array_called a h.1 begin) (value_called e h.2 q)
+    index_called (Char a e) h begin =
         let array = array_items scope begin a in
-        let q = past begin array + 4 in
-        let size = in_characters (known_size (extent scope a)) in
-        let last = taking op.AlignPri (pos 1) ∷ alone op.PopAlt ∷ alone op.Add ∷ [] in
-        indexed_called array (value_items scope q e) size last (array_called a h.1 begin)
-        (value_called e h.2 q) tt
+        let q = index_begin (base_of scope a) begin array in
+        character_called (base_of scope a) (known_size (extent scope a)) array (value_items scope q
+        e)
+        (array_called a h.1 begin) (value_called e h.2 q)
 
     pub array_called : (a : Array) → IsValidArray scope a → (begin : ℕ)
         → AreCalled C (array_items scope begin a)
@@ -75,33 +100,38 @@ module _ (C : ℕ → Type 0) (scope : Scope)
     array_called (ParamArray s known_here) h begin = tt
     array_called (Row a e) h begin =
         let array = array_items scope begin a in
-        let q = past begin array + 4 in
-        let last =
-        alone op.PopAlt ∷ alone op.Idxaddr ∷ alone op.MoveAlt ∷ alone op.LoadI
-        ∷ alone op.Add ∷ [] in
-        indexed_called array (value_items scope q e) (known_size (extent scope a)) last
-        (array_called a h.1 begin) (value_called e h.2 q) tt
+        let q = index_begin (base_of scope a) begin array in
+        let size = known_size (extent scope a) in
+        let index = value_items scope q e in
+        both_called C (element_code (base_of scope a) size array index) row_code
+        (element_called (base_of scope a) size array index (array_called a h.1 begin)
+        (value_called e h.2 q)) tt
     array_called (From a e) h begin =
         let array = array_items scope begin a in
-        let q = past begin array + 4 in
-        indexed_called array (value_items scope q e) (known_size (extent scope a))
-        (alone op.PopAlt ∷ alone op.Idxaddr ∷ []) (array_called a h.1 begin) (value_called e h.2 q) tt
+        let q = index_begin (base_of scope a) begin array in
+        let size = known_size (extent scope a) in
+        let index = value_items scope q e in
+        both_called C (element_code (base_of scope a) size array index) rest_code
+        (element_called (base_of scope a) size array index (array_called a h.1 begin)
+        (value_called e h.2 q)) tt
 
     pub value_called : (e : Expr) → IsValidExpr scope e → (begin : ℕ)
         → AreCalled C (value_items scope begin e)
-    value_called (Const v) h begin = tt
+    value_called (Const v) h begin = const_called C v
     value_called (Read p) h begin =
-        read_called C (direct_of scope p) p (place_items scope begin p) (place_called p h begin)
+        read_called C (direct_of scope p) p (index_items scope begin p) (index_called p h begin)
     value_called (Unary o e) h begin =
         folded_called C (fold (Unary o e)) _
         (both_called C (value_items scope begin e) (alone (prefix_op o) ∷ [])
         (value_called e h begin) tt)
     value_called (Binary o l r) h begin =
-        let left = value_items scope begin l in
-        let q = past begin left + 4 in
+        let how = right_of scope r in
+        let left = left_by how (value_push scope l) (value_items scope begin l) in
+        let q = past begin left in
         folded_called C (fold (Binary o l r)) _
-        (binary_called C o (right_of scope r) left (value_items scope q r)
-        (value_called l h.0 begin) (value_called r h.1 q))
+        (both_called C left (operate_by o how (value_items scope q r))
+        (left_called C how (value_push scope l) (value_items scope begin l) (value_called l h.0 begin))
+        (operate_called C o how (value_items scope q r) (value_called r h.1 q)))
     value_called (Chain e links) h begin =
         let first = value_items scope begin e in
         let p = past begin first in
@@ -142,29 +172,29 @@ module _ (C : ℕ → Type 0) (scope : Scope)
     value_called (Assign p e) h begin =
         let place = place_items scope begin p in
         let q = value_begin (direct_of scope p) begin place in
-        assign_called C (direct_of scope p) p place (value_items scope q e)
-        (place_called p h.0 begin) (value_called e h.1 q)
+        assign_called C (direct_of scope p) (right_of scope e) p place (value_items scope q e)
+        (place_calls p begin (index_called p h.0 begin)) (value_called e h.1 q)
     value_called (Update p o e) h begin =
         let place = place_items scope begin p in
         let q = value_begin (direct_of scope p) begin place in
-        update_called C (direct_of scope p) p place (value_items scope q e) (operator_code o)
-        (place_called p h.0 begin) (value_called e h.1 q) (operator_called C o)
+        update_called C (direct_of scope p) (right_of scope e) p o place (value_items scope q e)
+        (place_calls p begin (index_called p h.0 begin)) (value_called e h.1 q)
     value_called (UpdateBy p f swapped e convert) h begin =
         let place = place_items scope begin p in
         let q = past begin place + 4 in
         let change = two_code f swapped ++ convert_code convert in
         waiting_called C place (value_items scope q e) (alone op.PopAlt ∷ changed_code p change)
-        (place_called p h.2 begin) (value_called e h.3 q)
+        (place_calls p begin (index_called p h.2 begin)) (value_called e h.3 q)
         (changed_called C p change (both_called C (two_code f swapped) (convert_code convert)
         (two_called C f swapped (known f _ h.0))
         (convert_called C convert (if_known 1 convert h.1))))
     value_called (Step p delta prefix) h begin =
         step_called C (direct_of scope p) p delta prefix (place_items scope begin p)
-        (place_called p h.1 begin)
+        (place_calls p begin (index_called p h.1 begin))
     value_called (StepBy p f prefix) h begin =
         let last = turned_code p (one_code f) prefix in
         both_called C (place_items scope begin p) (alone op.MoveAlt ∷ (load_code p ++ last))
-        (place_called p h.1 begin)
+        (place_calls p begin (index_called p h.1 begin))
         (both_called C (load_code p) last (load_called C p)
         (turned_called C p (one_code f) prefix (known f _ h.0, tt)))
     value_called (Copy to from n) h begin =
@@ -209,21 +239,18 @@ module _ (C : ℕ → Type 0) (scope : Scope)
         let operand = value_items scope (begin + 4) e in
         let link = link_code o f swapped in
         let p = others_at begin operand link in
-        link_with_called C fail operand link links (links_items scope p fail links)
-        (value_called e h.1 (begin + 4)) (link_called C o f swapped (if_known 2 f h.0))
+        link_with_called C fail o f swapped (right_of scope e) operand links
+        (links_items scope p fail links) (value_called e h.1 (begin + 4)) (if_known 2 f h.0)
         (links_called links h.2 fail p)
 
     pub arg_called : (a : Arg) → IsValidArg scope a → (begin : ℕ)
         → AreCalled C (arg_items scope begin a)
     arg_called (Value e) h begin =
-        both_called C (value_items scope begin e) (alone op.PushPri ∷ [])
-        (value_called e h begin) tt
+        pushed_called C (value_push scope e) (value_items scope begin e) (value_called e h begin)
     arg_called (Ref p) h begin =
-        both_called C (place_items scope begin p) (alone op.PushPri ∷ [])
-        (place_called p h.1 begin) tt
+        pushed_called C (place_push scope p) (place_items scope begin p) (place_calls p begin (index_called p h.1 begin))
     arg_called (Whole a) h begin =
-        both_called C (array_items scope begin a) (alone op.PushPri ∷ [])
-        (array_called a h begin) tt
+        pushed_called C (array_push scope a) (array_items scope begin a) (array_called a h begin)
     arg_called (Temp e) h begin =
         both_called C (value_items scope begin e)
         (taking op.Heap (pos 4) ∷ alone op.StorI ∷ alone op.PushAlt ∷ [])
@@ -240,8 +267,8 @@ module _ (C : ℕ → Type 0) (scope : Scope)
   pub effect_called : (e : Expr) → IsValidExpr scope e → (begin : ℕ)
       → AreCalled C (effect_items scope begin e)
   effect_called (Step p delta prefix) h begin =
-      effect_by_called C (direct_of scope p) p delta prefix (place_items scope begin p)
-      (place_called p h.1 begin)
+      effect_by_called C (direct_of scope p) p delta (place_items scope begin p)
+      (place_calls p begin (index_called p h.1 begin))
   effect_called (Seq a b) h begin =
       let first = effect_items scope begin a in
       both_called C first (effect_items scope (past begin first) b) (effect_called a h.0 begin)

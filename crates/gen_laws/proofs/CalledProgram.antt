@@ -1,15 +1,13 @@
 -- Each call in the code of a valid program is of one of its functions.
-use Rattle.std.proofs.Common.{◌≡◌, ◌+◌, ◌^◌, ◌<◌, ℕ, suc, pos, List, [], ◌∷◌, ◌++◌, Option, None}
-use Rattle.std.proofs.Common.{Some, length, false, arith}
+use Rattle.std.proofs.Common.{◌+◌, ◌^◌, ◌<◌, ℕ, suc, List, [], ◌∷◌, Option, None, Some, length}
+use Rattle.std.proofs.Common.{false, arith, Bool, true}
 use Rattle.std.specs.Prelude.{All}
 use Rattle.std.proofs.lemmas.Option.{slice_get_within}
 use Rattle.pawn_meaning.specs.Program.{Slot, Body, Route, Function, Automaton, Program}
 use Rattle.pawn_meaning.specs.Valid.{IsValidBody, IsValidFunction, IsValid}
 use Rattle.pawn_meaning.specs.ValidExprs.{Takes}
-use Rattle.amx_ops.specs.declared.op.Op.TheVariants as op
 use Rattle.gen_sim.specs.Items.{past}
-use Rattle.gen_sim.specs.SimpleCode.{taking}
-use Rattle.gen_laws.specs.Fresh.{Ready}
+use Rattle.gen_laws.specs.GoesOn.{never_goes_on}
 use Rattle.gen_laws.specs.StmtCode.{stmt_items}
 use Rattle.gen_laws.specs.BodyCode.{body_here, end_code, body_items}
 use Rattle.gen_laws.specs.RouteCode.{bodies_items, bodies_at}
@@ -28,13 +26,18 @@ module _ (program : Program) (valid : IsValid program)
   known : (f : ℕ) (params : List Slot) → Takes program f params → IsFunction f
   known f params h = slice_get_within program.functions f h.function h.there
 
+  end_called : (b : Bool) → AreCalled IsFunction (end_code b)
+  end_called true = tt
+  end_called false = tt
+
   body_called : (params : List Slot) (body : Body) → IsValidBody program params body → (begin : ℕ)
       → AreCalled IsFunction (body_items program params begin body)
   body_called params body sound begin =
       let here = body_here program params body in
-      both_called IsFunction (stmt_items here begin body.stmt) end_code
+      both_called IsFunction (stmt_items here begin body.stmt) (end_code (never_goes_on body.stmt))
       (stmt_called IsFunction body.stmt here false sound.stmt
-      (record { valid = valid; few = few; slots_are = sound.slots }) known begin) tt
+      (record { valid = valid; few = few; slots_are = sound.slots }) known begin)
+      (end_called (never_goes_on body.stmt))
 
   bodies_called : (params : List Slot) (bodies : List Body)
       → All (IsValidBody program params) bodies → (begin : ℕ)

@@ -1,5 +1,5 @@
 -- The calls in the code of a valid statement.
-use Rattle.std.proofs.Common.{◌+◌, ◌*◌, ℕ, pos, List, [], ◌∷◌, ◌++◌, Bool, true, false, Option}
+use Rattle.std.proofs.Common.{◌+◌, ℕ, pos, List, [], ◌∷◌, ◌++◌, Bool, true, false, Option}
 use Rattle.std.proofs.Common.{None, Some}
 use Rattle.std.specs.Prelude.{IfSome}
 use Rattle.pawn_cells.specs.Cells.{cell_of}
@@ -13,13 +13,16 @@ use Rattle.pawn_meaning.specs.ValidExprs.{Takes, IsValidPerhaps}
 use Rattle.pawn_meaning.specs.ValidStmts.{slots_made, slots_made_by, IsValidStmt, IsValidElse}
 use Rattle.pawn_meaning.specs.ValidStmts.{AreValidCases, AreValidStmts}
 use Rattle.amx_ops.specs.declared.op.Op.TheVariants as op
-use Rattle.gen_sim.specs.Items.{Item, CallOf, past}
+use Rattle.gen_sim.specs.Items.{Item, past}
 use Rattle.gen_sim.specs.SimpleCode.{alone, taking}
-use Rattle.gen_sim.specs.JumpCode.{jump_to, other_at, choice_code}
+use Rattle.gen_sim.specs.JumpCode.{jump_to, other_at, end_at, choice_code}
+use Rattle.gen_laws.specs.BranchItems.{jump_items, perhaps_jumps}
+use Rattle.gen_laws.proofs.BranchForms.{jump_called}
+use Rattle.gen_laws.specs.GoesOn.{dropped_by}
 use Rattle.gen_laws.specs.ExprCode.{value_items}
 use Rattle.gen_sim.specs.Here.{Here, behind, within}
-use Rattle.gen_sim.specs.FlowCode.{leave_code}
-use Rattle.gen_sim.specs.LoopCode.{body_at, step_at, loop_end, loop_exits, loop_code, test_at}
+use Rattle.gen_sim.specs.FlowCode.{leave_code, else_at}
+use Rattle.gen_sim.specs.LoopCode.{body_at, step_at, loop_test, loop_exits, loop_code, test_at}
 use Rattle.gen_sim.specs.LoopCode.{until_end, until_exits, until_code}
 use Rattle.gen_sim.specs.StateCode.{entry_of, enter_code, switched_code}
 use Rattle.gen_laws.specs.SwitchCode.{cases_at, table_code}
@@ -31,17 +34,16 @@ use Rattle.gen_laws.proofs.FreshLaws.{state_takes}
 use Rattle.gen_laws.specs.Called.{AreCalled}
 use Rattle.gen_laws.proofs.CalledItems.{both_called, choice_called, leave_called}
 use Rattle.gen_laws.proofs.CalledExprs.{value_called, effect_called}
+use Rattle.gen_laws.proofs.PushLaws.{pushed_called}
+use Rattle.gen_sim.specs.PushCode.{value_push}
 
 module _ (C : ℕ → Type 0) where
   -- ---- loops
 
-  loop_called : (top : ℕ) (test body step : List Item) → AreCalled C test → AreCalled C body
-      → AreCalled C step → AreCalled C (loop_code top test body step)
+  loop_called : (top : ℕ) (test body step : List Item) → AreCalled C test
+      → AreCalled C body → AreCalled C step → AreCalled C (loop_code top test body step)
   loop_called top test body step h g k =
-      let back = jump_to op.Jump top ∷ [] in
-      both_called C test (jump_to op.Jzer (loop_end top test body step) ∷ (body ++ (step ++ back)))
-      h
-      (both_called C body (step ++ back) g (both_called C step back k tt))
+      both_called C body (step ++ test) g (both_called C step test k h)
 
   until_called : (top : ℕ) (body test : List Item) → AreCalled C body → AreCalled C test
       → AreCalled C (until_code top body test)
@@ -68,6 +70,11 @@ module _ (C : ℕ → Type 0) where
     condition_called Absent h begin = tt
     condition_called (Present e) h begin = value_called C scope known e h begin
 
+    perhaps_called : (e : Perhaps) → IsValidPerhaps scope e → (when : Bool) (to begin : ℕ)
+        → AreCalled C (perhaps_jumps scope when to begin e)
+    perhaps_called Absent h when to begin = tt
+    perhaps_called (Present e) h when to begin = jump_called C scope known e h when to begin
+
     step_called : (e : Perhaps) → IsValidPerhaps scope e → (begin : ℕ)
         → AreCalled C (step_items scope begin e)
     step_called Absent h begin = tt
@@ -83,30 +90,40 @@ module _ (C : ℕ → Type 0) where
         → AreCalled C (stmt_items here begin s)
     stmt_called (Block stmts) here in_list h r known begin =
         both_called C (stmts_items here begin stmts)
-        (leave_code here.scope.slots (slots_made_by stmts))
+        (leave_code here.scope.slots (dropped_by stmts))
         (stmts_called stmts here h r known begin)
-        (leave_called C here.scope.slots (slots_made_by stmts))
+        (leave_called C here.scope.slots (dropped_by stmts))
     stmt_called (Local s e) here in_list h r known begin =
-        both_called C (value_items here.scope begin e) (alone op.PushPri ∷ [])
-        (value_called C here.scope known e h.3 begin) tt
+        pushed_called C (value_push here.scope e) (value_items here.scope begin e)
+        (value_called C here.scope known e h.3 begin)
     stmt_called (LocalArray s o) here in_list h r known begin = tt
     stmt_called (Do e) here in_list h r known begin =
         effect_called C here.scope known e h begin
-    stmt_called (If c a b) here in_list h r known begin =
-        let condition = value_items here.scope begin c in
-        let p = past begin condition in
-        let first = stmt_items here (p + 8) a in
-        let second = else_items here (other_at p first) b in
-        both_called C condition (choice_code p first second)
-        (value_called C here.scope known c h.0 begin)
-        (choice_called C p first second (stmt_called a here false h.1 r known (p + 8))
-        (else_called b here h.2 r known (other_at p first)))
+    stmt_called (If c a no_else) here in_list h r known begin =
+        let p = past begin (jump_items here.scope false 0 begin c) in
+        let first = stmt_items here p a in
+        let end = past p first in
+        both_called C (jump_items here.scope false end begin c) first
+        (jump_called C here.scope known c h.0 false end begin)
+        (stmt_called a here false h.1 r known p)
+    stmt_called (If c a (otherwise b)) here in_list h r known begin =
+        let p = past begin (jump_items here.scope false 0 begin c) in
+        let first = stmt_items here p a in
+        let other = else_at p first in
+        let second = stmt_items here other b in
+        let condition = jump_items here.scope false other begin c in
+        let jump = jump_to op.Jump (past (else_at (past begin condition) first) second) in
+        both_called C condition (first ++ (jump ∷ second))
+        (jump_called C here.scope known c h.0 false other begin)
+        (both_called C first (jump ∷ second) (stmt_called a here false h.1 r known p)
+        (stmt_called b here false h.2 r known other))
     stmt_called (While c s) here in_list h r known begin =
-        let test = value_items here.scope begin c in
-        let at = body_at begin test in
-        let exits = loop_exits begin test (stmt_items (within unknown here) at s) [] in
+        let at = body_at begin in
+        let first = stmt_items (within unknown here) at s in
+        let test = jump_items here.scope true at (loop_test begin first []) c in
+        let exits = loop_exits begin test first [] in
         loop_called begin test (stmt_items (within exits here) at s) []
-        (value_called C here.scope known c h.0 begin)
+        (jump_called C here.scope known c h.0 true at (loop_test begin first []))
         (stmt_called s (within exits here) false h.1 r known at) tt
     stmt_called (DoWhile s c) here in_list h r known begin =
         let at = begin + 4 in
@@ -122,18 +139,18 @@ module _ (C : ℕ → Type 0) where
         let zeroth = stmts_items here begin init in
         let top = past begin zeroth in
         let leave = leave_code here.scope.slots made in
-        let test = condition_items inner.scope top c in
-        let at = body_at top test in
+        let at = body_at top in
         let first = stmt_items (within unknown inner) at s in
-        let more = step_items inner.scope (step_at top test first) step in
+        let more = step_items inner.scope (step_at top first) step in
+        let test = perhaps_jumps inner.scope true at (loop_test top first more) c in
         let exits = loop_exits top test first more in
         both_called C zeroth (for_items inner top c step s ++ leave)
         (stmts_called init here h.0 r known begin)
         (both_called C (for_items inner top c step s) leave
         (loop_called top test (stmt_items (within exits inner) at s) more
-        (condition_called inner.scope known c h.1 top)
+        (perhaps_called inner.scope known c h.1 true at (loop_test top first more))
         (stmt_called s (within exits inner) false h.3 r known at)
-        (step_called inner.scope known step h.2 (step_at top test first)))
+        (step_called inner.scope known step h.2 (step_at top first)))
         (leave_called C here.scope.slots made))
     stmt_called (Switch e cases d) here in_list h r known begin =
         let value = value_items here.scope begin e in

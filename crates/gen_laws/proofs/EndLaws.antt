@@ -1,6 +1,6 @@
 -- Where the code of a statement ends doesn't depend on where its exits are, nor that of cases on
 -- where the whole ends.
-use Rattle.std.proofs.Common.{◌≡◌, ◌+◌, ◌*◌, ℕ, ℤ, pos, List, [], ◌∷◌, ◌++◌, true, length, refl}
+use Rattle.std.proofs.Common.{◌≡◌, ◌+◌, ◌*◌, ℕ, ℤ, List, [], ◌∷◌, ◌++◌, true, false, length, refl}
 use Rattle.std.proofs.Common.{sym, ap, ◌∙◌, arith, length-append}
 use Rattle.pawn_meaning.specs.Program.{Stmt, Block, Local, LocalArray, Do, If, While, DoWhile, For}
 use Rattle.pawn_meaning.specs.Program.{Switch, Return, Break, Continue, Exit, Sleep, Assert, State}
@@ -11,14 +11,17 @@ use Rattle.amx_ops.specs.declared.op.Op.TheVariants as op
 use Rattle.gen_sim.specs.Items.{Item, size, past}
 use Rattle.gen_sim.proofs.ItemLaws.{past-append}
 use Rattle.gen_sim.specs.JumpCode.{jump_to, other_at, end_at, choice_code}
+use Rattle.gen_laws.specs.BranchItems.{jump_items}
+use Rattle.gen_laws.proofs.BranchForms.{jump_ends}
+use Rattle.gen_laws.specs.GoesOn.{dropped_by}
 use Rattle.gen_laws.specs.ExprCode.{value_items}
-use Rattle.gen_sim.specs.Here.{Exits, Here, behind, within}
-use Rattle.gen_sim.specs.FlowCode.{leave_code}
-use Rattle.gen_sim.specs.LoopCode.{body_at, test_at, loop_exits, until_exits}
-use Rattle.gen_laws.specs.SwitchCode.{ranges_table, cases_values, table_item, cases_at, case_code}
+use Rattle.gen_sim.specs.Here.{Exits, Here, behind}
+use Rattle.gen_sim.specs.FlowCode.{leave_code, else_at}
+use Rattle.gen_sim.specs.LoopCode.{body_at, loop_exits, until_exits}
+use Rattle.gen_laws.specs.SwitchCode.{ranges_table, cases_values, table_item, cases_at}
 use Rattle.gen_laws.specs.SwitchCode.{table_code}
 use Rattle.gen_laws.proofs.TableLaws.{length_ranges}
-use Rattle.gen_laws.specs.ClosedCode.{closed_switch}
+use Rattle.gen_laws.specs.ClosedCode.{closed_if, closed_only, closed_switch}
 use Rattle.gen_laws.specs.StmtCode.{stmt_items, for_items, else_items, cases_items, cases_table}
 use Rattle.gen_laws.specs.StmtCode.{stmts_items}
 
@@ -31,12 +34,34 @@ pub choice_past : (p : ℕ) (first second : List Item)
 choice_past p first second =
     past-append (p + 8) first (jump_to op.Jump (end_at p first second) ∷ second)
 
+-- a condition ends at an address wherever its jumps lead, and the part behind it where it does
+module _ (q : ℕ) (condition : ℕ → List Item)
+    (same : (m n : ℕ) → past q (condition m) ≡ past q (condition n)) where
+  only_past : (first : ℕ → List Item) → past q (closed_only q condition first)
+      ≡ past (past q (condition 0)) (first (past q (condition 0)))
+  only_past first =
+      let one = first (past q (condition 0)) in
+      let to = past (past q (condition 0)) one in
+      past-append q (condition to) one ∙ ap (λ p. past p one) (same to 0)
+
+  if_past : (first second : ℕ → List Item) → let p = past q (condition 0) in
+      let at = else_at p (first p) in past q (closed_if q condition first second) ≡ past at (second at)
+  if_past first second =
+      let p = past q (condition 0) in
+      let one = first p in
+      let at = else_at p one in
+      let two = second at in
+      let jump = jump_to op.Jump (past (else_at (past q (condition at)) one) two) in
+      past-append q (condition at) (one ++ (jump ∷ two))
+      ∙ past-append (past q (condition at)) one (jump ∷ two)
+      ∙ ap (λ z. past (else_at z one) two) (same at 0)
+
 -- the same exits of a loop, whose bodies end alike
 pub loop_alike : (top : ℕ) (test one two more : List Item)
-    → past (body_at top test) one ≡ past (body_at top test) two
+    → past (body_at top) one ≡ past (body_at top) two
     → loop_exits top test one more ≡ loop_exits top test two more
 loop_alike top test one two more e =
-    ap (λ q. record { looped = true; broke = past q more + 8; continued = q }) e
+    ap (λ q. record { looped = true; broke = past (past q more) test; continued = q }) e
 
 pub until_alike : (top : ℕ) (one two more : List Item) → past (top + 4) one ≡ past (top + 4) two
     → until_exits top one more ≡ until_exits top two more
@@ -88,25 +113,28 @@ mutual
   pub stmt_ends : (s : Stmt) (here : Here) (e f : Exits) (q : ℕ)
       → past q (stmt_items (out e here) q s) ≡ past q (stmt_items (out f here) q s)
   stmt_ends (Block stmts) here e f q =
-      let leave = leave_code here.scope.slots (slots_made_by stmts) in
+      let leave = leave_code here.scope.slots (dropped_by stmts) in
       past-append q (stmts_items (out e here) q stmts) leave
       ∙ ap (λ z. past z leave) (stmts_end stmts here e f q)
       ∙ sym (past-append q (stmts_items (out f here) q stmts) leave)
   stmt_ends (Local s v) here e f q = refl
   stmt_ends (LocalArray s o) here e f q = refl
   stmt_ends (Do v) here e f q = refl
-  stmt_ends (If c a b) here e f q =
-      let condition = value_items here.scope q c in
-      let p = past q condition in
-      let one = stmt_items (out e here) (p + 8) a in
-      let two = stmt_items (out f here) (p + 8) a in
-      past-append q condition (choice_code p one (else_items (out e here) (other_at p one) b))
-      ∙ choice_past p one (else_items (out e here) (other_at p one) b)
-      ∙ else_ends b here e f (other_at p one)
-      ∙ ap (λ z. past (z + 8) (else_items (out f here) (z + 8) b)) (stmt_ends a here e f (p + 8))
-      ∙ sym (choice_past p two (else_items (out f here) (other_at p two) b))
-      ∙ sym (past-append q condition
-      (choice_code p two (else_items (out f here) (other_at p two) b)))
+  stmt_ends (If c a no_else) here e f q =
+      let condition : ℕ → List Item = λ to. jump_items here.scope false to q c in
+      let same = jump_ends here.scope c false q in
+      only_past q condition same (λ z. stmt_items (out e here) z a)
+      ∙ stmt_ends a here e f (past q (condition 0))
+      ∙ sym (only_past q condition same (λ z. stmt_items (out f here) z a))
+  stmt_ends (If c a (otherwise b)) here e f q =
+      let condition : ℕ → List Item = λ to. jump_items here.scope false to q c in
+      let same = jump_ends here.scope c false q in
+      let p = past q (condition 0) in
+      if_past q condition same (λ z. stmt_items (out e here) z a) (λ z. stmt_items (out e here) z b)
+      ∙ stmt_ends b here e f (else_at p (stmt_items (out e here) p a))
+      ∙ ap (λ z. past (z + 8) (stmt_items (out f here) (z + 8) b)) (stmt_ends a here e f p)
+      ∙ sym (if_past q condition same (λ z. stmt_items (out f here) z a)
+      (λ z. stmt_items (out f here) z b))
   stmt_ends (While c s) here e f q = refl
   stmt_ends (DoWhile s c) here e f q = refl
   stmt_ends (For first c step s) here e f q =

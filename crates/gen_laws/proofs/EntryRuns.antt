@@ -1,11 +1,11 @@
 -- From a function's address on, a file does what the program means.
-use Rattle.std.proofs.Common.{◌≡◌, ◌+◌, ◌*◌, ◌^◌, ◌<◌, ◌≤◌, ℕ, zero, suc, ℤ, pos, List, [], ◌∷◌}
-use Rattle.std.proofs.Common.{◌++◌, Option, None, Some, length, sum, slice_get, refl, sym, ap}
+use Rattle.std.proofs.Common.{◌≡◌, ◌+◌, ◌≤◌, ℕ, suc, ℤ, pos, List, [], ◌∷◌}
+use Rattle.std.proofs.Common.{Option, None, Some, length, slice_get, refl, sym, ap}
 use Rattle.std.proofs.Common.{subst, ◌∙◌, arith}
 use Rattle.host_script.specs.declared.event.End.TheVariants as end
 use Rattle.pawn_meaning.specs.Program.{Slot, Function}
 use Rattle.pawn_meaning.specs.World.{World, first_world}
-use Rattle.pawn_meaning.specs.Run.{Stops, Run, then_do, stop}
+use Rattle.pawn_meaning.specs.Run.{Stops, stop}
 use Rattle.pawn_meaning.specs.Calls.{enter_function}
 use Rattle.pawn_meaning.specs.Told.{entry_or_stray, without_params, entry_run, whole}
 use Rattle.pawn_meaning.proofs.Grows.{same_later}
@@ -16,7 +16,6 @@ use Rattle.amx_ops.specs.Runs as runs
 use Rattle.amx_ops.specs.Moves.{Config, move}
 use Rattle.gen_sim.specs.Does.{nothing}
 use Rattle.gen_sim.proofs.Sim.{stops, ends_one, in_turn, wider}
-use Rattle.gen_sim.specs.View.{kept, used}
 use Rattle.gen_sim.specs.Pieces.{total}
 use Rattle.gen_sim.specs.Stands.{Stands, With}
 use Rattle.gen_sim.specs.Site.{Site, Starts, DoesAt, scene_at}

@@ -1,5 +1,6 @@
 -- The code of each valid expression leads to itself or to its end.
-use Rattle.std.proofs.Common.{◌+◌, ◌*◌, ℕ, pos, List, [], ◌∷◌, ◌++◌, Option, length, refl}
+use Rattle.std.proofs.Common.{◌+◌, ◌*◌, ℕ, pos, List, [], ◌∷◌, ◌++◌, Bool, Option, length, refl}
+use Rattle.pawn_cells.specs.declared.operator.Comparison.{Comparison}
 use Rattle.pawn_meaning.specs.Program.{Scalar, Global, Own, Through, Element, Char, Array, Object}
 use Rattle.pawn_meaning.specs.Program.{SlotArray, ParamArray, Row, From, Expr, Const, Read, Unary}
 use Rattle.pawn_meaning.specs.Program.{Binary, Chain, And, Or, Cond, Assign, Update, UpdateBy, Step}
@@ -14,75 +15,39 @@ use Rattle.pawn_meaning.specs.Need.{count_of}
 use Rattle.amx_ops.specs.declared.op.Op.TheVariants as op
 use Rattle.gen_sim.specs.Items.{Item, past}
 use Rattle.gen_sim.specs.Results.{temporaries_in}
-use Rattle.gen_sim.specs.SimpleCode.{alone, taking, operator_code, const_code, prefix_op}
-use Rattle.gen_sim.specs.AccessCode.{load_code, store_code, changed_code, stepped_code, turned_code}
+use Rattle.gen_sim.specs.SimpleCode.{alone, taking, const_code, prefix_op}
+use Rattle.gen_sim.specs.AccessCode.{load_code, changed_code, turned_code, address_code}
 use Rattle.gen_sim.specs.JumpCode.{other_at, choice_code, truth_code}
 use Rattle.gen_sim.specs.PlaceItems.{object_address, slot_offset, object_code, slot_code}
 use Rattle.gen_sim.specs.PlaceItems.{through_code}
-use Rattle.gen_sim.specs.IndexCode.{bounds_code, in_characters}
+use Rattle.gen_sim.specs.BaseCode.{base_of, index_begin}
+use Rattle.gen_sim.specs.IndexCode.{element_code, rest_code, row_code}
 use Rattle.gen_sim.specs.CallCode.{one_code, two_code, convert_code}
-use Rattle.gen_sim.specs.ChainCode.{link_code, last_link_code, fail_at}
+use Rattle.gen_sim.specs.ChainCode.{link_code, last_link_by, fail_at}
 use Rattle.gen_laws.specs.ExprCode.{known_size, link_with, others_at, linked_with, place_items}
+use Rattle.gen_laws.specs.ExprCode.{index_items}
 use Rattle.gen_laws.specs.ExprCode.{array_items, value_items, links_items, arg_items, args_items}
 use Rattle.gen_laws.specs.ExprCode.{effect_items}
 use Rattle.gen_sim.specs.DirectCode.{direct_of, value_begin}
-use Rattle.gen_sim.specs.OperandCode.{right_of}
-use Rattle.gen_laws.proofs.ExprNodes.{links_end}
-use Rattle.gen_laws.proofs.Shapes.{direct_fine, read_closed, assign_closed, update_closed, step_closed}
-use Rattle.gen_laws.proofs.Shapes.{right_fine, binary_closed, folded_closed, effects_fine}
-use Rattle.gen_laws.proofs.Shapes.{effect_by_closed}
+use Rattle.gen_sim.specs.OperandCode.{right_of, operate_by, Right}
+use Rattle.gen_sim.specs.PushCode.{value_push, left_by}
+use Rattle.gen_laws.proofs.LinkEnds.{links_end}
+use Rattle.gen_laws.proofs.Shapes.{base_fine, element_closed, character_closed, row_fine, rest_fine}
+use Rattle.gen_laws.proofs.Shapes.{own_closed, part_closed, both_closed}
+use Rattle.gen_laws.proofs.Shapes.{choice_closed, truth_fine, const_fine, object_fine, slot_fine}
+use Rattle.gen_laws.proofs.Shapes.{through_fine, temporary_closed, call_closed, native_closed}
+use Rattle.gen_laws.proofs.Shapes.{AreLinked, closed_linked, middle_link_linked, ended_closed}
+use Rattle.gen_laws.proofs.DirectShapes.{direct_fine, read_closed, assign_closed, update_closed}
+use Rattle.gen_laws.proofs.DirectShapes.{step_closed, right_fine, operate_closed, folded_closed}
+use Rattle.gen_laws.proofs.DirectShapes.{effects_fine, IsFineRight, effect_by_closed, quiet_fine}
+use Rattle.gen_laws.proofs.DirectShapes.{last_by_closed}
+use Rattle.gen_laws.proofs.PushLaws.{value_push_closed, left_closed, place_push_closed}
+use Rattle.gen_laws.proofs.PushLaws.{array_push_closed}
 use Rattle.gen_laws.specs.Fine.{AreFine, AreClosed}
 use Rattle.gen_laws.proofs.FineLaws.{Nowhere, fine_both, closed_both}
-use Rattle.gen_laws.proofs.FineItems.{alone_fine, byte_fine, length_fine, pop_alt, prefix_fine}
-use Rattle.gen_laws.proofs.FineItems.{operator_fine, load_fine, store_fine, changed_fine}
-use Rattle.gen_laws.proofs.FineItems.{stepped_fine, turned_fine, bounds_fine, one_fine, two_fine}
-use Rattle.gen_laws.proofs.FineItems.{convert_fine, link_fine}
-use Rattle.gen_laws.proofs.Shapes.{own_closed, part_closed, waiting_closed, both_closed}
-use Rattle.gen_laws.proofs.Shapes.{choice_closed, truth_fine, const_fine, object_fine, slot_fine}
-use Rattle.gen_laws.proofs.Shapes.{through_fine, pushed_closed, temporary_closed, call_closed}
-use Rattle.gen_laws.proofs.Shapes.{native_closed, AreLinked, closed_linked, last_link_closed}
-use Rattle.gen_laws.proofs.Shapes.{middle_link_linked, ended_closed}
-
--- ---- what is done with an index
-
-module _ (natives : ℕ) (size : Option ℕ) where
-  element_tail : AreFine natives Nowhere
-      (bounds_code size ++ (alone op.PopAlt ∷ alone op.Idxaddr ∷ []))
-  element_tail =
-      fine_both natives Nowhere (bounds_code size) (alone op.PopAlt ∷ alone op.Idxaddr ∷ [])
-      (bounds_fine natives size)
-      (pop_alt natives Nowhere, (alone_fine natives Nowhere op.Idxaddr refl refl, tt))
-
-  character_tail : AreFine natives Nowhere
-      (bounds_code (in_characters size)
-      ++ (taking op.AlignPri (pos 1) ∷ alone op.PopAlt ∷ alone op.Add ∷ []))
-  character_tail =
-      fine_both natives Nowhere (bounds_code (in_characters size))
-      (taking op.AlignPri (pos 1) ∷ alone op.PopAlt ∷ alone op.Add ∷ [])
-      (bounds_fine natives (in_characters size)) (
-        byte_fine natives Nowhere op.AlignPri refl refl,
-        (pop_alt natives Nowhere, (alone_fine natives Nowhere op.Add refl refl, tt)),
-      )
-
-  row_tail : AreFine natives Nowhere
-      (bounds_code size ++ (alone op.PopAlt ∷ alone op.Idxaddr ∷ alone op.MoveAlt ∷ alone op.LoadI
-      ∷ alone op.Add ∷ []))
-  row_tail =
-      fine_both natives Nowhere (bounds_code size)
-      (alone op.PopAlt ∷ alone op.Idxaddr ∷ alone op.MoveAlt ∷ alone op.LoadI ∷ alone op.Add
-      ∷ []) (bounds_fine natives size) (
-        pop_alt natives Nowhere,
-        (
-          alone_fine natives Nowhere op.Idxaddr refl refl,
-          (
-            alone_fine natives Nowhere op.MoveAlt refl refl,
-            (
-              alone_fine natives Nowhere op.LoadI refl refl,
-              (alone_fine natives Nowhere op.Add refl refl, tt),
-            ),
-          ),
-        ),
-      )
+use Rattle.gen_laws.proofs.FineItems.{alone_fine, length_fine, prefix_fine, load_fine, changed_fine}
+use Rattle.gen_laws.proofs.FineItems.{turned_fine, one_fine, two_fine, convert_fine, link_fine}
+use Rattle.gen_laws.proofs.FineItems.{address_fine}
 
 copy_tail : (natives n : ℕ) → AreFine natives Nowhere
     (taking op.Movs (pos (4 * n)) ∷ alone op.ZeroPri ∷ [])
@@ -104,15 +69,18 @@ module _ (scope : Scope) where
 
   -- ---- links
 
-  link_closed_by : (begin fail : ℕ) (operand link : List Item) (links : Links) (others : List Item)
-      → AreClosed natives (begin + 4) operand → AreFine natives Nowhere link
-      → AreLinked natives fail (others_at begin operand link) others
-      → AreLinked natives fail begin (link_with fail operand link links others)
-  link_closed_by begin fail operand link no_links others h g k =
-      closed_linked natives fail begin (last_link_code operand link)
-      (last_link_closed natives begin operand link h g)
-  link_closed_by begin fail operand link (then_link o e f swapped links) others h g k =
-      middle_link_linked natives fail begin operand link others h g k
+  link_closed_by : (begin fail : ℕ) (o : Comparison) (f : Option ℕ) (swapped : Bool) (how : Right)
+      → IsFineRight natives how → (operand : List Item) (links : Links) (others : List Item)
+      → AreClosed natives (begin + 4) operand
+      → AreLinked natives fail (others_at begin operand (link_code o f swapped)) others
+      → AreLinked natives fail begin (link_with fail o f swapped how operand links others)
+  link_closed_by begin fail o f swapped how t operand no_links others h k =
+      closed_linked natives fail begin (last_link_by o f swapped how operand)
+      (last_by_closed natives begin o f swapped how t operand h)
+  link_closed_by begin fail o f swapped how t operand (then_link o2 e2 f2 swapped2 links) others h
+      k =
+      middle_link_linked natives fail begin operand (link_code o f swapped) others h
+      (link_fine natives o f swapped) k
 
   abbrev FirstForm : ℕ → Links → Type 0
   FirstForm begin no_links = Unit {0}
@@ -125,8 +93,8 @@ module _ (scope : Scope) where
       (links_items scope p (fail_at (past p (links_items scope p 0 links))) links))
   chain_closed_by p no_links part h = tt
   chain_closed_by p (then_link o e f swapped no_links) part h =
-      last_link_closed natives p (value_items scope (p + 4) e) (link_code o f swapped) part
-      (link_fine natives o f swapped)
+      last_by_closed natives p o f swapped (right_of scope e) (right_fine natives scope e)
+      (value_items scope (p + 4) e) part
   chain_closed_by p (then_link o e f swapped (then_link o2 e2 f2 swapped2 links)) part h =
       let all = then_link o e f swapped (then_link o2 e2 f2 swapped2 links) in
       let q = past p (links_items scope p 0 all) in
@@ -135,26 +103,34 @@ module _ (scope : Scope) where
 
   -- ---- each node
 
+  place_form : (p : Scalar) (begin : ℕ) → AreClosed natives begin (index_items scope begin p)
+      → AreClosed natives begin (place_items scope begin p)
+  place_form p begin part =
+      part_closed natives begin (index_items scope begin p) (address_code p) part
+      (address_fine natives p)
+
   mutual
-    pub place_closed : (p : Scalar) → IsValidScalar scope p → (begin : ℕ)
-        → AreClosed natives begin (place_items scope begin p)
-    place_closed (Global o) h begin =
+    pub index_closed : (p : Scalar) → IsValidScalar scope p → (begin : ℕ)
+        → AreClosed natives begin (index_items scope begin p)
+    index_closed (Global o) h begin =
         own_closed natives begin (object_code scope.program o)
         (object_fine natives (object_address scope.program o))
-    place_closed (Own s) h begin =
+    index_closed (Own s) h begin =
         own_closed natives begin (slot_code scope s) (slot_fine natives (slot_offset scope s))
-    place_closed (Through s) h begin =
+    index_closed (Through s) h begin =
         own_closed natives begin (through_code s) (through_fine natives s)
-    place_closed (Element a e) h begin =
+    index_closed (Element a e) h begin =
         let array = array_items scope begin a in
-        let q = past begin array + 4 in
-        waiting_closed natives begin array (value_items scope q e) _ (array_closed a h.1 begin)
-        (value_closed e h.2 q) (element_tail natives (known_size (extent scope a)))
-    place_closed (Char a e) h begin =
+        let q = index_begin (base_of scope a) begin array in
+        element_closed natives begin (base_of scope a) (base_fine natives scope a)
+        (known_size (extent scope a)) array (value_items scope q e) (array_closed a h.1 begin)
+        (value_closed e h.2 q)
+    index_closed (Char a e) h begin =
         let array = array_items scope begin a in
-        let q = past begin array + 4 in
-        waiting_closed natives begin array (value_items scope q e) _ (array_closed a h.1 begin)
-        (value_closed e h.2 q) (character_tail natives (known_size (extent scope a)))
+        let q = index_begin (base_of scope a) begin array in
+        character_closed natives begin (base_of scope a) (base_fine natives scope a)
+        (known_size (extent scope a)) array (value_items scope q e) (array_closed a h.1 begin)
+        (value_closed e h.2 q)
 
     pub array_closed : (a : Array) → IsValidArray scope a → (begin : ℕ)
         → AreClosed natives begin (array_items scope begin a)
@@ -167,31 +143,40 @@ module _ (scope : Scope) where
         own_closed natives begin (through_code s) (through_fine natives s)
     array_closed (Row a e) h begin =
         let array = array_items scope begin a in
-        let q = past begin array + 4 in
-        waiting_closed natives begin array (value_items scope q e) _ (array_closed a h.1 begin)
-        (value_closed e h.2 q) (row_tail natives (known_size (extent scope a)))
+        let q = index_begin (base_of scope a) begin array in
+        let size = known_size (extent scope a) in
+        let index = value_items scope q e in
+        part_closed natives begin (element_code (base_of scope a) size array index) row_code
+        (element_closed natives begin (base_of scope a) (base_fine natives scope a) size array index
+        (array_closed a h.1 begin) (value_closed e h.2 q)) (row_fine natives)
     array_closed (From a e) h begin =
         let array = array_items scope begin a in
-        let q = past begin array + 4 in
-        waiting_closed natives begin array (value_items scope q e) _ (array_closed a h.1 begin)
-        (value_closed e h.2 q) (element_tail natives (known_size (extent scope a)))
+        let q = index_begin (base_of scope a) begin array in
+        let size = known_size (extent scope a) in
+        let index = value_items scope q e in
+        part_closed natives begin (element_code (base_of scope a) size array index) rest_code
+        (element_closed natives begin (base_of scope a) (base_fine natives scope a) size array index
+        (array_closed a h.1 begin) (value_closed e h.2 q)) (rest_fine natives)
 
     pub value_closed : (e : Expr) → IsValidExpr scope e → (begin : ℕ)
         → AreClosed natives begin (value_items scope begin e)
     value_closed (Const v) h begin = own_closed natives begin (const_code v) (const_fine natives v)
     value_closed (Read p) h begin =
         read_closed natives begin (direct_of scope p) (direct_fine natives scope p) p
-        (place_items scope begin p) (place_closed p h begin)
+        (index_items scope begin p) (index_closed p h begin)
     value_closed (Unary o e) h begin =
         folded_closed natives begin (fold (Unary o e)) _
         (part_closed natives begin (value_items scope begin e) (alone (prefix_op o) ∷ [])
         (value_closed e h begin) (prefix_fine natives o))
     value_closed (Binary o l r) h begin =
-        let left = value_items scope begin l in
-        let q = past begin left + 4 in
+        let how = right_of scope r in
+        let left = left_by how (value_push scope l) (value_items scope begin l) in
+        let q = past begin left in
         folded_closed natives begin (fold (Binary o l r)) _
-        (binary_closed natives begin o (right_of scope r) (right_fine natives scope r) left
-        (value_items scope q r) (value_closed l h.0 begin) (value_closed r h.1 q))
+        (closed_both natives begin left (operate_by o how (value_items scope q r))
+        (left_closed natives scope begin how l (value_items scope begin l) (value_closed l h.0 begin))
+        (operate_closed natives q o how (right_fine natives scope r) (value_items scope q r)
+        (value_closed r h.1 q)))
     value_closed (Chain e links) h begin =
         let first = value_items scope begin e in
         let p = past begin first in
@@ -233,29 +218,30 @@ module _ (scope : Scope) where
     value_closed (Assign p e) h begin =
         let place = place_items scope begin p in
         let q = value_begin (direct_of scope p) begin place in
-        assign_closed natives begin (direct_of scope p) (direct_fine natives scope p) p place
-        (value_items scope q e)
-        (place_closed p h.0 begin) (value_closed e h.1 q)
+        assign_closed natives begin (direct_of scope p) (direct_fine natives scope p)
+        (right_of scope e) (quiet_fine natives scope e) p place (value_items scope q e)
+        (place_form p begin (index_closed p h.0 begin)) (value_closed e h.1 q)
     value_closed (Update p o e) h begin =
         let place = place_items scope begin p in
         let q = value_begin (direct_of scope p) begin place in
-        update_closed natives begin (direct_of scope p) (direct_fine natives scope p) p place
-        (value_items scope q e) (operator_code o) (place_closed p h.0 begin) (value_closed e h.1 q)
-        (operator_fine natives o)
+        update_closed natives begin (direct_of scope p) (direct_fine natives scope p)
+        (right_of scope e) (quiet_fine natives scope e) p o place (value_items scope q e)
+        (place_form p begin (index_closed p h.0 begin)) (value_closed e h.1 q)
     value_closed (UpdateBy p f swapped e convert) h begin =
         let place = place_items scope begin p in
         let q = past begin place + 4 in
         let change = two_code f swapped ++ convert_code convert in
         both_closed natives begin place (value_items scope q e) (changed_code p change)
-        (place_closed p h.2 begin) (value_closed e h.3 q)
+        (place_form p begin (index_closed p h.2 begin)) (value_closed e h.3 q)
         (changed_fine natives p change
         (fine_both natives Nowhere (two_code f swapped) (convert_code convert)
         (two_fine natives f swapped) (convert_fine natives convert)))
     value_closed (Step p delta prefix) h begin =
         step_closed natives begin (direct_of scope p) (direct_fine natives scope p) p delta prefix
-        (place_items scope begin p) (place_closed p h.1 begin)
+        (place_items scope begin p) (place_form p begin (index_closed p h.1 begin))
     value_closed (StepBy p f prefix) h begin =
-        part_closed natives begin (place_items scope begin p) _ (place_closed p h.1 begin)
+        part_closed natives begin (place_items scope begin p) _ (place_form p begin (index_closed p
+        h.1 begin))
         (loaded_tail natives p (turned_code p (one_code f) prefix)
         (turned_fine natives p (one_code f) prefix (one_fine natives f)))
     value_closed (Copy to from n) h begin =
@@ -293,18 +279,19 @@ module _ (scope : Scope) where
         let operand = value_items scope (begin + 4) e in
         let link = link_code o f swapped in
         let p = others_at begin operand link in
-        link_closed_by begin fail operand link links (links_items scope p fail links)
-        (value_closed e h.1 (begin + 4)) (link_fine natives o f swapped)
+        link_closed_by begin fail o f swapped (right_of scope e) (right_fine natives scope e) operand
+        links (links_items scope p fail links) (value_closed e h.1 (begin + 4))
         (links_closed links h.2 fail p)
 
     pub arg_closed : (a : Arg) → IsValidArg scope a → (begin : ℕ)
         → AreClosed natives begin (arg_items scope begin a)
     arg_closed (Value e) h begin =
-        pushed_closed natives begin (value_items scope begin e) (value_closed e h begin)
+        value_push_closed natives scope begin e (value_items scope begin e) (value_closed e h begin)
     arg_closed (Ref p) h begin =
-        pushed_closed natives begin (place_items scope begin p) (place_closed p h.1 begin)
+        place_push_closed natives scope begin p (place_items scope begin p)
+        (place_form p begin (index_closed p h.1 begin))
     arg_closed (Whole a) h begin =
-        pushed_closed natives begin (array_items scope begin a) (array_closed a h begin)
+        array_push_closed natives scope begin a (array_items scope begin a) (array_closed a h begin)
     arg_closed (Temp e) h begin =
         temporary_closed natives begin (value_items scope begin e) (value_closed e h begin)
 
@@ -322,8 +309,8 @@ module _ (scope : Scope) where
       → AreClosed natives begin (effect_items scope begin e)
   effect_closed (Step p delta prefix) h begin =
       effect_by_closed natives begin (direct_of scope p) (direct_fine natives scope p)
-      (effects_fine natives scope p) p delta prefix (place_items scope begin p)
-      (place_closed p h.1 begin)
+      (effects_fine natives scope p) p delta (place_items scope begin p)
+      (place_form p begin (index_closed p h.1 begin))
   effect_closed (Seq a b) h begin =
       let first = effect_items scope begin a in
       closed_both natives begin first (effect_items scope (past begin first) b)

@@ -1,13 +1,13 @@
 -- Items that lead to each other or to their end have no fault, wherever the functions are.
-use Rattle.std.proofs.Common.{◌≡◌, ◌≢◌, ◌+◌, ◌*◌, ◌/◌, inl, inr, ℕ, ℤ, pos, List, [], ◌∷◌, ◌++◌}
+use Rattle.std.proofs.Common.{◌≡◌, ◌+◌, ◌*◌, ◌/◌, inl, inr, ℕ, ℤ, pos, List, [], ◌∷◌, ◌++◌}
 use Rattle.std.proofs.Common.{None, Some, Bool, true, false, ◌==◌, ◌||◌, length, drop, refl, sym}
-use Rattle.std.proofs.Common.{ap, subst, ◌∙◌, arith, append-nil, length-append, eq-eqb}
+use Rattle.std.proofs.Common.{ap, subst, ◌∙◌, arith, length-append, eq-eqb}
 use Rattle.std.specs.List.{list_any}
 use Rattle.std.proofs.lemmas.List.Sums.{sum_by-cons}
 use Rattle.amx_ops.specs.declared.table.Operand.{Operand}
 use Rattle.amx_ops.specs.declared.table.Operand.TheVariants as operand
 use Rattle.amx_ops.specs.Table.{number_of, operand_of, operand_at}
-use Rattle.amx_ops.specs.Instructions.{IsProper, Placed, placed_from, cells_by, cells_in, instr_by}
+use Rattle.amx_ops.specs.Instructions.{Placed, placed_from, cells_by, cells_in}
 use Rattle.amx_ops.specs.Written.{IsWrittenBy, cells_of, read_as}
 use Rattle.amx_ops.specs.Valid.{first_of, proper, link_fault, linked, piece_fault}
 use Rattle.amx_ops.proofs.Rows.{has_row, row_is}

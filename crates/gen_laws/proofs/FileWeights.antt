@@ -1,6 +1,6 @@
 -- The code of a program is within its lean weight, and so within its weight.
-use Rattle.std.proofs.Common.{◌≡◌, ◌+◌, ◌*◌, ◌≤◌, ℕ, List, [], ◌∷◌, ◌++◌, Option, None, Some}
-use Rattle.std.proofs.Common.{length, arith, length-append}
+use Rattle.std.proofs.Common.{◌+◌, ◌≤◌, ℕ, List, [], ◌∷◌, Option, None, Some, arith, length-append}
+use Rattle.std.proofs.Common.{Bool, true, false}
 use Rattle.std.specs.Prelude.{pos, sum_by}
 use Rattle.std.proofs.lemmas.List.Sums.{sum_by-cons}
 use Rattle.pawn_meaning.specs.Program.{Slot, Body, Route, Function, Program}
@@ -12,6 +12,7 @@ use Rattle.amx_ops.specs.declared.op.Op.TheVariants as op
 use Rattle.gen_sim.specs.SimpleCode.{taking}
 use Rattle.gen_laws.proofs.Counts.{count}
 use Rattle.gen_laws.proofs.LeanLaws.{lean_below}
+use Rattle.gen_laws.specs.GoesOn.{never_goes_on}
 use Rattle.gen_laws.specs.StmtCode.{stmt_items}
 use Rattle.gen_laws.proofs.StmtWeights.{stmt_light}
 use Rattle.gen_laws.specs.BodyCode.{body_here, end_code, body_items}
@@ -24,13 +25,18 @@ module _ (program : Program) where
   abbrev bodies_weight : List Body → ℕ
   bodies_weight bodies = sum_by (λ (body : Body). stmt_weight folds body.stmt) bodies
 
+  end_count : (b : Bool) → count (end_code b) ≤ 2
+  end_count true = omega arith
+  end_count false = omega arith
+
   body_light : (params : List Slot) (begin : ℕ) (body : Body)
       → count (body_items program params begin body) + 18 ≤ stmt_weight folds body.stmt
   body_light params begin body =
       let here = body_here program params body in
       omega (
         arith,
-        count-append (stmt_items here begin body.stmt) end_code,
+        count-append (stmt_items here begin body.stmt) (end_code (never_goes_on body.stmt)),
+        end_count (never_goes_on body.stmt),
         stmt_light body.stmt here begin,
       )
 

@@ -1,6 +1,6 @@
 -- MOVS fills the cells that wait with those of an object.
-use Rattle.std.proofs.Common.{◌≡◌, ◌+◌, ◌*◌, ◌≤◌, inl, inr, ℕ, ℤ, pos, List, [], ◌++◌, Some, Bool}
-use Rattle.std.proofs.Common.{true, false, ◌==◌, ◌&&◌, ◌||◌, length, take, drop, nat_le, refl, sym}
+use Rattle.std.proofs.Common.{◌≡◌, ◌+◌, ◌*◌, ◌≤◌, inl, inr, ℕ, ℤ, pos, List, [], ◌++◌, Some}
+use Rattle.std.proofs.Common.{true, ◌==◌, ◌&&◌, length, take, drop, nat_le, refl, sym}
 use Rattle.std.proofs.Common.{ap, subst, ◌∙◌, arith, append-nil, length-append, le-leb}
 use Rattle.std.proofs.lemmas.List.Elements.{All-take, All-drop}
 use Rattle.std.specs.Prelude.{All}
@@ -14,7 +14,7 @@ use Rattle.amx_ops.specs.Written.{read_as}
 use Rattle.amx_ops.specs.State.{State, stp}
 use Rattle.amx_ops.specs.Access.{are_live}
 use Rattle.amx_ops.specs.Moves.{Config}
-use Rattle.gen_sim.specs.Pieces.{Piece, Thing, AreThere, cells_in, image, extent, total}
+use Rattle.gen_sim.specs.Pieces.{Piece, Thing, cells_in, image, extent, total}
 use Rattle.gen_sim.specs.Mem.{row, Mem}
 use Rattle.gen_sim.specs.View.{View, PlacedIn, all_cells, low}
 use Rattle.gen_sim.specs.Stands.{Stands}

@@ -19,6 +19,7 @@ use Rattle.amx_ops.specs.Table.{operand_of}
 use Rattle.gen_sim.specs.Items.{Item}
 use Rattle.gen_sim.specs.SimpleCode.{alone, taking, prefix_op, operator_code}
 use Rattle.gen_sim.specs.AccessCode.{load_code, store_code, changed_code, stepped_code, turned_code}
+use Rattle.gen_sim.specs.AccessCode.{address_code, fetch_code}
 use Rattle.gen_sim.specs.JumpCode.{jump_to}
 use Rattle.gen_sim.specs.IndexCode.{bounds_code}
 use Rattle.gen_sim.specs.CallCode.{one_code, two_code, convert_code, give_back_code}
@@ -131,6 +132,23 @@ module _ (natives : ℕ) where
   load_fine (Through s) = own_alone op.LoadI refl refl
   load_fine (Element a e) = own_alone op.LoadI refl refl
   load_fine (Char a e) = (byte_fine natives Nowhere op.LodbI refl refl, tt)
+
+  pub address_fine : (s : Scalar) → Own (address_code s)
+  address_fine (Global o) = tt
+  address_fine (node.Own s) = tt
+  address_fine (Through s) = tt
+  address_fine (Element a e) = own_alone op.Idxaddr refl refl
+  address_fine (Char a e) = own_alone op.Add refl refl
+
+  pub fetch_fine : (s : Scalar) → Own (fetch_code s)
+  fetch_fine (Global o) = own_alone op.LoadI refl refl
+  fetch_fine (node.Own s) = own_alone op.LoadI refl refl
+  fetch_fine (Through s) = own_alone op.LoadI refl refl
+  fetch_fine (Element a e) = own_alone op.Lidx refl refl
+  fetch_fine (Char a e) = (
+    alone_fine natives Nowhere op.Add refl refl,
+    (byte_fine natives Nowhere op.LodbI refl refl, tt),
+  )
 
   pub store_fine : (s : Scalar) → Own (store_code s)
   store_fine (Global o) = own_alone op.StorI refl refl

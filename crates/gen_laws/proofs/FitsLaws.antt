@@ -1,5 +1,5 @@
 -- The code of a statement leads to itself, to its end and to its exits, and is within its weight.
-use Rattle.std.proofs.Common.{◌≡◌, ◌+◌, ◌≤◌, ◌⊎◌, inl, inr, ℕ, Bool, true, length, refl}
+use Rattle.std.proofs.Common.{◌+◌, ◌≤◌, ◌⊎◌, inl, inr, ℕ, Bool, length, refl}
 use Rattle.pawn_meaning.specs.Program.{Stmt}
 use Rattle.pawn_meaning.specs.ValidStmts.{IsValidStmt}
 use Rattle.pawn_meaning.specs.Weight.{stmt_weight, folds}

@@ -1,12 +1,11 @@
 -- New slots, and what validity says of the parts of a statement.
-use Rattle.std.proofs.Common.{◌≡◌, ◌+◌, ◌^◌, ◌<◌, ◌≤◌, ◌⊎◌, inl, inr, ⊎_elim, ℕ, zero, suc, List}
+use Rattle.std.proofs.Common.{◌≡◌, ◌+◌, ◌^◌, ◌<◌, ◌⊎◌, inl, inr, ⊎_elim, ℕ, List}
 use Rattle.std.proofs.Common.{[], ◌∷◌, ◌++◌, Option, None, Some, Bool, true, false, length}
-use Rattle.std.proofs.Common.{slice_get, get_or, if◌then◌else◌, refl, sym, subst, arith}
-use Rattle.std.specs.Prelude.{All, Any, IfSome}
-use Rattle.std.proofs.lemmas.Option.{slice_get_within}
+use Rattle.std.proofs.Common.{slice_get, if◌then◌else◌, refl, sym, subst, arith}
+use Rattle.std.specs.Prelude.{Any, IfSome}
 use Rattle.pawn_meaning.specs.Program.{Stmt, Block, Local, LocalArray, Do, If, While, DoWhile, For}
 use Rattle.pawn_meaning.specs.Program.{Switch, Return, Break, Continue, Exit, Sleep, Assert, State}
-use Rattle.pawn_meaning.specs.Program.{Empty, Stmts, no_stmts, then_stmt, Slot, ArraySlot, Program}
+use Rattle.pawn_meaning.specs.Program.{Empty, Stmts, no_stmts, then_stmt, ArraySlot, Program}
 use Rattle.pawn_meaning.specs.Scope.{Scope, with_made}
 use Rattle.pawn_meaning.specs.Valid.{AreSizes, IsSlot, IsValidAutomaton}
 use Rattle.pawn_meaning.specs.ValidExprs.{Takes}

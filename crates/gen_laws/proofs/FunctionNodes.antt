@@ -1,9 +1,9 @@
 -- Each function of a valid program does what a call of it means, and so do calls with any number of
 -- turns left.
-use Rattle.std.proofs.Common.{◌≡◌, ◌+◌, ◌*◌, ◌^◌, ◌<◌, ◌≤◌, ℕ, zero, suc, ℤ, pos, List, [], ◌∷◌}
-use Rattle.std.proofs.Common.{◌++◌, Option, None, Some, length, sum, slice_get, get_or, refl, ap}
-use Rattle.std.proofs.Common.{subst, arith}
-use Rattle.std.specs.Prelude.{All, IfSome, IfNone}
+use Rattle.std.proofs.Common.{◌≡◌, ◌+◌, ◌*◌, ◌^◌, ◌<◌, ◌≤◌, ℕ, ℤ, pos, List, [], ◌∷◌}
+use Rattle.std.proofs.Common.{◌++◌, Option, None, Some, length, sum, slice_get, refl, ap}
+use Rattle.std.proofs.Common.{arith}
+use Rattle.std.specs.Prelude.{IfSome, IfNone}
 use Rattle.std.proofs.lemmas.Option.{slice_get_within}
 use Rattle.pawn_meaning.specs.Program.{Body, Route, Function}
 use Rattle.pawn_meaning.specs.Valid.{IsValidBody, IsValidRoute, IsValidFunction}

@@ -1,8 +1,8 @@
 -- The code of functions is well: each function's leads to itself.
-use Rattle.std.proofs.Common.{◌≡◌, ◌+◌, ◌*◌, ◌<◌, inl, inr, ℕ, zero, suc, ℤ, pos, List, [], ◌∷◌}
-use Rattle.std.proofs.Common.{◌++◌, Option, None, Some, true, false, length, slice_get, refl, subst}
-use Rattle.std.proofs.Common.{arith}
-use Rattle.std.specs.Prelude.{All, IfSome, IfNone}
+use Rattle.std.proofs.Common.{◌≡◌, ◌+◌, ◌*◌, ◌<◌, inl, ℕ, zero, suc, pos, List, [], ◌∷◌, Option}
+use Rattle.std.proofs.Common.{None, Some, true, false, length, refl, subst, Bool}
+use Rattle.std.proofs.Common.{◌++◌, arith}
+use Rattle.std.specs.Prelude.{All, IfSome}
 use Rattle.pawn_meaning.specs.Program.{Slot, Body, Route, Function, Program}
 use Rattle.pawn_meaning.specs.Valid.{IsValidBody, IsValidRoute, IsValidFunction}
 use Rattle.amx_ops.specs.declared.op.Op.TheVariants as op
@@ -11,9 +11,10 @@ use Rattle.gen_sim.specs.SimpleCode.{alone, taking}
 use Rattle.gen_sim.specs.StateCode.{automaton_cell}
 use Rattle.gen_laws.specs.SwitchCode.{table_item}
 use Rattle.gen_laws.proofs.FineLaws.{Nowhere}
-use Rattle.gen_laws.proofs.FineItems.{alone_fine, any_fine}
+use Rattle.gen_laws.proofs.FineItems.{Own, alone_fine, any_fine}
+use Rattle.gen_laws.specs.GoesOn.{never_goes_on}
 use Rattle.gen_laws.specs.StmtCode.{stmt_items}
-use Rattle.gen_laws.specs.Well.{AreWell, ArePairsLed}
+use Rattle.gen_laws.specs.Well.{AreWell, ArePairsLed, Holds}
 use Rattle.gen_laws.proofs.WellLaws.{holds_here, well_both, own_well, no_call}
 use Rattle.gen_laws.proofs.StmtWells.{stmt_well}
 use Rattle.gen_laws.specs.BodyCode.{body_here, end_code, body_items, single_items}
@@ -40,19 +41,29 @@ module _ (T U : ℕ → Type 0) (program : Program) where
 
   -- ---- bodies
 
+  end_fine : (b : Bool) → Own natives (end_code b)
+  end_fine true = (alone_fine natives Nowhere op.Retn refl refl, tt)
+  end_fine false = (
+    alone_fine natives Nowhere op.ZeroPri refl refl,
+    (alone_fine natives Nowhere op.Retn refl refl, tt),
+  )
+
+  holds_end : (b : Bool) (begin : ℕ) (items : List Item)
+      → HoldsIn T U begin (items ++ end_code b) → Holds T U begin items
+  holds_end true begin items g = holds_before T U begin items (alone op.Retn) [] g
+  holds_end false begin items g =
+      holds_before T U begin items (alone op.ZeroPri) (alone op.Retn ∷ []) g
+
   body_well : (params : List Slot) (body : Body) → IsValidBody program params body → (begin : ℕ)
       → HoldsIn T U begin (body_items program params begin body)
       → AreWell natives T U (body_items program params begin body)
   body_well params body valid begin g =
       let here = body_here program params body in
       let items = stmt_items here begin body.stmt in
-      well_both T U natives items end_code
+      let never = never_goes_on body.stmt in
+      well_both T U natives items (end_code never)
       (stmt_well T U body.stmt here false valid.stmt (λ e. absurd (clash e)) begin
-      (holds_before T U begin items (alone op.ZeroPri) (alone op.Retn ∷ []) g))
-      (own_well T U natives end_code (
-        alone_fine natives Nowhere op.ZeroPri refl refl,
-        (alone_fine natives Nowhere op.Retn refl refl, tt),
-      ))
+      (holds_end never begin items g)) (own_well T U natives (end_code never) (end_fine never))
 
   single_well : (params : List Slot) (body : Body) → IsValidBody program params body → (begin : ℕ)
       → HoldsIn T U begin (single_items program params begin body)
@@ -84,7 +95,7 @@ module _ (T U : ℕ → Type 0) (program : Program) where
       let one = body_items program params begin body in
       let items = stmt_items (body_here program params body) begin body.stmt in
       holds_here T U begin items
-      (holds_before T U begin items (alone op.ZeroPri) (alone op.Retn ∷ [])
+      (holds_end (never_goes_on body.stmt) begin items
       (in_first T U begin one (bodies_items program params (past begin one) bodies) g))
   body_starts params (body ∷ bodies) begin (suc number) h g =
       let one = body_items program params begin body in

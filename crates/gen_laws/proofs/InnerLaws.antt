@@ -1,8 +1,8 @@
 -- Parts of items, of whose starts something holds.
-use Rattle.std.proofs.Common.{◌≡◌, ◌+◌, ◌*◌, inl, inr, ℕ, List, [], ◌∷◌, ◌++◌, refl}
+use Rattle.std.proofs.Common.{◌+◌, ◌*◌, inl, inr, ℕ, List, [], ◌∷◌, ◌++◌, refl}
 use Rattle.gen_sim.specs.Items.{Item, size, past}
 use Rattle.gen_laws.specs.Fine.{StartsAt}
-use Rattle.gen_laws.specs.Well.{TableAt, Holds}
+use Rattle.gen_laws.specs.Well.{Holds}
 use Rattle.gen_laws.specs.Inner.{InnerAt, HoldsIn}
 use Rattle.gen_laws.proofs.WellLaws.{tables_first, tables_rest}
 

@@ -1,6 +1,6 @@
 -- The last instruction of a program's code is RETN or HALT, and no sleep.
 use Rattle.std.proofs.Common.{◌≡◌, ◌+◌, ◌*◌, ℕ, suc, pos, List, [], ◌∷◌, ◌++◌, Option, None, Some}
-use Rattle.std.proofs.Common.{length, sym, subst, arith, append_assoc, append-nil}
+use Rattle.std.proofs.Common.{Bool, true, false, length, sym, subst, arith, append_assoc, append-nil}
 use Rattle.std.specs.Prelude.{All, IfSome, IfNone}
 use Rattle.pawn_meaning.specs.Program.{Slot, Body, Route, Function, Program}
 use Rattle.pawn_meaning.specs.Valid.{IsValidFunction}
@@ -12,6 +12,7 @@ use Rattle.gen_sim.specs.SimpleCode.{alone, taking}
 use Rattle.gen_laws.proofs.FaultLaws.{stand}
 use Rattle.gen_sim.specs.StateCode.{automaton_cell}
 use Rattle.gen_laws.specs.SwitchCode.{table_item}
+use Rattle.gen_laws.specs.GoesOn.{never_goes_on}
 use Rattle.gen_laws.specs.StmtCode.{stmt_items}
 use Rattle.gen_laws.specs.BodyCode.{body_here, end_code, body_items, single_items}
 use Rattle.gen_laws.specs.RouteCode.{bodies_items, route_table, leads_to, fail_at, bodies_at}
@@ -35,11 +36,13 @@ module _ (entry : ℕ → ℕ) where
   Ends items =
       (is : List Item) (begin : ℕ) → IfSome (last_of (stand entry begin (is ++ items))) NoSleep
 
-  returns_end : (is : List Item) (begin : ℕ)
-      → IfSome (last_of (stand entry begin (is ++ end_code))) NoSleep
-  returns_end [] begin = λ s. zero_is s.1
-  returns_end (i ∷ []) begin = λ s. zero_is s.1
-  returns_end (i ∷ j ∷ is) begin = returns_end (j ∷ is) (begin + 4 * size i)
+  returns_end : (b : Bool) (is : List Item) (begin : ℕ)
+      → IfSome (last_of (stand entry begin (is ++ end_code b))) NoSleep
+  returns_end true [] begin = λ s. zero_is s.1
+  returns_end false [] begin = λ s. zero_is s.1
+  returns_end true (i ∷ []) begin = λ s. zero_is s.1
+  returns_end false (i ∷ []) begin = λ s. zero_is s.1
+  returns_end b (i ∷ j ∷ is) begin = returns_end b (j ∷ is) (begin + 4 * size i)
 
   halts_end : (is : List Item) (begin : ℕ)
       → IfSome (last_of (stand entry begin (is ++ taking op.Halt (pos 13) ∷ []))) NoSleep
@@ -59,7 +62,8 @@ module _ (entry : ℕ → ℕ) where
     body_ends : (params : List Slot) (begin : ℕ) (body : Body)
         → Ends (body_items program params begin body)
     body_ends params begin body =
-        behind (stmt_items (body_here program params body) begin body.stmt) end_code returns_end
+        behind (stmt_items (body_here program params body) begin body.stmt)
+        (end_code (never_goes_on body.stmt)) (returns_end (never_goes_on body.stmt))
 
     single_ends : (params : List Slot) (begin : ℕ) (body : Body)
         → Ends (single_items program params begin body)

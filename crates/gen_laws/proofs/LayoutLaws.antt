@@ -15,7 +15,7 @@ use Rattle.amx_ops.specs.Instructions.{fetched}
 use Rattle.amx_ops.specs.Written.{cells_of, read_as}
 use Rattle.amx_ops.specs.Moves as machine
 use Rattle.gen_sim.specs.Pieces.{image, data_pieces}
-use Rattle.gen_sim.specs.Items.{Item, Plain, CallOf, placed_in, size, cells_with, item_cells, past}
+use Rattle.gen_sim.specs.Items.{Item, Plain, CallOf, placed_in, cells_with, item_cells, past}
 use Rattle.gen_sim.specs.Items.{AreWritten, LieIn, with}
 use Rattle.gen_sim.proofs.ItemLaws.{past-append, count-append}
 use Rattle.gen_sim.specs.SimpleCode.{taking}

@@ -1,13 +1,13 @@
 -- Items that are well lead where they may.
 use Rattle.std.proofs.Common.{◌≡◌, ◌+◌, ◌-◌, ◌*◌, ◌/◌, ℕ, zero, suc, ℤ, pos, negsuc, List, [], ◌∷◌}
-use Rattle.std.proofs.Common.{◌++◌, None, Bool, true, ◌&&◌, length, drop, refl, sym, ap, ◌∙◌, arith}
+use Rattle.std.proofs.Common.{◌++◌, None, Bool, true, length, drop, refl, sym, ap, ◌∙◌, arith}
 use Rattle.std.proofs.Common.{append_assoc, length-append}
 use Rattle.std.proofs.Math.Seq.{drop-append-add}
 use Rattle.amx_ops.specs.declared.table.Operand.{Operand}
 use Rattle.amx_ops.specs.declared.table.Operand.TheVariants as operand
 use Rattle.amx_ops.specs.Table.{number_of, operand_of}
-use Rattle.amx_ops.specs.Instructions.{Placed, cells_by, placed_from}
-use Rattle.amx_ops.specs.Written.{IsWrittenBy, cells_of, read_as}
+use Rattle.amx_ops.specs.Instructions.{cells_by, placed_from}
+use Rattle.amx_ops.specs.Written.{IsWrittenBy, cells_of}
 use Rattle.amx_ops.specs.Valid.{first_of, leads, is_table, all_lead, link_fault, linked}
 use Rattle.amx_ops.proofs.Rows.{has_row}
 use Rattle.gen_sim.specs.Items.{Item, Plain, CallOf, size, placed_in, cells_with}

@@ -1,14 +1,13 @@
 -- Where the table of a route leads a state, and where bodies lie.
 use Rattle.std.proofs.Common.{◌≡◌, ◌≢◌, ◌+◌, ◌*◌, ◌≤◌, ℕ, zero, suc, ℤ, pos, List, [], ◌∷◌, ◌++◌}
 use Rattle.std.proofs.Common.{Option, None, Some, Bool, true, false, ◌==◌, length, slice_get}
-use Rattle.std.proofs.Common.{if◌then◌else◌, refl, ap, subst, arith, eqb-true}
+use Rattle.std.proofs.Common.{refl, ap, subst, arith, eqb-true}
 use Rattle.std.specs.Prelude.{find}
 use Rattle.std.proofs.lemmas.Int.{ints}
 use Rattle.std.proofs.lemmas.Bool.{eqb-false}
 use Rattle.std.proofs.lemmas.Bool.Decides.{Decides-int_eq}
 use Rattle.pawn_cells.specs.Cells.{bits_of, equal}
 use Rattle.pawn_meaning.specs.Program.{Slot, Body, Program}
-use Rattle.pawn_meaning.specs.Calls.{route_from}
 use Rattle.amx_ops.specs.Effects.{paired}
 use Rattle.gen_sim.specs.Site.{Site}
 use Rattle.gen_sim.specs.Items.{item_cells, past, LieIn}

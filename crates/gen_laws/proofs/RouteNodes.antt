@@ -37,7 +37,7 @@ use Rattle.gen_sim.proofs.DataLaws.{automaton_in_low}
 use Rattle.gen_sim.proofs.ViewLaws.{automaton_below}
 use Rattle.gen_sim.proofs.WorldLaws.{state_read, stands_on}
 use Rattle.gen_sim.specs.Site.{Site, IsSite, Starts, DoesAt, scene_at}
-use Rattle.gen_sim.specs.Items.{Item, item_cells, size, LieIn, with}
+use Rattle.gen_sim.specs.Items.{Item, item_cells, past, size, LieIn, with}
 use Rattle.gen_sim.specs.Results.{SuitAll}
 use Rattle.gen_sim.specs.Back.{Back}
 use Rattle.gen_sim.specs.Code.{with_turns}
@@ -54,6 +54,7 @@ use Rattle.gen_laws.specs.SwitchCode.{table_item}
 use Rattle.gen_laws.proofs.TableLaws.{bits_are, table_leads}
 use Rattle.gen_sim.specs.Enters.{CallsBelow}
 use Rattle.gen_laws.specs.Fresh.{Ready}
+use Rattle.gen_laws.specs.GoesOn.{never_goes_on}
 use Rattle.gen_laws.specs.StmtCode.{stmt_items}
 use Rattle.gen_laws.specs.BodyCode.{body_here, end_code, body_items}
 use Rattle.gen_laws.proofs.BodyNodes.{body_runs}
@@ -61,6 +62,11 @@ use Rattle.gen_laws.specs.RouteCode.{bodies_items, route_table, leads_to, fail_a
 use Rattle.gen_laws.specs.RouteCode.{address_of, route_items}
 use Rattle.gen_laws.proofs.RouteLaws.{length_route, pair_address, state_led, none_led, body_lies}
 use Rattle.gen_laws.proofs.RouteLaws.{body_few}
+
+-- where the end of a body stands
+end_small : (x : Site) (p : ℕ) (b : Bool) → LieIn x p (end_code b) → p + 4 < 2 ^ 31
+end_small x p true l = l.2
+end_small x p false l = l.2
 
 -- ---- a call with the body that was chosen, its turn being begun
 
@@ -218,8 +224,11 @@ module _ (x : Site) (site : IsSite x) (f : ℕ) (function : Function) (route : R
       let items =
       stmt_items (body_here x.program function.params it.body)
       (address number) it.body.stmt in
-      let last = lie_rest x (address number) items end_code own in
-      omega (arith, last.2, past_is (address number) items)
+      let never = never_goes_on it.body.stmt in
+      let last =
+      end_small x (past (address number) items) never
+      (lie_rest x (address number) items (end_code never) own) in
+      omega (arith, last, past_is (address number) items)
 
   leads_small : (o : Option ℕ) → IfSome o (λ body. body < length function.bodies)
       → leads_to address fail o < 2 ^ 31

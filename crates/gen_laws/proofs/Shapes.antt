@@ -1,41 +1,31 @@
 -- The shapes of nodes: their items lead to each other or to their end, where those of their parts
 -- do.
-use Rattle.std.proofs.Common.{◌≡◌, ◌+◌, ◌*◌, ◌<◌, ◌⊎◌, inl, inr, ℕ, ℤ, pos, negsuc, List, [], ◌∷◌, ◌++◌}
+use Rattle.std.proofs.Common.{◌≡◌, ◌+◌, ◌*◌, ◌<◌, ◌⊎◌, inl, inr, ℕ, zero, suc, ℤ, pos, negsuc, List}
+use Rattle.std.proofs.Common.{[], ◌∷◌, ◌++◌}
 use Rattle.std.proofs.Common.{refl, sym, subst}
-use Rattle.std.proofs.Common.{Bool, true, false, Option, None, Some, neg_ℤ}
-use Rattle.pawn_cells.specs.declared.operator.Operator.{Operator}
-use Rattle.pawn_cells.specs.declared.operator.Operator.TheVariants as between
-use Rattle.pawn_cells.specs.Cells.{neg}
-use Rattle.pawn_meaning.specs.Program.{Scalar, Global, Through, Element, Char, Expr, Const, Read}
-use Rattle.pawn_meaning.specs.Program.{Unary, Binary, Chain, And, Or, Cond, Assign, Update}
-use Rattle.pawn_meaning.specs.Program.{UpdateBy, Step, StepBy, Copy, Operate, OperateOne, Call}
-use Rattle.pawn_meaning.specs.Program.{Native, Seq}
-use Rattle.pawn_meaning.specs.Program as node
+use Rattle.std.proofs.Common.{Option, None, Some}
+use Rattle.pawn_meaning.specs.Program.{Array, Object, SlotArray, ParamArray, Row, From}
 use Rattle.pawn_meaning.specs.Scope.{Scope}
-use Rattle.pawn_meaning.specs.Fold.{fold}
-use Rattle.amx_ops.specs.declared.op.Op.{Op}
 use Rattle.amx_ops.specs.declared.op.Op.TheVariants as op
 use Rattle.gen_sim.specs.Items.{Item, CallOf, size, past}
-use Rattle.gen_sim.specs.SimpleCode.{alone, taking, operator_code, const_code, folded}
+use Rattle.gen_sim.specs.SimpleCode.{alone, taking, const_code, alt_code}
 use Rattle.gen_sim.specs.SimpleCode.{waiting_code, both_code}
 use Rattle.gen_sim.specs.JumpCode.{jump_to, other_at, end_at, choice_code, truth_code}
 use Rattle.gen_sim.specs.PlaceItems.{object_address, slot_offset, through_code}
-use Rattle.gen_sim.specs.AccessCode.{load_code, store_code, changed_code, stepped_code}
-use Rattle.gen_sim.specs.DirectCode.{Direct, direct_of, direct_load, direct_store, direct_changed}
-use Rattle.gen_sim.specs.DirectCode.{stepped_back, direct_step, read_by, value_begin, assign_by}
-use Rattle.gen_sim.specs.DirectCode.{update_by, step_by, direct_effect, effect_by}
-use Rattle.gen_sim.specs.OperandCode.{Right, Known, Placed, Waiting, right_by, read_place, right_of}
-use Rattle.gen_sim.specs.OperandCode.{loaded_code, known_code, binary_by}
-use Rattle.gen_sim.specs.CallCode.{give_back_code, pushed_code, temporary_code, call_code}
+use Rattle.gen_sim.specs.BaseCode.{Base, base_of, base_item, index_begin, indexed_code}
+use Rattle.gen_sim.specs.IndexCode.{bounds_code, in_characters, element_code, character_code}
+use Rattle.gen_sim.specs.IndexCode.{rest_code, row_code}
+use Rattle.gen_sim.specs.CallCode.{give_back_code, temporary_code, call_code}
 use Rattle.gen_sim.specs.CallCode.{native_code}
 use Rattle.gen_sim.specs.ChainCode.{last_link_code, middle_link_code, fail_at, chain_end_code}
 use Rattle.gen_laws.specs.Fine.{IsFine, AreFine, StartsAt, AreClosed}
 use Rattle.gen_laws.proofs.FineLaws.{Nowhere, starts_here, starts_end, starts_first, starts_rest}
 use Rattle.gen_laws.proofs.FineLaws.{fine_wider, fine_both, anywhere, closed_both, closed_next}
 use Rattle.gen_laws.proofs.FineItems.{Own, alone_fine, any_fine, multiple_fine, multiple_up}
-use Rattle.gen_laws.proofs.FineItems.{native_fine, target_fine, push_pri, pop_pri, pop_alt}
-use Rattle.gen_laws.proofs.FineItems.{give_back_fine, load_fine, store_fine, changed_fine}
-use Rattle.gen_laws.proofs.FineItems.{stepped_fine, operator_fine}
+use Rattle.gen_laws.proofs.FineItems.{native_fine, target_fine, push_pri}
+use Rattle.gen_laws.proofs.FineItems.{pop_pri, pop_alt}
+use Rattle.gen_laws.proofs.FineItems.{give_back_fine}
+use Rattle.gen_laws.proofs.FineItems.{bounds_fine, byte_fine}
 
 module _ (natives : ℕ) where
   pub own_closed : (begin : ℕ) (items : List Item) → Own natives items
@@ -87,7 +77,14 @@ module _ (natives : ℕ) where
   )
 
   pub const_fine : (v : ℤ) → Own natives (const_code v)
-  const_fine v = (any_fine natives Nowhere op.ConstPri v refl refl, tt)
+  const_fine (pos zero) = (alone_fine natives Nowhere op.ZeroPri refl refl, tt)
+  const_fine (pos (suc n)) = (any_fine natives Nowhere op.ConstPri (pos (suc n)) refl refl, tt)
+  const_fine (negsuc n) = (any_fine natives Nowhere op.ConstPri (negsuc n) refl refl, tt)
+
+  pub alt_fine : (v : ℤ) → Own natives (alt_code v)
+  alt_fine (pos zero) = (alone_fine natives Nowhere op.ZeroAlt refl refl, tt)
+  alt_fine (pos (suc n)) = (any_fine natives Nowhere op.ConstAlt (pos (suc n)) refl refl, tt)
+  alt_fine (negsuc n) = (any_fine natives Nowhere op.ConstAlt (negsuc n) refl refl, tt)
 
   -- ---- places
 
@@ -101,11 +98,6 @@ module _ (natives : ℕ) where
   through_fine s = (any_fine natives Nowhere op.LoadSPri (pos (12 + 4 * s)) refl refl, tt)
 
   -- ---- arguments and calls
-
-  pub pushed_closed : (begin : ℕ) (part : List Item) → AreClosed natives begin part
-      → AreClosed natives begin (pushed_code part)
-  pushed_closed begin part h =
-      part_closed begin part (alone op.PushPri ∷ []) h (push_pri natives Nowhere, tt)
 
   pub temporary_closed : (begin : ℕ) (part : List Item) → AreClosed natives begin part
       → AreClosed natives begin (temporary_code part)
@@ -254,195 +246,66 @@ module _ (natives : ℕ) where
           (starts_rest p items (chain_end_code q) (fail_at q)
           (subst (λ n. StartsAt n (chain_end_code q) (fail_at q)) (sym same) at_fail))
 
--- ---- by a place's own instruction, or by its address
+-- ---- an array and an index
 
 module _ (natives : ℕ) where
-  abbrev pub AreFineDirect : Option Direct → Type 0
-  AreFineDirect None = Unit {0}
-  AreFineDirect (Some d) =
-      IsFine natives Nowhere (taking d.loads d.operand)
-      × IsFine natives Nowhere (taking d.loads_alt d.operand)
-      × IsFine natives Nowhere (taking d.stores d.operand)
+  abbrev pub IsFineBase : Option Base → Type 0
+  IsFineBase None = Unit {0}
+  IsFineBase (Some b) = IsFine natives Nowhere (taking b.sets b.operand)
 
-  pub direct_fine : (scope : Scope) (p : Scalar) → AreFineDirect (direct_of scope p)
-  direct_fine scope (Global o) = (
-    any_fine natives Nowhere op.LoadPri (object_address scope.program o) refl refl,
-    any_fine natives Nowhere op.LoadAlt (object_address scope.program o) refl refl,
-    any_fine natives Nowhere op.StorPri (object_address scope.program o) refl refl,
+  pub base_fine : (scope : Scope) (a : Array) → IsFineBase (base_of scope a)
+  base_fine scope (Object o) =
+      any_fine natives Nowhere op.ConstAlt (object_address scope.program o) refl refl
+  base_fine scope (SlotArray s) =
+      any_fine natives Nowhere op.AddrAlt (slot_offset scope s) refl refl
+  base_fine scope (ParamArray s known) =
+      any_fine natives Nowhere op.LoadSAlt (pos (12 + 4 * s)) refl refl
+  base_fine scope (Row a e) = tt
+  base_fine scope (From a e) = tt
+
+  base_own : (base : Option Base) → IsFineBase base → Own natives (base_item base ∷ [])
+  base_own None h = (pop_alt natives Nowhere, tt)
+  base_own (Some b) h = (h, tt)
+
+  indexed_closed : (begin : ℕ) (base : Option Base) (array index tail : List Item)
+      → AreClosed natives begin array → AreClosed natives (index_begin base begin array) index
+      → Own natives tail → AreClosed natives begin (indexed_code base array index tail)
+  indexed_closed begin None array index tail h g t =
+      waiting_closed natives begin array index tail h g t
+  indexed_closed begin (Some b) array index tail h g t =
+      part_closed natives begin index tail g t
+
+  pub element_closed : (begin : ℕ) (base : Option Base) → IsFineBase base → (size : Option ℕ)
+      (array index : List Item) → AreClosed natives begin array
+      → AreClosed natives (index_begin base begin array) index
+      → AreClosed natives begin (element_code base size array index)
+  element_closed begin base f size array index h g =
+      indexed_closed begin base array index (bounds_code size ++ base_item base ∷ []) h g
+      (fine_both natives Nowhere (bounds_code size) (base_item base ∷ []) (bounds_fine natives size)
+      (base_own base f))
+
+  pub character_closed : (begin : ℕ) (base : Option Base) → IsFineBase base → (size : Option ℕ)
+      (array index : List Item) → AreClosed natives begin array
+      → AreClosed natives (index_begin base begin array) index
+      → AreClosed natives begin (character_code base size array index)
+  character_closed begin base f size array index h g =
+      let last = taking op.AlignPri (pos 1) ∷ base_item base ∷ [] in
+      indexed_closed begin base array index (bounds_code (in_characters size) ++ last) h g
+      (fine_both natives Nowhere (bounds_code (in_characters size)) last
+      (bounds_fine natives (in_characters size))
+      (byte_fine natives Nowhere op.AlignPri refl refl, base_own base f))
+
+  pub row_fine : Own natives row_code
+  row_fine = (
+    alone_fine natives Nowhere op.Idxaddr refl refl,
+    (
+      alone_fine natives Nowhere op.MoveAlt refl refl,
+      (
+        alone_fine natives Nowhere op.LoadI refl refl,
+        (alone_fine natives Nowhere op.Add refl refl, tt),
+      ),
+    ),
   )
-  direct_fine scope (node.Own s) = (
-    any_fine natives Nowhere op.LoadSPri (slot_offset scope s) refl refl,
-    any_fine natives Nowhere op.LoadSAlt (slot_offset scope s) refl refl,
-    any_fine natives Nowhere op.StorSPri (slot_offset scope s) refl refl,
-  )
-  direct_fine scope (Through s) = (
-    any_fine natives Nowhere op.LrefSPri (pos (12 + 4 * s)) refl refl,
-    any_fine natives Nowhere op.LrefSAlt (pos (12 + 4 * s)) refl refl,
-    any_fine natives Nowhere op.SrefSPri (pos (12 + 4 * s)) refl refl,
-  )
-  direct_fine scope (Element a e) = tt
-  direct_fine scope (Char a e) = tt
 
-  -- what loads a right operand is fine
-  abbrev pub IsFineRight : Right → Type 0
-  IsFineRight (Known v) = Unit {0}
-  IsFineRight (Placed d) = IsFine natives Nowhere (taking d.loads_alt d.operand)
-  IsFineRight Waiting = Unit {0}
-
-  right_by_fine : (k : Option ℤ) (o : Option Direct) → AreFineDirect o → IsFineRight (right_by k o)
-  right_by_fine (Some v) o h = tt
-  right_by_fine None (Some d) h = h.1
-  right_by_fine None None h = tt
-
-  read_place_fine : (scope : Scope) (e : Expr) → AreFineDirect (read_place scope e)
-  read_place_fine scope (Read p) = direct_fine scope p
-  read_place_fine scope e = tt
-
-  pub right_fine : (scope : Scope) (e : Expr) → IsFineRight (right_of scope e)
-  right_fine scope e = right_by_fine (fold e) (read_place scope e) (read_place_fine scope e)
-
-  -- what adds 1 there, or takes 1 away, is fine
-  abbrev pub AreFineAdds : Direct → Option (Op × Op) → Type 0
-  AreFineAdds d None = Unit {0}
-  AreFineAdds d (Some ops) =
-      IsFine natives Nowhere (taking ops.0 d.operand)
-      × IsFine natives Nowhere (taking ops.1 d.operand)
-
-  abbrev pub AreFineEffects : Option Direct → Type 0
-  AreFineEffects None = Unit {0}
-  AreFineEffects (Some d) = AreFineAdds d d.adds
-
-  pub effects_fine : (scope : Scope) (p : Scalar) → AreFineEffects (direct_of scope p)
-  effects_fine scope (Global o) = (
-    any_fine natives Nowhere op.Inc (object_address scope.program o) refl refl,
-    any_fine natives Nowhere op.Dec (object_address scope.program o) refl refl,
-  )
-  effects_fine scope (node.Own s) = (
-    any_fine natives Nowhere op.IncS (slot_offset scope s) refl refl,
-    any_fine natives Nowhere op.DecS (slot_offset scope s) refl refl,
-  )
-  effects_fine scope (Through s) = tt
-  effects_fine scope (Element a e) = tt
-  effects_fine scope (Char a e) = tt
-
-  module _ (begin : ℕ) where
-    pub read_closed : (o : Option Direct) → AreFineDirect o → (p : Scalar) (place : List Item)
-        → AreClosed natives begin place → AreClosed natives begin (read_by o p place)
-    read_closed None h p place k =
-        part_closed natives begin place (load_code p) k (load_fine natives p)
-    read_closed (Some d) h p place k = own_closed natives begin (direct_load d) (h.0, tt)
-
-    pub assign_closed : (o : Option Direct) → AreFineDirect o → (p : Scalar)
-        (place value : List Item) → AreClosed natives begin place
-        → AreClosed natives (value_begin o begin place) value
-        → AreClosed natives begin (assign_by o p place value)
-    assign_closed None h p place value k g =
-        both_closed natives begin place value (store_code p) k g (store_fine natives p)
-    assign_closed (Some d) h p place value k g =
-        part_closed natives begin value (direct_store d) g (h.2, tt)
-
-    pub update_closed : (o : Option Direct) → AreFineDirect o → (p : Scalar)
-        (place value change : List Item) → AreClosed natives begin place
-        → AreClosed natives (value_begin o begin place) value → Own natives change
-        → AreClosed natives begin (update_by o p place value change)
-    update_closed None h p place value change k g t =
-        both_closed natives begin place value (changed_code p change) k g
-        (changed_fine natives p change t)
-    update_closed (Some d) h p place value change k g t =
-        part_closed natives begin value (direct_changed d change) g
-        (h.1, fine_both natives Nowhere change (direct_store d) t (h.2, tt))
-
-    stepped_back_fine : (d : Direct) → AreFineDirect (Some d) → (delta : ℤ) (prefix : Bool)
-        → Own natives (stepped_back d delta prefix)
-    stepped_back_fine d h delta true = (h.2, tt)
-    stepped_back_fine d h delta false =
-        (h.2, (any_fine natives Nowhere op.AddC (neg_ℤ delta) refl refl, tt))
-
-    pub step_closed : (o : Option Direct) → AreFineDirect o → (p : Scalar) (delta : ℤ)
-        (prefix : Bool) (place : List Item) → AreClosed natives begin place
-        → AreClosed natives begin (step_by o p delta prefix place)
-    step_closed None h p delta prefix place k =
-        part_closed natives begin place _ k (
-          alone_fine natives Nowhere op.MoveAlt refl refl,
-          fine_both natives Nowhere (load_code p) (stepped_code p delta prefix)
-              (load_fine natives p) (stepped_fine natives p delta prefix),
-        )
-    step_closed (Some d) h p delta prefix place k =
-        own_closed natives begin (direct_step d delta prefix) (
-          h.0,
-          (
-            any_fine natives Nowhere op.AddC delta refl refl,
-            stepped_back_fine d h delta prefix,
-          ),
-        )
-
-    effect_fine : (d : Direct) → AreFineDirect (Some d) → (ops : Option (Op × Op))
-        → AreFineAdds d ops → (delta : ℤ) → Own natives (direct_effect d ops delta)
-    effect_fine d h None k delta =
-        (h.0, (any_fine natives Nowhere op.AddC delta refl refl, (h.2, tt)))
-    effect_fine d h (Some ops) k (pos n) = (k.0, tt)
-    effect_fine d h (Some ops) k (negsuc n) = (k.1, tt)
-
-    pub effect_by_closed : (o : Option Direct) → AreFineDirect o → AreFineEffects o → (p : Scalar)
-        (delta : ℤ) (prefix : Bool) (place : List Item) → AreClosed natives begin place
-        → AreClosed natives begin (effect_by o p delta prefix place)
-    effect_by_closed None h k p delta prefix place g = step_closed None h p delta prefix place g
-    effect_by_closed (Some d) h k p delta prefix place g =
-        own_closed natives begin (direct_effect d d.adds delta) (effect_fine d h d.adds k delta)
-
-    -- ---- operators, by how their right operand comes
-
-    loaded_fine : (o : Operator) → Own natives (loaded_code o)
-    loaded_fine between.Multiply = (alone_fine natives Nowhere op.Smul refl refl, tt)
-    loaded_fine between.Divide = (alone_fine natives Nowhere op.Sdiv refl refl, tt)
-    loaded_fine between.Remainder = (
-      alone_fine natives Nowhere op.Sdiv refl refl,
-      (alone_fine natives Nowhere op.MovePri refl refl, tt),
-    )
-    loaded_fine between.Add = (alone_fine natives Nowhere op.Add refl refl, tt)
-    loaded_fine between.Subtract = (alone_fine natives Nowhere op.Sub refl refl, tt)
-    loaded_fine between.ShiftLeft = (alone_fine natives Nowhere op.Shl refl refl, tt)
-    loaded_fine between.ShiftRight = (alone_fine natives Nowhere op.Sshr refl refl, tt)
-    loaded_fine between.ShiftUnsigned = (alone_fine natives Nowhere op.Shr refl refl, tt)
-    loaded_fine between.And = (alone_fine natives Nowhere op.And refl refl, tt)
-    loaded_fine between.Xor = (alone_fine natives Nowhere op.Xor refl refl, tt)
-    loaded_fine between.Or = (alone_fine natives Nowhere op.Or refl refl, tt)
-    loaded_fine between.Equal = (alone_fine natives Nowhere op.Eq refl refl, tt)
-    loaded_fine between.NotEqual = (alone_fine natives Nowhere op.Neq refl refl, tt)
-
-    to_alt_fine : (o : Operator) (v : ℤ)
-        → Own natives (taking op.ConstAlt v ∷ loaded_code o)
-    to_alt_fine o v = (any_fine natives Nowhere op.ConstAlt v refl refl, loaded_fine o)
-
-    known_fine : (o : Operator) (v : ℤ) → Own natives (known_code o v)
-    known_fine between.Multiply v = (any_fine natives Nowhere op.SmulC v refl refl, tt)
-    known_fine between.Divide v = to_alt_fine between.Divide v
-    known_fine between.Remainder v = to_alt_fine between.Remainder v
-    known_fine between.Add v = (any_fine natives Nowhere op.AddC v refl refl, tt)
-    known_fine between.Subtract v = (any_fine natives Nowhere op.AddC (neg v) refl refl, tt)
-    known_fine between.ShiftLeft v = (any_fine natives Nowhere op.ShlCPri v refl refl, tt)
-    known_fine between.ShiftRight v = to_alt_fine between.ShiftRight v
-    known_fine between.ShiftUnsigned v = (any_fine natives Nowhere op.ShrCPri v refl refl, tt)
-    known_fine between.And v = to_alt_fine between.And v
-    known_fine between.Xor v = to_alt_fine between.Xor v
-    known_fine between.Or v = to_alt_fine between.Or v
-    known_fine between.Equal v = (any_fine natives Nowhere op.EqCPri v refl refl, tt)
-    known_fine between.NotEqual v = to_alt_fine between.NotEqual v
-
-    pub binary_closed : (o : Operator) (how : Right) → IsFineRight how → (left right : List Item)
-        → AreClosed natives begin left → AreClosed natives (past begin left + 4) right
-        → AreClosed natives begin (binary_by o how left right)
-    binary_closed o (Known v) t left right h g =
-        part_closed natives begin left (known_code o v) h (known_fine o v)
-    binary_closed o (Placed d) t left right h g =
-        part_closed natives begin left (taking d.loads_alt d.operand ∷ loaded_code o) h
-        (t, loaded_fine o)
-    binary_closed o Waiting t left right h g =
-        both_closed natives begin left right (operator_code o) h g (operator_fine natives o)
-
-    -- ---- a constant in the place of what folds
-
-    pub folded_closed : (k : Option ℤ) (items : List Item) → AreClosed natives begin items
-        → AreClosed natives begin (folded k items)
-    folded_closed None items h = h
-    folded_closed (Some v) items h = own_closed natives begin (const_code v) (const_fine natives v)
+  pub rest_fine : Own natives rest_code
+  rest_fine = (alone_fine natives Nowhere op.Idxaddr refl refl, tt)

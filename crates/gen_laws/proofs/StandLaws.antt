@@ -1,7 +1,7 @@
 -- The instructions of a file's code, where they stand.
-use Rattle.std.proofs.Common.{◌≡◌, ◌+◌, ◌*◌, inl, inr, ℕ, ℤ, pos, List, [], ◌∷◌, ◌++◌, Option, None}
-use Rattle.std.proofs.Common.{Some, Bool, true, false, ◌==◌, ◌&&◌, ◌||◌, is_some, refl, sym, ap}
-use Rattle.std.proofs.Common.{subst, ◌∙◌, arith, eq-eqb}
+use Rattle.std.proofs.Common.{◌≡◌, ◌+◌, ◌*◌, inl, inr, ℕ, ℤ, List, [], ◌∷◌, ◌++◌, None}
+use Rattle.std.proofs.Common.{Bool, true, false, ◌==◌, ◌&&◌, ◌||◌, is_some, refl, sym, ap}
+use Rattle.std.proofs.Common.{◌∙◌, eq-eqb}
 use Rattle.std.specs.Prelude.{All, find, option_map}
 use Rattle.std.specs.List.{flat_map, list_any}
 use Rattle.std.proofs.lemmas.List.Elements.{All-nil, All-cons}

@@ -1,5 +1,5 @@
 -- The code of every statement does what the statement means.
-use Rattle.std.proofs.Common.{◌≡◌, ◌+◌, ℕ, ℤ, List, [], ◌∷◌, ◌++◌, Bool, true, false, refl, sym}
+use Rattle.std.proofs.Common.{◌≡◌, ◌+◌, ℕ, ℤ, List, [], ◌++◌, Bool, true, false, refl, sym}
 use Rattle.std.proofs.Common.{subst}
 use Rattle.pawn_meaning.specs.Program.{Expr, Perhaps, Absent, Present, Stmt, Block, Local}
 use Rattle.pawn_meaning.specs.Program.{LocalArray, Do, If, While, DoWhile, For, Switch, Return}
@@ -13,29 +13,37 @@ use Rattle.pawn_meaning.specs.ValidStmts.{all_slots_made_else, all_slots_made_in
 use Rattle.pawn_meaning.specs.ValidStmts.{IsValidStmt, IsValidElse, AreValidCases, AreValidStmts}
 use Rattle.gen_sim.specs.Items.{Item, past}
 use Rattle.gen_sim.specs.Contract.{ValueCode}
-use Rattle.gen_sim.specs.JumpCode.{other_at}
+use Rattle.gen_sim.specs.Site.{scene_at}
+use Rattle.gen_sim.specs.Branch.{BranchCode}
+use Rattle.pawn_meaning.specs.Meaning.{condition}
+use Rattle.pawn_meaning.specs.Need.{perhaps_load}
 use Rattle.gen_laws.specs.ExprCode.{value_items, effect_items}
-use Rattle.gen_laws.proofs.ExprNodes.{value_does, effect_does}
+use Rattle.gen_laws.proofs.ExprNodes.{value_does, push_does, effect_does}
 use Rattle.gen_sim.specs.Here.{Exits, Here, behind, within}
-use Rattle.gen_sim.specs.FlowCode.{leave_code}
-use Rattle.gen_sim.specs.Flow.{StmtCode, StmtsCode, ElseCode, ConditionCode, PerhapsCode}
+use Rattle.gen_sim.specs.FlowCode.{leave_code, else_at}
+use Rattle.gen_sim.specs.Flow.{StmtCode, StmtsCode, ElseCode, ConditionCode}
+use Rattle.gen_sim.specs.Flow.{PerhapsCode}
 use Rattle.gen_sim.proofs.FlowNodes.{empty_does, do_does, local_node_does, no_stmts_does}
 use Rattle.gen_sim.proofs.FlowNodes.{then_stmt_does, no_else_does, otherwise_does, if_does}
-use Rattle.gen_sim.proofs.FlowNodes.{exit_node_does, assert_does}
-use Rattle.gen_sim.proofs.LeaveNodes.{block_does, break_does, continue_does, return_does}
-use Rattle.gen_sim.specs.LoopCode.{body_at, step_at, loop_exits, test_at, until_exits}
+use Rattle.gen_sim.proofs.FlowNodes.{only_if_does, exit_node_does, assert_does}
+use Rattle.gen_laws.specs.BranchItems.{jump_items, perhaps_jumps}
+use Rattle.gen_laws.proofs.BranchForms.{Does, jump_ends, jump_does}
+use Rattle.gen_sim.proofs.LeaveNodes.{break_does, continue_does, return_does}
+use Rattle.gen_sim.specs.LoopCode.{body_at, step_at, loop_test, loop_exits, test_at, until_exits}
+use Rattle.gen_laws.proofs.GoesOnLaws.{block_node_does}
 use Rattle.gen_sim.proofs.LoopNodes.{while_does, for_does}
 use Rattle.gen_sim.proofs.UntilNodes.{do_while_does, absent_condition, present_condition}
-use Rattle.gen_sim.proofs.UntilNodes.{absent_step, present_step}
+use Rattle.gen_sim.proofs.UntilNodes.{absent_step, present_step, absent_branch, present_branch}
 use Rattle.gen_sim.proofs.StateNodes.{state_does}
 use Rattle.gen_sim.proofs.SleepNodes.{sleep_node_does}
 use Rattle.gen_laws.proofs.ArrayNodes.{local_array_does}
-use Rattle.gen_laws.specs.SwitchCode.{ranges_table, cases_at, switch_code}
+use Rattle.gen_laws.specs.SwitchCode.{cases_at, switch_code}
 use Rattle.gen_laws.specs.SwitchFlow.{CasesCode}
 use Rattle.gen_laws.proofs.SwitchNodes.{no_cases_do, then_case_does, switch_does}
 use Rattle.gen_laws.specs.ClosedCode.{unknown, closed_loop, closed_until}
 use Rattle.gen_laws.specs.Fresh.{Fresh, Ready}
-use Rattle.gen_laws.specs.StmtCode.{condition_items, step_items, stmt_items, else_items}
+use Rattle.gen_laws.specs.StmtCode.{condition_items, step_items}
+use Rattle.gen_laws.specs.StmtCode.{stmt_items, else_items}
 use Rattle.gen_laws.specs.StmtCode.{cases_items, cases_table, stmts_items}
 use Rattle.gen_laws.proofs.EndLaws.{loop_alike, until_alike, stmt_ends, cases_ends}
 use Rattle.gen_laws.proofs.FreshLaws.{fresh_first, fresh_rest, fresh_behind, fresh_one, made_within}
@@ -47,6 +55,15 @@ condition_does : (scope : Scope) (e : Perhaps) → IsValidPerhaps scope e → (b
 condition_does scope Absent h begin = absent_condition scope begin
 condition_does scope (Present e) h begin =
     present_condition scope begin e (value_items scope begin e) (value_does scope e h begin)
+
+perhaps_does : (scope : Scope) (e : Perhaps) → IsValidPerhaps scope e → (when : Bool)
+    (to begin : ℕ)
+    → BranchCode scope (λ x fewer. condition (scene_at x) fewer e) (perhaps_load e) when to begin
+    (perhaps_jumps scope when to begin e)
+perhaps_does scope Absent h when to begin = absent_branch scope begin when to
+perhaps_does scope (Present e) h when to begin =
+    present_branch scope begin e when to (jump_items scope when to begin e)
+    (jump_does scope e h when to begin)
 
 step_does : (scope : Scope) (e : Perhaps) → IsValidPerhaps scope e → (begin : ℕ)
     → PerhapsCode scope e begin (step_items scope begin e)
@@ -60,17 +77,20 @@ module _ (here : Here) (top : ℕ) (s : Stmt) where
   abbrev bodies : ℕ → Exits → List Item
   bodies at exits = stmt_items (within exits here) at s
 
-  closed_while : (e : Expr) (test : List Item) → slots_made s ≡ [] → ValueCode here.scope e top test
+  closed_while : (e : Expr) (test : ℕ → List Item) → slots_made s ≡ []
+      → ((q : ℕ) → Does here.scope true (body_at top) q e (test q))
       → ((exits : Exits) → exits.looped ≡ true
-      → StmtCode (within exits here) s (body_at top test) (bodies (body_at top test) exits))
-      → StmtCode here (While e s) top (closed_loop top test (bodies (body_at top test)) (λ q. []))
+      → StmtCode (within exits here) s (body_at top) (bodies (body_at top) exits))
+      → StmtCode here (While e s) top (closed_loop top test (bodies (body_at top)) (λ q. []))
   closed_while e test none one part =
-      let at = body_at top test in
-      let exits = loop_exits top test (bodies at unknown) [] in
-      let same =
-      loop_alike top test (bodies at unknown) (bodies at exits) []
-      (stmt_ends s (within unknown here) unknown exits at) in
-      while_does here top e s test (bodies at exits) none one
+      let at = body_at top in
+      let told = test (loop_test top (bodies at unknown) []) in
+      let exits = loop_exits top told (bodies at unknown) [] in
+      let ends = stmt_ends s (within unknown here) unknown exits at in
+      let same = loop_alike top told (bodies at unknown) (bodies at exits) [] ends in
+      while_does here top e s told (bodies at exits) none
+      (subst (λ q. Does here.scope true at q e told) ends
+      (one (loop_test top (bodies at unknown) [])))
       (subst (λ z. StmtCode (within z here) s at (bodies at exits)) same (part exits refl))
 
   closed_do : (e : Expr) (test : ℕ → List Item) → slots_made s ≡ []
@@ -96,26 +116,31 @@ module _ (here : Here) (begin : ℕ) (init : Stmts) (e step : Perhaps) (s : Stmt
   abbrev top : ℕ
   top = past begin first
 
-  closed_for : (test : List Item) (more : ℕ → List Item) → slots_made s ≡ []
-      → StmtsCode here init begin first → ConditionCode inner.scope e top test
+  closed_for : (test more : ℕ → List Item) → slots_made s ≡ []
+      → StmtsCode here init begin first
+      → ((q : ℕ) → BranchCode inner.scope (λ x fewer. condition (scene_at x) fewer e)
+      (perhaps_load e) true (body_at top) q (test q))
       → ((exits : Exits) → exits.looped ≡ true
-      → StmtCode (within exits inner) s (body_at top test)
-      (bodies inner top s (body_at top test) exits))
+      → StmtCode (within exits inner) s (body_at top) (bodies inner top s (body_at top) exits))
       → ((q : ℕ) → PerhapsCode inner.scope step q (more q))
       → StmtCode here (For init e step s) begin
-      (first ++ (closed_loop top test (bodies inner top s (body_at top test)) more
+      (first ++ (closed_loop top test (bodies inner top s (body_at top)) more
       ++ leave_code here.scope.slots (slots_made_by init)))
   closed_for test more none zeroth one part three =
-      let at = body_at top test in
+      let at = body_at top in
       let body = bodies inner top s at in
-      let next = more (step_at top test (body unknown)) in
-      let exits = loop_exits top test (body unknown) next in
+      let next = more (step_at top (body unknown)) in
+      let told = test (loop_test top (body unknown) next) in
+      let exits = loop_exits top told (body unknown) next in
       let ends = stmt_ends s (within unknown inner) unknown exits at in
-      let same = loop_alike top test (body unknown) (body exits) next ends in
-      for_does here begin init e step s first test (body exits) next none zeroth one
+      let same = loop_alike top told (body unknown) (body exits) next ends in
+      for_does here begin init e step s first told (body exits) next none zeroth
+      (subst (λ q. BranchCode inner.scope (λ x fewer. condition (scene_at x) fewer e)
+      (perhaps_load e) true at (past q next) told) ends
+      (one (loop_test top (body unknown) next)))
       (subst (λ z. StmtCode (within z inner) s at (body exits)) same (part exits refl))
       (subst (λ q. PerhapsCode inner.scope step q next) ends
-      (three (step_at top test (body unknown))))
+      (three (step_at top (body unknown))))
 
 -- with the address of what stands behind the cases
 switch_by : (here : Here) (begin : ℕ) (e : Expr) (cases : Cases) (other : Else)
@@ -142,31 +167,52 @@ mutual
       → Fresh here.scope (all_slots_made s) → (begin : ℕ)
       → StmtCode here s begin (stmt_items here begin s)
   stmt_does (Block stmts) here in_list h r f begin =
-      block_does here begin stmts (stmts_items here begin stmts) (stmts_do stmts here h r f begin)
+      block_node_does here begin stmts (stmts_items here begin stmts)
+      (stmts_do stmts here h r f begin)
   stmt_does (Local s e) here in_list h r f begin =
-      local_node_does here begin s e (value_items here.scope begin e) h.1 (fresh_one s f) h.2
-      (value_does here.scope e h.3 begin)
+      local_node_does here begin s e _ h.1 (fresh_one s f) h.2 (push_does here.scope e h.3 begin)
   stmt_does (LocalArray s o) here in_list h r f begin =
       let z = array_sized here.scope s o r h.1 in
       local_array_does here begin s o h.1 (fresh_one s f) z.first z.inner z.is
   stmt_does (Do e) here in_list h r f begin =
       do_does here begin e (effect_items here.scope begin e) (effect_does here.scope e h begin)
-  stmt_does (If c a b) here in_list h r f begin =
-      let condition = value_items here.scope begin c in
-      let p = past begin condition in
-      let first = stmt_items here (p + 8) a in
-      if_does here begin c a b condition first (else_items here (other_at p first) b)
-      (makes_none here.scope here.exits.looped a h.1) (value_does here.scope c h.0 begin)
-      (stmt_does a here false h.1 r (fresh_first (all_slots_made a) (all_slots_made_else b) f)
-      (p + 8))
-      (else_does b here h.2 r (fresh_rest (all_slots_made a) (all_slots_made_else b) f)
-      (other_at p first))
+  stmt_does (If c a no_else) here in_list h r f begin =
+      let p = past begin (jump_items here.scope false 0 begin c) in
+      let first = stmt_items here p a in
+      let end = past p first in
+      let condition = jump_items here.scope false end begin c in
+      let same = jump_ends here.scope c false begin 0 end in
+      only_if_does here begin c a condition first
+      (makes_none here.scope here.exits.looped a h.1)
+      (subst (λ q. Does here.scope false (past q first) begin c condition) same
+      (jump_does here.scope c h.0 false end begin))
+      (subst (λ q. StmtCode here a q first) same
+      (stmt_does a here false h.1 r (fresh_first (all_slots_made a) (all_slots_made_else no_else) f)
+      p))
+  stmt_does (If c a (otherwise b)) here in_list h r f begin =
+      let p = past begin (jump_items here.scope false 0 begin c) in
+      let first = stmt_items here p a in
+      let at = else_at p first in
+      let second = stmt_items here at b in
+      let condition = jump_items here.scope false at begin c in
+      let same = jump_ends here.scope c false begin 0 at in
+      let other = otherwise b in
+      if_does here begin c a other condition first second
+      (makes_none here.scope here.exits.looped a h.1)
+      (subst (λ q. Does here.scope false (else_at q first) begin c condition) same
+      (jump_does here.scope c h.0 false at begin))
+      (subst (λ q. StmtCode here a q first) same
+      (stmt_does a here false h.1 r (fresh_first (all_slots_made a) (all_slots_made_else other) f)
+      p))
+      (subst (λ q. ElseCode here other (else_at q first) second) same
+      (otherwise_does here at b second (makes_none here.scope here.exits.looped b h.2)
+      (stmt_does b here false h.2 r (fresh_rest (all_slots_made a) (all_slots_made_else other) f)
+      at)))
   stmt_does (While c s) here in_list h r f begin =
-      let test = value_items here.scope begin c in
-      closed_while here begin s c test (makes_none here.scope true s h.1)
-      (value_does here.scope c h.0 begin)
+      closed_while here begin s c (λ q. jump_items here.scope true (body_at begin) q c)
+      (makes_none here.scope true s h.1) (λ q. jump_does here.scope c h.0 true (body_at begin) q)
       (λ exits e. stmt_does s (within exits here) false
-      (subst (λ b. IsValidStmt here.scope b false s) (sym e) h.1) r f (body_at begin test))
+      (subst (λ b. IsValidStmt here.scope b false s) (sym e) h.1) r f (body_at begin))
   stmt_does (DoWhile s c) here in_list h r f begin =
       closed_do here begin s c (λ q. value_items here.scope q c) (makes_none here.scope true s h.0)
       (λ q. value_does here.scope c h.1 q)
@@ -175,15 +221,16 @@ mutual
   stmt_does (For first c step s) here in_list h r f begin =
       let init = stmts_items here begin first in
       let inner = behind (slots_made_by first) here in
-      let test = condition_items inner.scope (past begin init) c in
-      closed_for here begin first c step s init test (λ q. step_items inner.scope q step)
+      let at = body_at (past begin init) in
+      closed_for here begin first c step s init (λ q. perhaps_jumps inner.scope true at q c)
+      (λ q. step_items inner.scope q step)
       (makes_none inner.scope true s h.3)
       (stmts_do first here h.0 r (fresh_first (all_slots_made_by first) (all_slots_made s) f) begin)
-      (condition_does inner.scope c h.1 (past begin init))
+      (λ q. perhaps_does inner.scope c h.1 true at q)
       (λ exits e. stmt_does s (within exits inner) false
       (subst (λ b. IsValidStmt inner.scope b false s) (sym e) h.3) r
       (fresh_behind here.scope (slots_made_by first) (all_slots_made_by first) (all_slots_made s)
-      (made_within_by first) f) (body_at (past begin init) test))
+      (made_within_by first) f) (body_at (past begin init)))
       (λ q. step_does inner.scope step h.2 q)
   stmt_does (Switch e cases d) here in_list h r f begin =
       let value = value_items here.scope begin e in

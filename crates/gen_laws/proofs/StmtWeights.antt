@@ -1,7 +1,8 @@
 -- The code of each statement is within its weight, with twenty cells to spare for what stands
 -- around it.
-use Rattle.std.proofs.Common.{◌≡◌, ◌+◌, ◌*◌, ◌≤◌, ℕ, ℤ, pos, List, [], ◌∷◌, ◌++◌, Option, None}
-use Rattle.std.proofs.Common.{Some, length, refl, arith, length-append}
+use Rattle.std.proofs.Common.{◌≡◌, ◌+◌, ◌*◌, ◌≤◌, ℕ, ℤ, pos, List, [], ◌∷◌, ◌++◌, Bool, true, false}
+use Rattle.std.proofs.Common.{Option, None}
+use Rattle.std.proofs.Common.{Some, refl, arith, length-append}
 use Rattle.std.proofs.lemmas.List.Sums.{sum_by-cons}
 use Rattle.pawn_cells.specs.Cells.{cell_of}
 use Rattle.pawn_meaning.specs.Program.{Perhaps, Absent, Present, Stmt, Block, Local, LocalArray, Do}
@@ -16,17 +17,24 @@ use Rattle.amx_ops.specs.declared.op.Op.TheVariants as op
 use Rattle.amx_ops.specs.Written.{cells_of}
 use Rattle.gen_sim.specs.Items.{Item, appended, item_cells, past}
 use Rattle.gen_sim.proofs.ItemLaws.{count-append}
-use Rattle.gen_sim.specs.SimpleCode.{alone, taking}
-use Rattle.gen_sim.specs.JumpCode.{jump_to, other_at, choice_code}
+use Rattle.gen_sim.specs.SimpleCode.{alone, taking, const_code}
+use Rattle.gen_sim.specs.JumpCode.{jump_to, other_at, end_at, choice_code}
+use Rattle.gen_sim.specs.TestCode.{IsSet}
+use Rattle.gen_sim.specs.Branch.{test_where}
+use Rattle.gen_sim.proofs.TestLaws.{test_count}
+use Rattle.gen_laws.specs.BranchItems.{jump_where, jump_items, perhaps_jumps}
+use Rattle.gen_laws.proofs.BranchForms.{jump_light}
+use Rattle.gen_laws.specs.GoesOn.{dropped_by}
 use Rattle.gen_laws.specs.ExprCode.{value_items}
 use Rattle.gen_sim.specs.Here.{Here, behind, within}
-use Rattle.gen_sim.specs.FlowCode.{leave_code}
-use Rattle.gen_sim.specs.LoopCode.{body_at, step_at, loop_end, loop_exits, loop_code, test_at}
+use Rattle.gen_sim.specs.FlowCode.{leave_code, else_at}
+use Rattle.gen_sim.specs.LoopCode.{body_at, step_at, loop_test, loop_exits, loop_code, test_at}
 use Rattle.gen_sim.specs.LoopCode.{until_end, until_exits, until_code}
 use Rattle.gen_sim.specs.StateCode.{entry_of, enter_code, switched_code}
 use Rattle.gen_laws.specs.SwitchCode.{values_of, cases_values, table_item, cases_at, table_code}
 use Rattle.gen_laws.proofs.Counts.{count, choice_count}
 use Rattle.gen_laws.proofs.WeightLaws.{value_light, effect_light}
+use Rattle.gen_laws.proofs.PushLaws.{value_push_count}
 use Rattle.gen_laws.specs.ClosedCode.{unknown}
 use Rattle.gen_laws.specs.StmtCode.{condition_items, step_items, stmt_items, for_items, else_items}
 use Rattle.gen_laws.specs.StmtCode.{cases_items, cases_table, stmts_items}
@@ -43,15 +51,9 @@ enter_count None = omega arith
 enter_count (Some f) = omega arith
 
 loop_count : (top : ℕ) (test body step : List Item)
-    → count (loop_code top test body step) ≡ count test + count body + count step + 4
+    → count (loop_code top test body step) ≡ count test + count body + count step + 2
 loop_count top test body step =
-    let back = jump_to op.Jump top ∷ [] in
-    omega (
-      arith,
-      count-append test (jump_to op.Jzer (loop_end top test body step) ∷ (body ++ (step ++ back))),
-      count-append body (step ++ back),
-      count-append step back,
-    )
+    omega (arith, count-append body (step ++ test), count-append step test)
 
 until_count : (top : ℕ) (body test : List Item)
     → count (until_code top body test) ≡ count body + count test + 5
@@ -95,6 +97,16 @@ condition_light : (scope : Scope) (e : Perhaps) (begin : ℕ)
 condition_light scope Absent begin = omega arith
 condition_light scope (Present e) begin = omega (arith, value_light scope e begin)
 
+perhaps_light : (scope : Scope) (e : Perhaps) (when : Bool) (to begin : ℕ)
+    → count (perhaps_jumps scope when to begin e) ≤ perhaps_weight folds e + 4
+perhaps_light scope Absent when to begin =
+    omega (
+      arith,
+      count-append (const_code (pos 1)) (jump_where when IsSet to ∷ []),
+      test_count (test_where when IsSet) to [],
+    )
+perhaps_light scope (Present e) when to begin = omega (arith, jump_light scope e when to begin)
+
 step_light : (scope : Scope) (e : Perhaps) (begin : ℕ)
     → count (step_items scope begin e) ≤ perhaps_weight folds e
 step_light scope Absent begin = omega arith
@@ -106,42 +118,55 @@ mutual
   pub stmt_light : (s : Stmt) (here : Here) (begin : ℕ)
       → count (stmt_items here begin s) + 20 ≤ stmt_weight folds s
   stmt_light (Block stmts) here begin =
-      let leave = leave_code here.scope.slots (slots_made_by stmts) in
+      let leave = leave_code here.scope.slots (dropped_by stmts) in
       omega (
         arith,
         count-append (stmts_items here begin stmts) leave,
-        leave_count here.scope.slots (slots_made_by stmts),
+        leave_count here.scope.slots (dropped_by stmts),
         stmts_light stmts here begin,
       )
   stmt_light (Local s e) here begin =
       omega (
         arith,
-        count-append (value_items here.scope begin e) (alone op.PushPri ∷ []),
+        value_push_count here.scope e (value_items here.scope begin e),
         value_light here.scope e begin,
       )
   stmt_light (LocalArray s o) here begin = omega arith
   stmt_light (Do e) here begin = omega (arith, effect_light here.scope e begin)
-  stmt_light (If c a b) here begin =
-      let condition = value_items here.scope begin c in
-      let p = past begin condition in
-      let first = stmt_items here (p + 8) a in
-      let second = else_items here (other_at p first) b in
+  stmt_light (If c a no_else) here begin =
+      let p = past begin (jump_items here.scope false 0 begin c) in
+      let first = stmt_items here p a in
+      let end = past p first in
       omega (
         arith,
-        count-append condition (choice_code p first second),
-        choice_count p first second,
-        value_light here.scope c begin,
-        stmt_light a here (p + 8),
-        else_light b here (other_at p first),
+        count-append (jump_items here.scope false end begin c) first,
+        jump_light here.scope c false end begin,
+        stmt_light a here p,
+      )
+  stmt_light (If c a (otherwise b)) here begin =
+      let p = past begin (jump_items here.scope false 0 begin c) in
+      let first = stmt_items here p a in
+      let other = else_at p first in
+      let second = stmt_items here other b in
+      let condition = jump_items here.scope false other begin c in
+      let jump = jump_to op.Jump (past (else_at (past begin condition) first) second) in
+      omega (
+        arith,
+        count-append condition (first ++ (jump ∷ second)),
+        count-append first (jump ∷ second),
+        jump_light here.scope c false other begin,
+        stmt_light a here p,
+        stmt_light b here other,
       )
   stmt_light (While c s) here begin =
-      let test = value_items here.scope begin c in
-      let at = body_at begin test in
-      let exits = loop_exits begin test (stmt_items (within unknown here) at s) [] in
+      let at = body_at begin in
+      let one = stmt_items (within unknown here) at s in
+      let test = jump_items here.scope true at (loop_test begin one []) c in
+      let exits = loop_exits begin test one [] in
       omega (
         arith,
         loop_count begin test (stmt_items (within exits here) at s) [],
-        value_light here.scope c begin,
+        jump_light here.scope c true at (loop_test begin one []),
         stmt_light s (within exits here) at,
       )
   stmt_light (DoWhile s c) here begin =
@@ -160,10 +185,10 @@ mutual
       let init = stmts_items here begin first in
       let top = past begin init in
       let leave = leave_code here.scope.slots made in
-      let test = condition_items inner.scope top c in
-      let at = body_at top test in
+      let at = body_at top in
       let one = stmt_items (within unknown inner) at s in
-      let more = step_items inner.scope (step_at top test one) step in
+      let more = step_items inner.scope (step_at top one) step in
+      let test = perhaps_jumps inner.scope true at (loop_test top one more) c in
       let exits = loop_exits top test one more in
       let body = stmt_items (within exits inner) at s in
       omega (
@@ -173,8 +198,8 @@ mutual
         loop_count top test body more,
         leave_count here.scope.slots made,
         stmts_light first here begin,
-        condition_light inner.scope c top,
-        step_light inner.scope step (step_at top test one),
+        perhaps_light inner.scope c true at (loop_test top one more),
+        step_light inner.scope step (step_at top one),
         stmt_light s (within exits inner) at,
       )
   stmt_light (Switch e cases d) here begin =

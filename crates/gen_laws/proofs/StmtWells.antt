@@ -16,18 +16,22 @@ use Rattle.gen_sim.specs.Items.{Item, past}
 use Rattle.gen_sim.specs.SimpleCode.{alone, taking, const_code}
 use Rattle.gen_sim.specs.JumpCode.{jump_to, other_at, choice_code}
 use Rattle.gen_sim.specs.PlaceItems.{object_address}
+use Rattle.gen_laws.specs.GoesOn.{dropped_by}
 use Rattle.gen_laws.specs.ExprCode.{value_items, effect_items}
 use Rattle.gen_sim.specs.Here.{Exits, Here, behind, within}
-use Rattle.gen_sim.specs.FlowCode.{leave_code}
-use Rattle.gen_sim.specs.LoopCode.{body_at, step_at, loop_exits, test_at, until_exits}
+use Rattle.gen_sim.specs.FlowCode.{leave_code, else_at}
+use Rattle.gen_sim.specs.LoopCode.{body_at, step_at, loop_test, loop_exits, test_at}
+use Rattle.gen_sim.specs.LoopCode.{until_exits}
 use Rattle.gen_sim.specs.StateCode.{entry_of, automaton_cell, enter_code, switched_code}
 use Rattle.gen_laws.specs.MadeCode.{array_cells}
 use Rattle.gen_laws.specs.SwitchCode.{cases_at, case_code, table_code}
 use Rattle.gen_laws.specs.Fine.{IsFine, AreFine}
 use Rattle.gen_laws.proofs.FineLaws.{Nowhere, fine_both}
-use Rattle.gen_laws.proofs.FineItems.{alone_fine, any_fine, length_fine, push_pri}
+use Rattle.gen_laws.proofs.FineItems.{alone_fine, any_fine, length_fine}
 use Rattle.gen_laws.proofs.Shapes.{const_fine}
 use Rattle.gen_laws.proofs.ExprForms.{value_closed, effect_closed}
+use Rattle.gen_laws.proofs.PushLaws.{value_push_closed}
+use Rattle.gen_sim.specs.PushCode.{value_push, pushed_by}
 use Rattle.gen_laws.specs.ClosedCode.{unknown}
 use Rattle.gen_laws.specs.StmtCode.{condition_items, step_items, stmt_items, for_items, else_items}
 use Rattle.gen_laws.specs.StmtCode.{cases_items, cases_table, stmts_items}
@@ -36,7 +40,12 @@ use Rattle.gen_laws.specs.Well.{AreWell, ArePairsLed, Holds}
 use Rattle.gen_laws.proofs.WellLaws.{no_call, table_holds, holds_first, holds_rest, holds_next}
 use Rattle.gen_laws.proofs.WellLaws.{holds_here, holds_end, well_both, own_well, closed_well}
 use Rattle.gen_laws.proofs.WellLaws.{jump_well, leave_fine, less_fine, choice_well, loop_well}
-use Rattle.gen_laws.proofs.WellLaws.{until_well, case_led, table_well}
+use Rattle.gen_laws.specs.BranchItems.{jump_where, jump_items, perhaps_jumps}
+use Rattle.gen_laws.proofs.BranchForms.{jump_ends, branch_well}
+use Rattle.gen_sim.specs.TestCode.{IsSet}
+use Rattle.gen_sim.specs.Branch.{test_where}
+use Rattle.gen_laws.proofs.WellLaws.{test_jump, if_well, only_well, until_well, case_led}
+use Rattle.gen_laws.proofs.WellLaws.{table_well}
 
 -- ---- own items
 
@@ -78,6 +87,14 @@ module _ (T U : ℕ → Type 0) where
     effect_well e h begin g =
         closed_well T U natives begin (effect_items scope begin e) (effect_closed scope e h begin) g
 
+    push_well : (e : Expr) → IsValidExpr scope e → (begin : ℕ)
+        → Holds T U begin (pushed_by (value_push scope e) (value_items scope begin e))
+        → AreWell natives T U (pushed_by (value_push scope e) (value_items scope begin e))
+    push_well e h begin g =
+        closed_well T U natives begin (pushed_by (value_push scope e) (value_items scope begin e))
+        (value_push_closed natives scope begin e (value_items scope begin e)
+        (value_closed scope e h begin)) g
+
     -- and items of the node's own behind one
     valued_well : (e : Expr) → IsValidExpr scope e → (begin : ℕ) (last : List Item)
         → AreFine natives Nowhere last
@@ -95,6 +112,15 @@ module _ (T U : ℕ → Type 0) where
         own_well T U natives (const_code (pos 1)) (const_fine natives (pos 1))
     condition_well (Present e) h begin g = value_well e h begin g
 
+    perhaps_well : (e : Perhaps) → IsValidPerhaps scope e → (when : Bool) (to begin : ℕ) → T to
+        → Holds T U begin (perhaps_jumps scope when to begin e)
+        → AreWell natives T U (perhaps_jumps scope when to begin e)
+    perhaps_well Absent h when to begin at g =
+        well_both T U natives (const_code (pos 1)) (jump_where when IsSet to ∷ [])
+        (own_well T U natives (const_code (pos 1)) (const_fine natives (pos 1)))
+        (test_jump natives T U (test_where when IsSet) to at, tt)
+    perhaps_well (Present e) h when to begin at g = branch_well T U scope e h when to begin at g
+
     step_well : (e : Perhaps) → IsValidPerhaps scope e → (begin : ℕ)
         → Holds T U begin (step_items scope begin e)
         → AreWell natives T U (step_items scope begin e)
@@ -110,14 +136,13 @@ module _ (T U : ℕ → Type 0) where
         → AreWell (length here.scope.program.natives) T U (stmt_items here begin s)
     stmt_well (Block stmts) here in_list h out begin g =
         let items = stmts_items here begin stmts in
-        let leave = leave_code here.scope.slots (slots_made_by stmts) in
+        let leave = leave_code here.scope.slots (dropped_by stmts) in
         well_both T U (length here.scope.program.natives) items leave
         (stmts_well stmts here h out begin (holds_first T U begin items leave g))
         (own_well T U (length here.scope.program.natives) leave
-        (leave_fine (length here.scope.program.natives) here.scope.slots (slots_made_by stmts)))
+        (leave_fine (length here.scope.program.natives) here.scope.slots (dropped_by stmts)))
     stmt_well (Local s e) here in_list h out begin g =
-        valued_well here.scope e h.3 begin (alone op.PushPri ∷ [])
-        (push_pri (length here.scope.program.natives) Nowhere, tt) g
+        push_well here.scope e h.3 begin g
     stmt_well (LocalArray s o) here in_list h out begin g =
         let natives = length here.scope.program.natives in
         let n = array_cells here.scope s in
@@ -136,30 +161,40 @@ module _ (T U : ℕ → Type 0) where
           ),
         )
     stmt_well (Do e) here in_list h out begin g = effect_well here.scope e h begin g
-    stmt_well (If c a b) here in_list h out begin g =
-        let natives = length here.scope.program.natives in
-        let condition = value_items here.scope begin c in
-        let p = past begin condition in
-        let first = stmt_items here (p + 8) a in
-        let second = else_items here (other_at p first) b in
-        well_both T U natives condition (choice_code p first second)
-        (value_well here.scope c h.0 begin
-        (holds_first T U begin condition (choice_code p first second) g))
-        (choice_well natives T U p first second
-        (holds_rest T U begin condition (choice_code p first second) g)
-        (λ k. stmt_well a here false h.1 out (p + 8) k)
-        (λ k. else_well b here h.2 out (other_at p first) k))
+    stmt_well (If c a no_else) here in_list h out begin g =
+        let p = past begin (jump_items here.scope false 0 begin c) in
+        let first = stmt_items here p a in
+        let end = past p first in
+        let condition = jump_items here.scope false end begin c in
+        let same = jump_ends here.scope c false begin end 0 in
+        only_well (length here.scope.program.natives) T U begin condition first g
+        (λ at k. branch_well T U here.scope c h.0 false end begin
+        (subst (λ q. T (past q first)) same at) k)
+        (λ k. stmt_well a here false h.1 out p (subst (λ q. Holds T U q first) same k))
+    stmt_well (If c a (otherwise b)) here in_list h out begin g =
+        let p = past begin (jump_items here.scope false 0 begin c) in
+        let first = stmt_items here p a in
+        let other = else_at p first in
+        let second = stmt_items here other b in
+        let condition = jump_items here.scope false other begin c in
+        let same = jump_ends here.scope c false begin other 0 in
+        if_well (length here.scope.program.natives) T U begin condition first second g
+        (λ at k. branch_well T U here.scope c h.0 false other begin
+        (subst (λ q. T (else_at q first)) same at) k)
+        (λ k. stmt_well a here false h.1 out p (subst (λ q. Holds T U q first) same k))
+        (λ k. stmt_well b here false h.2 out other
+        (subst (λ q. Holds T U (else_at q first) second) same k))
     stmt_well (While c s) here in_list h out begin g =
-        let test = value_items here.scope begin c in
-        let at = body_at begin test in
+        let at = body_at begin in
         let first = stmt_items (within unknown here) at s in
+        let test = jump_items here.scope true at (loop_test begin first []) c in
         let exits = loop_exits begin test first [] in
         let body = stmt_items (within exits here) at s in
-        let same =
-        loop_alike begin test first body []
-        (stmt_ends s (within unknown here) unknown exits at) in
+        let ends = stmt_ends s (within unknown here) unknown exits at in
+        let same = loop_alike begin test first body [] ends in
         loop_well (length here.scope.program.natives) T U begin test body [] g
-        (λ k. value_well here.scope c h.0 begin k)
+        (λ to k. branch_well T U here.scope c h.0 true at (loop_test begin first []) to
+        (subst (λ q. Holds T U q test) (sym ends) k))
         (λ k z. stmt_well s (within exits here) false h.1
         (λ y. subst (λ e. T e.broke × T e.continued) (sym same) z) at k) (λ k. tt)
     stmt_well (DoWhile s c) here in_list h out begin g =
@@ -183,10 +218,10 @@ module _ (T U : ℕ → Type 0) where
         let top = past begin zeroth in
         let leave = leave_code here.scope.slots made in
         let loop = for_items inner top c step s in
-        let test = condition_items inner.scope top c in
-        let at = body_at top test in
+        let at = body_at top in
         let first = stmt_items (within unknown inner) at s in
-        let more = step_items inner.scope (step_at top test first) step in
+        let more = step_items inner.scope (step_at top first) step in
+        let test = perhaps_jumps inner.scope true at (loop_test top first more) c in
         let exits = loop_exits top test first more in
         let body = stmt_items (within exits inner) at s in
         let ends = stmt_ends s (within unknown inner) unknown exits at in
@@ -196,10 +231,11 @@ module _ (T U : ℕ → Type 0) where
         (well_both T U natives loop leave
         (loop_well natives T U top test body more
         (holds_first T U top loop leave (holds_rest T U begin zeroth (loop ++ leave) g))
-        (λ k. condition_well inner.scope c h.1 top k)
+        (λ to k. perhaps_well inner.scope c h.1 true at (loop_test top first more) to
+        (subst (λ q. Holds T U (past q more) test) (sym ends) k))
         (λ k z. stmt_well s (within exits inner) false h.3
         (λ y. subst (λ e. T e.broke × T e.continued) (sym same) z) at k)
-        (λ k. step_well inner.scope step h.2 (step_at top test first)
+        (λ k. step_well inner.scope step h.2 (step_at top first)
         (subst (λ q. Holds T U q more) (sym ends) k)))
         (own_well T U natives leave (leave_fine natives here.scope.slots made)))
     stmt_well (Switch e cases d) here in_list h out begin g =

@@ -1,9 +1,8 @@
 -- The code of a valid program has no fault.
 use Rattle.std.proofs.Common.{◌≡◌, ◌+◌, ◌*◌, ◌^◌, ◌<◌, inl, inr, ℕ, zero, suc, ℤ, pos, negsuc, List}
-use Rattle.std.proofs.Common.{[], ◌∷◌, ◌++◌, Option, None, Some, true, false, length, slice_get}
-use Rattle.std.proofs.Common.{get_or, drop, map, refl, sym, ap, subst, ◌∙◌, arith}
+use Rattle.std.proofs.Common.{[], ◌∷◌, ◌++◌, Option, None, Some, true, length, slice_get}
+use Rattle.std.proofs.Common.{drop, map, refl, sym, subst, arith}
 use Rattle.std.specs.Prelude.{All, IfSome, IfNone}
-use Rattle.std.proofs.lemmas.Option.{slice_get_within}
 use Rattle.pawn_meaning.specs.Program.{Body, Route, Function, Automaton, Public, Program}
 use Rattle.pawn_meaning.specs.Valid.{IsValid, IsValidFunction}
 use Rattle.amx_ops.specs.Instructions.{is_start, placed, cells_in, Placed}

@@ -1,5 +1,6 @@
 -- The code of each node is within its weight, with twenty cells to spare for what stands around it.
-use Rattle.std.proofs.Common.{◌≡◌, ◌+◌, ◌*◌, ◌≤◌, ℕ, pos, List, [], ◌∷◌, ◌++◌, Option, arith}
+use Rattle.std.proofs.Common.{◌≡◌, ◌+◌, ◌*◌, ◌≤◌, ℕ, pos, List, [], ◌∷◌, ◌++◌, Bool, Option, arith}
+use Rattle.pawn_cells.specs.declared.operator.Comparison.{Comparison}
 use Rattle.pawn_meaning.specs.Program.{Scalar, Global, Own, Through, Element, Char, Array, Object}
 use Rattle.pawn_meaning.specs.Program.{SlotArray, ParamArray, Row, From, Expr, Const, Read, Unary}
 use Rattle.pawn_meaning.specs.Program.{Binary, Chain, And, Or, Cond, Assign, Update, UpdateBy, Step}
@@ -11,73 +12,48 @@ use Rattle.pawn_meaning.specs.Need.{count_of}
 use Rattle.pawn_meaning.specs.Weight.{scalar_weight, array_weight, expr_weight, links_weight}
 use Rattle.pawn_meaning.specs.Weight.{arg_weight, args_weight, folds}
 use Rattle.pawn_meaning.specs.Fold.{fold}
-use Rattle.pawn_meaning.specs.declared.program_limits.TheConstants.{NODE_WEIGHT}
 use Rattle.amx_ops.specs.declared.op.Op.TheVariants as op
 use Rattle.gen_sim.specs.Items.{Item, CallOf, past}
 use Rattle.gen_sim.specs.Results.{temporaries_in}
 use Rattle.gen_sim.proofs.ItemLaws.{count-append}
-use Rattle.gen_sim.specs.SimpleCode.{alone, taking, operator_code, const_code, prefix_op}
-use Rattle.gen_sim.specs.SimpleCode.{waiting_code}
-use Rattle.gen_sim.specs.AccessCode.{load_code, store_code, changed_code, stepped_code, turned_code}
+use Rattle.gen_sim.specs.SimpleCode.{alone, taking, const_code, prefix_op}
+use Rattle.gen_sim.specs.AccessCode.{load_code, changed_code, turned_code, address_code}
 use Rattle.gen_sim.specs.JumpCode.{other_at, choice_code, truth_code}
-use Rattle.gen_sim.specs.IndexCode.{bounds_code, in_characters}
+use Rattle.gen_sim.specs.BaseCode.{base_of, index_begin}
+use Rattle.gen_sim.specs.IndexCode.{element_code, rest_code, row_code}
 use Rattle.gen_sim.specs.CallCode.{one_code, two_code, convert_code, give_back_code}
 use Rattle.gen_sim.specs.ChainCode.{link_code, fail_at, chain_end_code}
-use Rattle.gen_laws.specs.ExprCode.{known_size, link_with, others_at, linked_with, place_items}
+use Rattle.gen_laws.specs.ExprCode.{known_size, link_with, others_at, linked_with, index_items}
+use Rattle.gen_laws.specs.ExprCode.{place_items}
 use Rattle.gen_laws.specs.ExprCode.{array_items, value_items, links_items, arg_items, args_items}
 use Rattle.gen_laws.specs.ExprCode.{effect_items}
-use Rattle.gen_laws.proofs.Counts.{count, prefix_count, operator_count, load_count, store_count}
-use Rattle.gen_laws.proofs.Counts.{changed_count, stepped_count, turned_count, bounds_count}
-use Rattle.gen_laws.proofs.Counts.{two_count, convert_count, give_back_count, link_count}
+use Rattle.gen_laws.proofs.Counts.{count, prefix_count, load_count, changed_count}
+use Rattle.gen_laws.proofs.Counts.{turned_count, address_count, element_count, character_count}
+use Rattle.gen_laws.proofs.Counts.{base_two, two_count, convert_count, give_back_count, link_count}
+use Rattle.gen_laws.proofs.Counts.{direct_two, read_count, step_count, const_count, right_two}
+use Rattle.gen_laws.proofs.Counts.{operate_count, folded_count, effect_two, both_count}
+use Rattle.gen_laws.proofs.Counts.{choice_count, IsRightTwo, last_by_count, middle_link_count}
+use Rattle.gen_laws.proofs.ChangeCounts.{assign_count, update_count, effect_count, quiet_two}
 use Rattle.gen_sim.specs.DirectCode.{direct_of, value_begin}
-use Rattle.gen_sim.specs.OperandCode.{right_of}
-use Rattle.gen_laws.proofs.Counts.{direct_two, read_count, assign_count, update_count, step_count}
-use Rattle.gen_laws.proofs.Counts.{right_two, binary_count, folded_count, effect_two, effect_count}
-use Rattle.gen_laws.proofs.Counts.{waiting_count, both_count, choice_count, last_link_count}
-use Rattle.gen_laws.proofs.Counts.{middle_link_count}
-
--- ---- what is done with an index
-
-element_count : (size : Option ℕ)
-    → count (bounds_code size ++ (alone op.PopAlt ∷ alone op.Idxaddr ∷ [])) ≤ 6
-element_count size =
-    omega (
-      arith,
-      count-append (bounds_code size) (alone op.PopAlt ∷ alone op.Idxaddr ∷ []),
-      bounds_count size,
-    )
-
-character_count : (size : Option ℕ)
-    → count (bounds_code size ++ (taking op.AlignPri (pos 1) ∷ alone op.PopAlt ∷ alone op.Add ∷ []))
-    ≤ 8
-character_count size =
-    omega (
-      arith,
-      count-append (bounds_code size)
-          (taking op.AlignPri (pos 1) ∷ alone op.PopAlt ∷ alone op.Add ∷ []),
-      bounds_count size,
-    )
-
-row_count : (size : Option ℕ) → count
-    (bounds_code size ++ (alone op.PopAlt ∷ alone op.Idxaddr ∷ alone op.MoveAlt ∷ alone op.LoadI
-    ∷ alone op.Add ∷ [])) ≤ 9
-row_count size =
-    omega (
-      arith,
-      count-append (bounds_code size)
-          (alone op.PopAlt ∷ alone op.Idxaddr ∷ alone op.MoveAlt ∷ alone op.LoadI ∷ alone op.Add
-          ∷ []),
-      bounds_count size,
-    )
+use Rattle.gen_sim.specs.OperandCode.{Right, right_of}
+use Rattle.gen_sim.specs.OperandCode.{operate_by}
+use Rattle.gen_sim.specs.PushCode.{value_push, left_by}
+use Rattle.gen_laws.proofs.PushLaws.{value_push_count, left_count, place_push_count}
+use Rattle.gen_laws.proofs.PushLaws.{array_push_count}
 
 -- ---- links
 
-link_light : (fail : ℕ) (operand link : List Item) (links : Links) (others : List Item)
-    → count (link_with fail operand link links others) ≤ count operand + count link
-    + count others + 6
-link_light fail operand link no_links others = omega (arith, last_link_count operand link)
-link_light fail operand link (then_link o e f swapped links) others =
-    omega (arith, middle_link_count fail operand link others)
+link_light : (fail : ℕ) (o : Comparison) (f : Option ℕ) (swapped : Bool) (how : Right)
+    → IsRightTwo how → (operand : List Item) (links : Links) (others : List Item)
+    → count (link_with fail o f swapped how operand links others) ≤ count operand + count others + 12
+link_light fail o f swapped how h operand no_links others =
+    omega (arith, last_by_count o f swapped how h operand)
+link_light fail o f swapped how h operand (then_link o2 e2 f2 swapped2 links) others =
+    omega (
+      arith,
+      middle_link_count fail operand (link_code o f swapped) others,
+      link_count o f swapped,
+    )
 
 chain_light : (q : ℕ) (links : Links) (items : List Item)
     → count (linked_with q links items) ≤ count items + 5
@@ -85,19 +61,6 @@ chain_light q no_links items = omega arith
 chain_light q (then_link o e f swapped no_links) items = omega arith
 chain_light q (then_link o e f swapped (then_link o2 e2 f2 swapped2 links)) items =
     omega (arith, count-append items (chain_end_code q))
-
--- an array, an index, and what is done with both
-indexed_light : (array index last : List Item) (a e : ℕ) → count last ≤ 9 → count array + 20 ≤ a
-    → count index + 20 ≤ e → count (waiting_code array index last) + 20 ≤ NODE_WEIGHT + (a + e)
-indexed_light array index last a e l h g = omega (arith, waiting_count array index last, l, h, g)
-
-element_light : (array index : List Item) (size : Option ℕ) (a e : ℕ) → count array + 20 ≤ a
-    → count index + 20 ≤ e
-    → count (waiting_code array index
-    (bounds_code size ++ (alone op.PopAlt ∷ alone op.Idxaddr ∷ []))) + 20 ≤ NODE_WEIGHT + (a + e)
-element_light array index size a e h g =
-    indexed_light array index (bounds_code size ++ (alone op.PopAlt ∷ alone op.Idxaddr ∷ [])) a e
-    (omega (arith, element_count size)) h g
 
 -- a place, its load, and what changes the value
 stepping_count : (items load last : List Item)
@@ -126,23 +89,36 @@ given_count items last n =
 module _ (scope : Scope) where
   -- where an index begins
   abbrev index_at : ℕ → Array → ℕ
-  index_at begin a = past begin (array_items scope begin a) + 4
+  index_at begin a = index_begin (base_of scope a) begin (array_items scope begin a)
+
+  place_within : (p : Scalar) (begin : ℕ)
+      → count (index_items scope begin p) + 25 ≤ scalar_weight folds p
+      → count (place_items scope begin p) + 20 ≤ scalar_weight folds p
+  place_within p begin h =
+      omega (arith, count-append (index_items scope begin p) (address_code p), address_count p, h)
 
   mutual
-    pub place_light : (p : Scalar) (begin : ℕ)
-        → count (place_items scope begin p) + 20 ≤ scalar_weight folds p
-    place_light (Global o) begin = omega arith
-    place_light (Own s) begin = omega arith
-    place_light (Through s) begin = omega arith
-    place_light (Element a e) begin =
-        element_light (array_items scope begin a) (value_items scope (index_at begin a) e)
-        (known_size (extent scope a)) _ _ (array_light a begin) (value_light e (index_at begin a))
-    place_light (Char a e) begin =
-        let size = in_characters (known_size (extent scope a)) in
-        indexed_light (array_items scope begin a) (value_items scope (index_at begin a) e)
-        (bounds_code size ++ (taking op.AlignPri (pos 1) ∷ alone op.PopAlt ∷ alone op.Add ∷ []))
-        _ _ (omega (arith, character_count size)) (array_light a begin)
-        (value_light e (index_at begin a))
+    pub index_light : (p : Scalar) (begin : ℕ)
+        → count (index_items scope begin p) + 25 ≤ scalar_weight folds p
+    index_light (Global o) begin = omega arith
+    index_light (Own s) begin = omega arith
+    index_light (Through s) begin = omega arith
+    index_light (Element a e) begin =
+        omega (
+          arith,
+          element_count (base_of scope a) (base_two scope a) (known_size (extent scope a))
+              (array_items scope begin a) (value_items scope (index_at begin a) e),
+          array_light a begin,
+          value_light e (index_at begin a),
+        )
+    index_light (Char a e) begin =
+        omega (
+          arith,
+          character_count (base_of scope a) (base_two scope a) (known_size (extent scope a))
+              (array_items scope begin a) (value_items scope (index_at begin a) e),
+          array_light a begin,
+          value_light e (index_at begin a),
+        )
 
     pub array_light : (a : Array) (begin : ℕ)
         → count (array_items scope begin a) + 20 ≤ array_weight folds a
@@ -150,23 +126,36 @@ module _ (scope : Scope) where
     array_light (SlotArray s) begin = omega arith
     array_light (ParamArray s known) begin = omega arith
     array_light (Row a e) begin =
+        let array = array_items scope begin a in
+        let index = value_items scope (index_at begin a) e in
         let size = known_size (extent scope a) in
-        indexed_light (array_items scope begin a) (value_items scope (index_at begin a) e)
-        (bounds_code size ++ (alone op.PopAlt ∷ alone op.Idxaddr ∷ alone op.MoveAlt
-        ∷ alone op.LoadI ∷ alone op.Add ∷ []))
-        _ _ (row_count size) (array_light a begin) (value_light e (index_at begin a))
+        omega (
+          arith,
+          element_count (base_of scope a) (base_two scope a) size array index,
+          count-append (element_code (base_of scope a) size array index) row_code,
+          array_light a begin,
+          value_light e (index_at begin a),
+        )
     array_light (From a e) begin =
-        element_light (array_items scope begin a) (value_items scope (index_at begin a) e)
-        (known_size (extent scope a)) _ _ (array_light a begin) (value_light e (index_at begin a))
+        let array = array_items scope begin a in
+        let index = value_items scope (index_at begin a) e in
+        let size = known_size (extent scope a) in
+        omega (
+          arith,
+          element_count (base_of scope a) (base_two scope a) size array index,
+          count-append (element_code (base_of scope a) size array index) rest_code,
+          array_light a begin,
+          value_light e (index_at begin a),
+        )
 
     pub value_light : (e : Expr) (begin : ℕ)
         → count (value_items scope begin e) + 20 ≤ expr_weight folds e
-    value_light (Const v) begin = omega arith
+    value_light (Const v) begin = omega (arith, const_count v)
     value_light (Read p) begin =
         omega (
           arith,
-          read_count (direct_of scope p) (direct_two scope p) p (place_items scope begin p),
-          place_light p begin,
+          read_count (direct_of scope p) (direct_two scope p) p (index_items scope begin p),
+          index_light p begin,
         )
     value_light (Unary o e) begin =
         folded_count (fold (Unary o e)) _ _ (omega (
@@ -176,11 +165,14 @@ module _ (scope : Scope) where
           value_light e begin,
         ))
     value_light (Binary o l r) begin =
-        let left = value_items scope begin l in
-        let q = past begin left + 4 in
+        let how = right_of scope r in
+        let left = left_by how (value_push scope l) (value_items scope begin l) in
+        let q = past begin left in
         folded_count (fold (Binary o l r)) _ _ (omega (
           arith,
-          binary_count o (right_of scope r) (right_two scope r) left (value_items scope q r),
+          count-append left (operate_by o how (value_items scope q r)),
+          left_count scope how l (value_items scope begin l),
+          operate_count o how (right_two scope r) (value_items scope q r),
           value_light l begin,
           value_light r q,
         ))
@@ -240,8 +232,9 @@ module _ (scope : Scope) where
         let q = value_begin (direct_of scope p) begin place in
         omega (
           arith,
-          assign_count (direct_of scope p) (direct_two scope p) p place (value_items scope q e),
-          place_light p begin,
+          assign_count (direct_of scope p) (direct_two scope p) (right_of scope e)
+              (quiet_two scope e) p place (value_items scope q e),
+          place_within p begin (index_light p begin),
           value_light e q,
         )
     value_light (Update p o e) begin =
@@ -249,10 +242,9 @@ module _ (scope : Scope) where
         let q = value_begin (direct_of scope p) begin place in
         omega (
           arith,
-          update_count (direct_of scope p) (direct_two scope p) p place (value_items scope q e)
-              (operator_code o),
-          operator_count o,
-          place_light p begin,
+          update_count (direct_of scope p) (direct_two scope p) (right_of scope e)
+              (quiet_two scope e) p o place (value_items scope q e),
+          place_within p begin (index_light p begin),
           value_light e q,
         )
     value_light (UpdateBy p f swapped e convert) begin =
@@ -266,7 +258,7 @@ module _ (scope : Scope) where
           count-append (two_code f swapped) (convert_code convert),
           two_count f swapped,
           convert_count convert,
-          place_light p begin,
+          place_within p begin (index_light p begin),
           value_light e q,
         )
     value_light (Step p delta prefix) begin =
@@ -274,15 +266,16 @@ module _ (scope : Scope) where
           arith,
           step_count (direct_of scope p) (direct_two scope p) p delta prefix
               (place_items scope begin p),
-          place_light p begin,
+          place_within p begin (index_light p begin),
         )
     value_light (StepBy p f prefix) begin =
         omega (
           arith,
-          stepping_count (place_items scope begin p) (load_code p) (turned_code p (one_code f) prefix),
+          stepping_count (place_items scope begin p) (load_code p) (turned_code p (one_code f)
+              prefix),
           load_count p,
           turned_count p (one_code f) prefix,
-          place_light p begin,
+          place_within p begin (index_light p begin),
         )
     value_light (Copy to from n) begin =
         let first = array_items scope begin to in
@@ -336,8 +329,8 @@ module _ (scope : Scope) where
         let p = others_at begin operand link in
         omega (
           arith,
-          link_light fail operand link links (links_items scope p fail links),
-          link_count o f swapped,
+          link_light fail o f swapped (right_of scope e) (right_two scope e) operand links
+              (links_items scope p fail links),
           value_light e (begin + 4),
           links_light links p fail,
         )
@@ -347,19 +340,19 @@ module _ (scope : Scope) where
     arg_light (Value e) begin =
         omega (
           arith,
-          count-append (value_items scope begin e) (alone op.PushPri ∷ []),
+          value_push_count scope e (value_items scope begin e),
           value_light e begin,
         )
     arg_light (Ref p) begin =
         omega (
           arith,
-          count-append (place_items scope begin p) (alone op.PushPri ∷ []),
-          place_light p begin,
+          place_push_count scope p (place_items scope begin p),
+          place_within p begin (index_light p begin),
         )
     arg_light (Whole a) begin =
         omega (
           arith,
-          count-append (array_items scope begin a) (alone op.PushPri ∷ []),
+          array_push_count scope a (array_items scope begin a),
           array_light a begin,
         )
     arg_light (Temp e) begin =
@@ -388,9 +381,9 @@ module _ (scope : Scope) where
   effect_light (Step p delta prefix) begin =
       omega (
         arith,
-        effect_count (direct_of scope p) (direct_two scope p) (effect_two scope p) p delta prefix
+        effect_count (direct_of scope p) (direct_two scope p) (effect_two scope p) p delta
             (place_items scope begin p),
-        place_light p begin,
+        place_within p begin (index_light p begin),
       )
   effect_light (Seq a b) begin =
       let first = effect_items scope begin a in

@@ -1,6 +1,6 @@
 -- Items one behind another that are well, and the shapes of statements.
 use Rattle.std.proofs.Common.{◌≡◌, ◌≢◌, ◌+◌, ◌*◌, ◌%◌, inl, inr, ℕ, zero, suc, ℤ, pos, ◌+ℤ◌, List}
-use Rattle.std.proofs.Common.{[], ◌∷◌, ◌++◌, Bool, true, false, length, refl, sym, ap, subst, ◌∙◌}
+use Rattle.std.proofs.Common.{[], ◌∷◌, ◌++◌, true, false, length, refl, sym, ap, subst, ◌∙◌}
 use Rattle.std.proofs.Common.{arith}
 use Rattle.std.proofs.lemmas.Int.{ints}
 use Rattle.std.specs.Prelude.{neg_ℤ}
@@ -15,15 +15,18 @@ use Rattle.amx_ops.specs.Table.{operand_of}
 use Rattle.gen_sim.specs.Items.{Item, Plain, CallOf, size, past}
 use Rattle.gen_sim.specs.SimpleCode.{alone, taking}
 use Rattle.gen_sim.specs.JumpCode.{jump_to, other_at, end_at, choice_code}
-use Rattle.gen_sim.specs.FlowCode.{made_cells, leave_code}
-use Rattle.gen_sim.specs.LoopCode.{body_at, step_at, loop_end, loop_code, test_at, until_end}
+use Rattle.gen_sim.specs.TestCode.{Test, IsZero, IsSet, AreSame, AreOther, IsLess, IsAtMost}
+use Rattle.gen_sim.specs.TestCode.{IsGreater, IsAtLeast, test_op}
+use Rattle.gen_sim.specs.FlowCode.{made_cells, leave_code, else_at, if_code}
+use Rattle.gen_sim.specs.LoopCode.{body_at, step_at, loop_test, loop_end, loop_code, test_at}
+use Rattle.gen_sim.specs.LoopCode.{until_end}
 use Rattle.gen_sim.specs.LoopCode.{until_code}
 use Rattle.gen_laws.specs.SwitchCode.{values_from, ranges_table, cases_values, table_item, cases_at}
 use Rattle.gen_laws.specs.SwitchCode.{table_code}
 use Rattle.gen_laws.specs.Fine.{LeadsBy, AreFine, AreClosed, StartsAt}
 use Rattle.gen_laws.proofs.FineLaws.{starts_here, starts_end, starts_first, starts_rest, Nowhere}
 use Rattle.gen_laws.proofs.FineItems.{is_call, alone_fine, multiple_fine, multiple_up}
-use Rattle.gen_laws.specs.Well.{IsLed, ArePairsLed, LeadsWith, IsWell, AreWell, TableAt, Holds}
+use Rattle.gen_laws.specs.Well.{ArePairsLed, LeadsWith, IsWell, AreWell, TableAt, Holds}
 
 -- ---- parts
 
@@ -192,34 +195,71 @@ module _ (natives : ℕ) (T U : ℕ → Type 0) where
             ),
       )
 
+  pub test_jump : (t : Test) (to : ℕ) → T to → IsWell natives T U (jump_to (test_op t) to)
+  test_jump IsZero to h = jump_well T U natives op.Jzer to refl refl h
+  test_jump IsSet to h = jump_well T U natives op.Jnz to refl refl h
+  test_jump AreSame to h = jump_well T U natives op.Jeq to refl refl h
+  test_jump AreOther to h = jump_well T U natives op.Jneq to refl refl h
+  test_jump IsLess to h = jump_well T U natives op.Jsless to refl refl h
+  test_jump IsAtMost to h = jump_well T U natives op.Jsleq to refl refl h
+  test_jump IsGreater to h = jump_well T U natives op.Jsgrtr to refl refl h
+  test_jump IsAtLeast to h = jump_well T U natives op.Jsgeq to refl refl h
+
+  pub if_well : (begin : ℕ) (condition first second : List Item)
+      → Holds T U begin (if_code begin condition first second)
+      → (T (else_at (past begin condition) first) → Holds T U begin condition
+      → AreWell natives T U condition)
+      → (Holds T U (past begin condition) first → AreWell natives T U first)
+      → (Holds T U (else_at (past begin condition) first) second → AreWell natives T U second)
+      → AreWell natives T U (if_code begin condition first second)
+  if_well begin condition first second h test one two =
+      let p = past begin condition in
+      let at = else_at p first in
+      let jump = jump_to op.Jump (past at second) in
+      let h1 = holds_rest T U begin condition (first ++ (jump ∷ second)) h in
+      let h2 = holds_rest T U p first (jump ∷ second) h1 in
+      let h3 = holds_next T U (past p first) jump second h2 in
+      well_both T U natives condition (first ++ (jump ∷ second))
+      (test (holds_here T U at second h3)
+      (holds_first T U begin condition (first ++ (jump ∷ second)) h))
+      (well_both T U natives first (jump ∷ second)
+      (one (holds_first T U p first (jump ∷ second) h1))
+      (jump_well T U natives op.Jump (past at second) refl refl (holds_end T U at second h3), two h3))
+
+  pub only_well : (begin : ℕ) (condition first : List Item) → Holds T U begin (condition ++ first)
+      → (T (past (past begin condition) first) → Holds T U begin condition
+      → AreWell natives T U condition)
+      → (Holds T U (past begin condition) first → AreWell natives T U first)
+      → AreWell natives T U (condition ++ first)
+  only_well begin condition first h test one =
+      let h1 = holds_rest T U begin condition first h in
+      well_both T U natives condition first
+      (test (holds_end T U (past begin condition) first h1)
+      (holds_first T U begin condition first h)) (one h1)
+
   -- the exits of a loop hold too
   pub loop_well : (top : ℕ) (test body step : List Item)
       → Holds T U top (loop_code top test body step)
-      → (Holds T U top test → AreWell natives T U test)
-      → (Holds T U (body_at top test) body
-      → T (loop_end top test body step) × T (step_at top test body) → AreWell natives T U body)
-      → (Holds T U (step_at top test body) step → AreWell natives T U step)
+      → (T (body_at top) → Holds T U (loop_test top body step) test → AreWell natives T U test)
+      → (Holds T U (body_at top) body
+      → T (loop_end top test body step) × T (step_at top body) → AreWell natives T U body)
+      → (Holds T U (step_at top body) step → AreWell natives T U step)
       → AreWell natives T U (loop_code top test body step)
   loop_well top test body step h one two three =
-      let end = loop_end top test body step in
-      let back = jump_to op.Jump top ∷ [] in
-      let rest = jump_to op.Jzer end ∷ (body ++ (step ++ back)) in
-      let h1 = holds_rest T U top test rest h in
-      let h2 = holds_next T U (past top test) (jump_to op.Jzer end) (body ++ (step ++ back)) h1 in
-      let h3 = holds_rest T U (body_at top test) body (step ++ back) h2 in
-      let h4 = holds_rest T U (step_at top test body) step back h3 in
-      let at_end : T end = holds_end T U (past (step_at top test body) step) back h4 in
-      well_both T U natives test rest (one (holds_first T U top test rest h)) (
-        jump_well T U natives op.Jzer end refl refl at_end,
-        well_both T U natives body (step ++ back)
-            (two (holds_first T U (body_at top test) body (step ++ back) h2)
-            (at_end, holds_here T U (step_at top test body) (step ++ back) h3))
-            (well_both T U natives step back
-            (three (holds_first T U (step_at top test body) step back h3)) (
-              jump_well T U natives op.Jump top refl refl
-                  (holds_here T U top (loop_code top test body step) h),
-              tt,
-            )),
+      let start = jump_to op.Jump (loop_test top body step) in
+      let h1 = holds_next T U top start (body ++ (step ++ test)) h in
+      let h2 = holds_rest T U (body_at top) body (step ++ test) h1 in
+      let h3 = holds_rest T U (step_at top body) step test h2 in (
+        jump_well T U natives op.Jump (loop_test top body step) refl refl
+            (holds_here T U (loop_test top body step) test h3),
+        well_both T U natives body (step ++ test)
+            (two (holds_first T U (body_at top) body (step ++ test) h1) (
+              holds_end T U (loop_test top body step) test h3,
+              holds_here T U (step_at top body) (step ++ test) h2,
+            ))
+            (well_both T U natives step test
+            (three (holds_first T U (step_at top body) step test h2))
+            (one (holds_here T U (body_at top) (body ++ (step ++ test)) h1) h3)),
       )
 
   pub until_well : (top : ℕ) (body test : List Item) → Holds T U top (until_code top body test)

@@ -1,5 +1,5 @@
 -- A file that has a program's code and data agrees with what the program means.
-use Rattle.std.specs.Prelude.{◌≡◌, ◌+◌, ◌*◌, ◌^◌, ◌<◌, ◌≤◌, ℕ, ℤ, pos, List, ◌∷◌, Some, All, length}
+use Rattle.std.specs.Prelude.{◌≡◌, ◌+◌, ◌^◌, ◌<◌, ◌≤◌, ℕ, ℤ, pos, List, Some, All, length}
 use Rattle.std.specs.Prelude.{slice_get}
 use Rattle.pawn_cells.specs.Cells.{IsCell, bits_of}
 use Rattle.host_script.specs.declared.script.Script.{Script}

@@ -1,6 +1,6 @@
 -- What is known of a statement beside its own validity: the slots that it makes are new, and the
 -- program is valid.
-use Rattle.std.specs.Prelude.{◌≡◌, ◌+◌, ◌^◌, ◌<◌, ℕ, List, All, Any, length}
+use Rattle.std.specs.Prelude.{◌≡◌, ◌^◌, ◌<◌, ℕ, List, All, Any, length}
 use Rattle.pawn_meaning.specs.Program.{Slot, Automaton, Program}
 use Rattle.pawn_meaning.specs.Scope.{Scope, IsMade}
 use Rattle.pawn_meaning.specs.Valid.{IsSlot, IsValid}

@@ -1,8 +1,10 @@
 pub mod BodyCode
+pub mod BranchItems
 pub mod Called
 pub mod ClosedCode
 pub mod CodeIsValid
 pub mod CodeMeans
+pub mod ConditionCode
 pub mod ExprCode
 pub mod FileCode
 pub mod FileOf
@@ -10,6 +12,7 @@ pub mod FilesAgree
 pub mod Fine
 pub mod Fresh
 pub mod FunctionCode
+pub mod GoesOn
 pub mod HasProgram
 pub mod Inner
 pub mod MadeCode

@@ -1,6 +1,6 @@
 -- The code of every statement, by one recursion. Where it ends doesn't depend on where its exits
 -- are.
-use Rattle.std.specs.Prelude.{◌+◌, ℕ, ℤ, pos, List, [], ◌++◌}
+use Rattle.std.specs.Prelude.{◌+◌, ℕ, ℤ, pos, List, [], ◌++◌, true, false}
 use Rattle.pawn_meaning.specs.Program.{Perhaps, Absent, Present, Stmt, Block, Local, LocalArray, Do}
 use Rattle.pawn_meaning.specs.Program.{If, While, DoWhile, For, Switch, Return, Break, Continue}
 use Rattle.pawn_meaning.specs.Program.{Exit, Sleep, Assert, State, Empty, Else, no_else, otherwise}
@@ -9,15 +9,19 @@ use Rattle.pawn_meaning.specs.Scope.{Scope}
 use Rattle.pawn_meaning.specs.ValidStmts.{slots_made, slots_made_by}
 use Rattle.gen_sim.specs.Items.{Item, past}
 use Rattle.gen_sim.specs.SimpleCode.{const_code}
+use Rattle.gen_sim.specs.PushCode.{value_push, pushed_by}
 use Rattle.gen_laws.specs.ExprCode.{value_items, effect_items}
 use Rattle.gen_sim.specs.Here.{Here, behind, within}
-use Rattle.gen_sim.specs.FlowCode.{leave_code, local_code, block_code, break_code, continue_code}
-use Rattle.gen_sim.specs.FlowCode.{return_code, exit_code, assert_code}
+use Rattle.gen_sim.specs.FlowCode.{leave_code, block_code, break_code, continue_code, return_code}
+use Rattle.gen_sim.specs.FlowCode.{exit_code, assert_code}
+use Rattle.gen_laws.specs.BranchItems.{jump_items, perhaps_jumps}
 use Rattle.gen_sim.specs.LoopCode.{body_at}
 use Rattle.gen_sim.specs.StateCode.{state_code, sleep_code}
+use Rattle.gen_laws.specs.GoesOn.{dropped_by}
 use Rattle.gen_laws.specs.MadeCode.{local_array_code}
 use Rattle.gen_laws.specs.SwitchCode.{ranges_table, cases_at, case_code}
-use Rattle.gen_laws.specs.ClosedCode.{closed_loop, closed_until, closed_if, closed_switch}
+use Rattle.gen_laws.specs.ClosedCode.{closed_loop, closed_until, closed_if, closed_only}
+use Rattle.gen_laws.specs.ClosedCode.{closed_switch}
 
 -- an absent condition is 1
 abbrev pub condition_items : Scope → ℕ → Perhaps → List Item
@@ -33,17 +37,20 @@ abbrev mutual
   -- of one statement
   pub stmt_items : Here → ℕ → Stmt → List Item
   stmt_items here begin (Block stmts) =
-      block_code here.scope.slots (slots_made_by stmts) (stmts_items here begin stmts)
-  stmt_items here begin (Local s e) = local_code (value_items here.scope begin e)
+      block_code here.scope.slots (dropped_by stmts) (stmts_items here begin stmts)
+  stmt_items here begin (Local s e) =
+      pushed_by (value_push here.scope e) (value_items here.scope begin e)
   stmt_items here begin (LocalArray s o) = local_array_code here.scope s o
   stmt_items here begin (Do e) = effect_items here.scope begin e
-  stmt_items here begin (If c a b) =
-      closed_if begin (value_items here.scope begin c) (λ q. stmt_items here q a)
-      (λ q. else_items here q b)
+  stmt_items here begin (If c a no_else) =
+      closed_only begin (λ to. jump_items here.scope false to begin c)
+      (λ q. stmt_items here q a)
+  stmt_items here begin (If c a (otherwise b)) =
+      closed_if begin (λ to. jump_items here.scope false to begin c)
+      (λ q. stmt_items here q a) (λ q. stmt_items here q b)
   stmt_items here begin (While c s) =
-      let test = value_items here.scope begin c in
-      closed_loop begin test (λ exits. stmt_items (within exits here) (body_at begin test) s)
-      (λ q. [])
+      closed_loop begin (λ q. jump_items here.scope true (body_at begin) q c)
+      (λ exits. stmt_items (within exits here) (body_at begin) s) (λ q. [])
   stmt_items here begin (DoWhile s c) =
       closed_until begin (λ exits. stmt_items (within exits here) (begin + 4) s)
       (λ q. value_items here.scope q c)
@@ -51,8 +58,8 @@ abbrev mutual
       let init = stmts_items here begin first in
       let inner = behind (slots_made_by first) here in
       let top = past begin init in
-      let test = condition_items inner.scope top c in
-      init ++ (closed_loop top test (λ exits. stmt_items (within exits inner) (body_at top test) s)
+      init ++ (closed_loop top (λ q. perhaps_jumps inner.scope true (body_at top) q c)
+      (λ exits. stmt_items (within exits inner) (body_at top) s)
       (λ q. step_items inner.scope q step)
       ++ leave_code here.scope.slots (slots_made_by first))
   stmt_items here begin (Switch e cases d) =
@@ -98,6 +105,6 @@ abbrev mutual
 -- of a `for` behind what it does first
 abbrev pub for_items : Here → ℕ → Perhaps → Perhaps → Stmt → List Item
 for_items here top c step s =
-    let test = condition_items here.scope top c in
-    closed_loop top test (λ exits. stmt_items (within exits here) (body_at top test) s)
+    closed_loop top (λ q. perhaps_jumps here.scope true (body_at top) q c)
+    (λ exits. stmt_items (within exits here) (body_at top) s)
     (λ q. step_items here.scope q step)

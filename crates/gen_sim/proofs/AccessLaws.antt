@@ -140,7 +140,7 @@ module _ (x : Site) {v : View} {pending : List ℤ} where
   -- ---- addresses
 
   -- an address is a cell
-  address_fits : (at : Place) (p : ℕ) (u : World) (t : Config)
+  pub address_fits : (at : Place) (p : ℕ) (u : World) (t : Config)
       → PlaceAt x.program x.room v pending p at u t → IsCell t.state.pri
   address_fits (Cell name i) p u t a =
       let c = a.address.1 in

@@ -6,7 +6,7 @@ use Rattle.pawn_cells.specs.declared.operator.Operator.{Operator}
 use Rattle.pawn_cells.specs.Cells.{IsCell}
 use Rattle.pawn_cells.specs.Operators.{binary}
 use Rattle.host_script.specs.declared.event.End.TheVariants as end
-use Rattle.pawn_meaning.specs.Program.{Scalar, Expr, Read, Assign, Update}
+use Rattle.pawn_meaning.specs.Program.{Scalar, Expr, Assign, Update}
 use Rattle.pawn_meaning.specs.Scope.{Scope}
 use Rattle.pawn_meaning.specs.Memory.{Place, read, write}
 use Rattle.pawn_meaning.specs.World.{World}
@@ -30,10 +30,10 @@ use Rattle.gen_sim.specs.Fits.{Fits}
 use Rattle.gen_sim.specs.Contract.{ValueCode, PlaceCode}
 use Rattle.gen_sim.specs.Lies.{Lies}
 use Rattle.gen_sim.specs.SimpleCode.{alone, both_code, operator_code}
-use Rattle.gen_sim.specs.AccessCode.{load_code, store_code, read_code, assign_code, changed_code}
+use Rattle.gen_sim.specs.AccessCode.{load_code, store_code, assign_code, changed_code}
 use Rattle.gen_sim.specs.AccessCode.{update_code}
 use Rattle.gen_sim.proofs.ItemSteps.{next_lies, item_sets, item_pushes, item_pops_alt}
-use Rattle.gen_sim.proofs.NodesPartLaws.{gives_of, does_as, then_items, second_at, last_at, with_value}
+use Rattle.gen_sim.proofs.NodesPartLaws.{gives_of, then_items, second_at, last_at, with_value}
 use Rattle.gen_sim.proofs.OperatorLaws.{operator_does}
 use Rattle.gen_sim.proofs.KindLaws.{OfKind, place_kind, known_does}
 use Rattle.gen_sim.proofs.AccessLaws.{AddressOf, Loaded, Stored, place_loads, place_stores}
@@ -139,7 +139,8 @@ module _ (x : Site) {v : View} {pending : List ℤ} (s : Scalar) (at : Place) (k
 module _ (scope : Scope) (begin : ℕ) where
   -- a place's address waits while a value is made, and what is done with both
   module _ (p : Scalar) (e : Expr) (address items last : List Item)
-      (one : PlaceCode scope p begin address) (two : ValueCode scope e (second_at begin address) items)
+      (one : PlaceCode scope p begin address) (two : ValueCode scope e (second_at begin address)
+      items)
       (x : Site) (site : IsSite x) (same : x.program ≡ scope.program) (turns : ℕ)
       (calls : CallsWithin x turns) {v : View} (fits : Fits x.program x.room scope v)
       (pending : List ℤ) where
@@ -160,7 +161,8 @@ module _ (scope : Scope) (begin : ℕ) where
         >>= (λ at. value (scene_at x) (with_turns x turns) e >>= go at)) w)
         (With x.program x.room v pending (past begin (both_code address items last)))
     place_with_value placed valued w c lies s go grows three =
-        with_value scope begin e address items last two x site same turns calls fits pending valued w
+        with_value scope begin e address items last two x site same turns calls fits pending valued
+        w
         lies (place (scene_at x) (with_turns x turns) p w) go
         (λ at u t. PlaceAt x.program x.room v pending (past begin address) at u t × OfKind p at)
         (AddressOf x v p) grows
@@ -168,31 +170,13 @@ module _ (scope : Scope) (begin : ℕ) where
         (one.does x site same turns calls v fits l.lie l.starts pending placed w c s))
         (λ at u t a. place_leaves x p at (past begin address) u t a.0 a.1) three
 
-  pub read_does : (p : Scalar) (items : List Item) → PlaceCode scope p begin items
-      → ValueCode scope (Read p) begin (read_code p items)
-  read_does p items part = record {
-    does = λ x site same turns calls v fits lie starts pending deep w c s.
-        let fewer = with_turns x turns in
-        then_items x begin items (load_code p)
-        (λ at u t. PlaceAt x.program x.room v pending (past begin items) at u t × OfKind p at)
-        (λ q. With x.program x.room v pending q) w (record { lie = lie; starts = starts })
-        (place (scene_at x) fewer p w) (λ at. look (read at))
-        (λ at u. (look_grows (read at)).at u)
-        (λ l. placed_does x scope p (length (item_cells items)) (past begin items) turns w
-        (part.does x site same turns calls v fits l.lie l.starts pending deep w c s))
-        (λ l at u t a.
-        does_as x (length (item_cells (load_code p))) u (look (read at) u)
-        (Loaded x v pending (past (past begin items) (load_code p)) t.state.alt)
-        (λ y n i k. k.0)
-        (place_loads x p at a.1 (past begin items) u t a.0 l));
-  }
-
   pub assign_does : (p : Scalar) (e : Expr) (address items : List Item)
       → PlaceCode scope p begin address → ValueCode scope e (past begin address + 4) items
       → ValueCode scope (Assign p e) begin (assign_code p address items)
   assign_does p e address items one two = record {
     does = λ x site same turns calls v fits lie starts pending deep w c s.
-        place_with_value p e address items (store_code p) one two x site same turns calls fits pending
+        place_with_value p e address items (store_code p) one two x site same turns calls fits
+        pending
         (omega (arith, deep)) (omega (arith, deep)) w c (record { lie = lie; starts = starts }) s
         storing storing_grows
         (λ l at y from a fa fy u t b alt pri.
@@ -206,7 +190,8 @@ module _ (scope : Scope) (begin : ℕ) where
   update_does p o e address items one two = record {
     does = λ x site same turns calls v fits lie starts pending deep w c s.
         let make : ℤ → ℤ → Run ℤ = λ a y. or_stop (binary o a y) (end.Error (pos 11)) in
-        place_with_value p e address items (changed_code p (operator_code o)) one two x site same turns
+        place_with_value p e address items (changed_code p (operator_code o)) one two x site same
+        turns
         calls fits pending (omega (arith, deep)) (omega (arith, deep)) w c
         (record { lie = lie; starts = starts }) s
         (λ at y. look (read at) >>= (λ a. make a y >>= storing at))

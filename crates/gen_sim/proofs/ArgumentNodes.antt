@@ -1,6 +1,7 @@
 -- Arguments: each one's code puts what it means on the stack, and the others stay.
 use Rattle.std.proofs.Common.{◌≡◌, ◌+◌, ◌*◌, ◌≤◌, ℕ, ℤ, pos, List, [], ◌∷◌, ◌++◌, Some, length, sum}
 use Rattle.std.proofs.Common.{refl, sym, ap, subst, ◌∙◌, arith, length-append}
+use Rattle.pawn_cells.specs.Cells.{IsCell}
 use Rattle.pawn_meaning.specs.Program.{Slot, ScalarSlot, ReferenceSlot, ArraySlot, OpenSlot, Scalar}
 use Rattle.pawn_meaning.specs.Program.{Global, Own, Element, Char, Array, Expr, Arg, Ref, Whole}
 use Rattle.pawn_meaning.specs.Program.{Temp, Args, no_args, then_arg}
@@ -20,7 +21,9 @@ use Rattle.pawn_meaning.specs.Meaning.{place, array, value, argument, arguments}
 use Rattle.pawn_meaning.proofs.Grows.{after_grows, give_grows, stop_grows, look_grows, change_grows}
 use Rattle.pawn_meaning.proofs.Grows.{same_later}
 use Rattle.amx_ops.specs.declared.op.Op.TheVariants as op
+use Rattle.amx_ops.specs.Written.{Written, cells_of}
 use Rattle.amx_ops.specs.State.{push}
+use Rattle.amx_ops.specs.Step.{act}
 use Rattle.amx_ops.specs.Effects.{at_next}
 use Rattle.amx_ops.specs.Moves.{Config, move}
 use Rattle.gen_sim.proofs.Sim.{wider}
@@ -28,11 +31,11 @@ use Rattle.gen_sim.specs.View.{View, RefersTo, kept, used}
 use Rattle.gen_sim.specs.Next.{HoldArguments}
 use Rattle.gen_sim.specs.Stands.{Stands, With}
 use Rattle.gen_sim.specs.Site.{Site, DoesAt, scene_at}
-use Rattle.gen_sim.specs.Items.{Item, item_cells, past, with}
+use Rattle.gen_sim.specs.Items.{Item, Plain, item_cells, past, with}
 use Rattle.gen_sim.specs.Results.{Reaches, Suits, PlaceAt, ArrayAt, ArgumentsAt, is_temporary}
 use Rattle.gen_sim.specs.Results.{temporaries_in, with_temporaries}
 use Rattle.gen_sim.specs.Code.{with_turns}
-use Rattle.gen_sim.specs.Contract.{ValueCode, PlaceCode, ArrayCode, ArgumentsCode}
+use Rattle.gen_sim.specs.Contract.{ValueCode, PushedCode, PlaceCode, ArrayCode, ArgumentsCode}
 use Rattle.gen_sim.proofs.CallLaws.{small_fits}
 use Rattle.gen_sim.proofs.StepLaws.{given}
 use Rattle.gen_sim.proofs.TemporaryLaws.{TemporaryAt, temporary_made}
@@ -45,7 +48,8 @@ use Rattle.gen_sim.proofs.AccessNodes.{placed_does}
 use Rattle.gen_sim.proofs.ArrayNodes.{inside}
 use Rattle.gen_sim.proofs.IndexLaws.{sized}
 use Rattle.gen_sim.proofs.AddressLaws.{refers_inside}
-use Rattle.gen_sim.specs.CallCode.{pushed_code, temporary_code}
+use Rattle.gen_sim.specs.CallCode.{temporary_code}
+use Rattle.gen_sim.specs.PushCode.{pushed_code}
 use Rattle.gen_sim.specs.ArgumentCode.{ArgumentAt, ArgumentCode}
 use Rattle.gen_sim.proofs.CalledScopes.{hold_count, suit_count}
 use Rattle.gen_sim.proofs.TemporaryViews.{temporaries_fit, arguments_stay, used_more, needs_stay}
@@ -54,21 +58,15 @@ use Rattle.gen_sim.proofs.TemporaryViews.{more_of, temporaries_few}
 -- ---- values
 
 module _ (scope : Scope) (begin : ℕ) where
-  pub value_argument : (e : Expr) (items : List Item) → ValueCode scope e begin items
-      → ArgumentCode scope ScalarSlot (node.Value e) begin (pushed_code items)
+  pub value_argument : (e : Expr) (items : List Item) → PushedCode scope e begin items
+      → ArgumentCode scope ScalarSlot (node.Value e) begin items
   value_argument e items part = record {
     does = λ x site same turns calls v fits lie starts pending deep w c s.
-        then_items x begin items (alone op.PushPri ∷ [])
-        (λ y u t. With x.program x.room v pending (past begin items) y u t)
-        (λ q. ArgumentAt x.program x.room v ScalarSlot 0 pending q) w
-        (record { lie = lie; starts = starts }) (value (scene_at x) (with_turns x turns) e w)
-        (λ y. give (natives.Value y)) (λ y u. same_later u)
-        (λ l. part.does x site same turns calls v fits l.lie l.starts pending
-        (omega (arith, deep)) w c s)
-        (λ l y u t a. item_pushes x (with op.PushPri (pos 0)) {js = []} a.stands l y
-        (ap (λ z. push t.state z (at_next (past begin items + 4))) a.value) a.fits
-        (omega (arith, deep)) (same_later u)
-        (λ n b e f. given x b (record { cell = y; stands = b; holds = refl; suits = tt })));
+        gives_of x (length (item_cells items)) w (value (scene_at x) (with_turns x turns) e w)
+        (λ y. natives.Value y)
+        (λ y u t. Stands x.program x.room v (y ∷ pending) (past begin items) u t × IsCell y)
+        (λ y u t k. record { cell = y; stands = k.0; holds = refl; suits = tt })
+        (part.does x site same turns calls v fits lie starts pending (omega (arith, deep)) w c s);
   }
 
 -- ---- references to cells
@@ -84,8 +82,26 @@ refers_grows : (at : Place) → Grows (refers at)
 refers_grows (Cell name i) = give_grows (natives.Refers (to_cell name i))
 refers_grows (Character name i k) = stop_grows _
 
--- an address is pushed
-address_pushed : (x : Site) {v : View} {pending : List ℤ} {p : ℕ} {w : World} {c : Config}
+-- an address is pushed by an instruction
+pub address_pushed : (x : Site) {v : View} {pending : List ℤ} {p : ℕ} {w : World} {c : Config}
+    {Q : Held → World → Config → Type 0} (it : Written) (r : Reference) (cell : ℕ)
+    → Stands x.program x.room v pending p w c → RefersTo x.program x.room v r cell
+    → act x.amx it.op it.operand (p + 4 * length (cells_of it)) c.state
+    ≡ push c.state (pos (4 * cell)) (at_next (p + 4 * length (cells_of it)))
+    → used x.program x.room v pending ≤ kept x.program x.room + sum v.needs + 15
+    → Lies x p (Plain it ∷ [])
+    → ((t : Config)
+    → Stands x.program x.room v (pos (4 * cell) ∷ pending) (p + 4 * length (cells_of it)) w t
+    → Q (natives.Refers r) w t)
+    → DoesAt x (length (item_cells (Plain it ∷ []))) w c (give (natives.Refers r) w) Q
+address_pushed x {v} {pending} {p} {w} {c} it r cell s h e deep l next =
+    let top = refers_inside x v s r cell h in
+    item_pushes x it {js = []} s l (pos (4 * cell)) e
+    (small_fits (4 * cell) (omega (arith, top, s.laid.small))) deep (same_later w)
+    (λ n b f g. given x b (next n b))
+
+-- or from PRI
+from_pri : (x : Site) {v : View} {pending : List ℤ} {p : ℕ} {w : World} {c : Config}
     {Q : Held → World → Config → Type 0} (r : Reference) (cell : ℕ)
     → Stands x.program x.room v pending p w c → RefersTo x.program x.room v r cell
     → c.state.pri ≡ pos (4 * cell)
@@ -94,12 +110,9 @@ address_pushed : (x : Site) {v : View} {pending : List ℤ} {p : ℕ} {w : World
     → ((t : Config) → Stands x.program x.room v (pos (4 * cell) ∷ pending) (p + 4) w t
     → Q (natives.Refers r) w t)
     → DoesAt x (length (item_cells (alone op.PushPri ∷ []))) w c (give (natives.Refers r) w) Q
-address_pushed x {v} {pending} {p} {w} {c} r cell s h pri deep l next =
-    let top = refers_inside x v s r cell h in
-    item_pushes x (with op.PushPri (pos 0)) {js = []} s l (pos (4 * cell))
-    (ap (λ z. push c.state z (at_next (p + 4))) pri)
-    (small_fits (4 * cell) (omega (arith, top, s.laid.small))) deep (same_later w)
-    (λ n b e f. given x b (next n b))
+from_pri x {p = p} {c = c} r cell s h pri deep l next =
+    address_pushed x (with op.PushPri (pos 0)) r cell s h
+    (ap (λ z. push c.state z (at_next (p + 4))) pri) deep l next
 
 module _ (x : Site) {v : View} {pending : List ℤ} where
   ref_pushed : (at : Place) → IsCellPlace at → (p : ℕ) (u : World) (t : Config)
@@ -109,7 +122,7 @@ module _ (x : Site) {v : View} {pending : List ℤ} where
       → DoesAt x (length (item_cells (alone op.PushPri ∷ []))) u t (refers at u)
       (ArgumentAt x.program x.room v ReferenceSlot 0 pending (p + 4))
   ref_pushed (Cell name i) k p u t a deep l =
-      address_pushed x (to_cell name i) a.address.0 a.stands a.address.3 a.address.2 deep l
+      from_pri x (to_cell name i) a.address.0 a.stands a.address.3 a.address.2 deep l
       (λ n b. record {
         cell = pos (4 * a.address.0);
         stands = b;
@@ -145,7 +158,7 @@ array_by (n ∷ inner) reach r e h =
     subst (λ (z : Extent). Reaches z.first z.inner r)
     (sym (inside (record { first = Some n; inner = inner }) reach e)) h
 
-array_suits : (scope : Scope) (kind : Slot) (a : Array) (reach : Extent) (r : Reference)
+pub array_suits : (scope : Scope) (kind : Slot) (a : Array) (reach : Extent) (r : Reference)
     → ArgAgrees scope kind (Whole a) → extent scope a ≡ Some reach
     → Reaches reach.first reach.inner r → Suits kind (natives.Refers r)
 array_suits scope ScalarSlot a reach r h e k = elim h [ ]
@@ -168,7 +181,7 @@ module _ (scope : Scope) (begin : ℕ) where
         (λ r. give (natives.Refers r)) (λ r u. same_later u)
         (λ l. part.does reach is x site same turns calls v fits l.lie l.starts pending
         (omega (arith, deep)) w c s)
-        (λ l r u t h. address_pushed x r h.cell h.stands h.refers h.address (omega (arith, deep)) l
+        (λ l r u t h. from_pri x r h.cell h.stands h.refers h.address (omega (arith, deep)) l
         (λ n b. record {
           cell = pos (4 * h.cell);
           stands = b;

@@ -10,13 +10,13 @@ use Rattle.pawn_meaning.specs.Scope.{Scope, Extent, IsMade, known_extent, object
 use Rattle.pawn_meaning.specs.Scope.{slot_extent, param_extent}
 use Rattle.pawn_meaning.specs.Memory.{Name, Static, Local, Reference, through, whole_of}
 use Rattle.pawn_meaning.specs.World.{World}
-use Rattle.pawn_meaning.specs.Run.{give, look}
+use Rattle.pawn_meaning.specs.Run.{Gives, give, look}
 use Rattle.amx_ops.specs.declared.op.Op.TheVariants as op
 use Rattle.amx_ops.specs.Access.{in_frame}
 use Rattle.amx_ops.specs.Moves.{Config}
 use Rattle.gen_sim.specs.Pieces.{Thing}
 use Rattle.gen_sim.specs.Leads.{Leads}
-use Rattle.gen_sim.specs.View.{View, innermost, depth, PlacedIn, IsAlive}
+use Rattle.gen_sim.specs.View.{View, RefersTo, innermost, depth, PlacedIn, IsAlive}
 use Rattle.gen_sim.specs.Stands.{Stands}
 use Rattle.gen_sim.proofs.LeadLaws.{whole_leads}
 use Rattle.gen_sim.proofs.MemLaws.{mem_there}
@@ -36,16 +36,16 @@ use Rattle.gen_sim.proofs.SlotLaws.{running_is, first_inside, local_at, addr_is,
 use Rattle.gen_sim.proofs.PlaceNodes.{object_placed, object_address_is}
 
 -- sizes that are all known, the first and those behind it
-record Known (sizes : List ℕ) (reach : Extent) : Type 0 where
-  first : ℕ
-  inner : List ℕ
-  sizes_are : sizes ≡ first ∷ inner
-  reach_is : reach ≡ record { first = Some first; inner = inner }
+pub record Known (sizes : List ℕ) (reach : Extent) : Type 0 where
+  pub first : ℕ
+  pub inner : List ℕ
+  pub sizes_are : sizes ≡ first ∷ inner
+  pub reach_is : reach ≡ record { first = Some first; inner = inner }
 
 pub inside : {A : Type 0} (a b : A) → Some a ≡ Some b → a ≡ b
 inside a b e = cc
 
-known : (sizes : List ℕ) (reach : Extent) → known_extent sizes ≡ Some reach → Known sizes reach
+pub known : (sizes : List ℕ) (reach : Extent) → known_extent sizes ≡ Some reach → Known sizes reach
 known [] reach e = cc
 known (first ∷ inner) reach e = record {
   first = first;
@@ -57,18 +57,24 @@ known (first ∷ inner) reach e = record {
 -- a whole object whose address is in PRI
 module _ (x : Site) (v : View) {pending : List ℤ} {p : ℕ} {w : World} {c : Config}
     (s : Stands x.program x.room v pending p w c) where
-  pub whole_does : (name : Name) (sizes : List ℕ) (first : ℕ) (reach : Extent)
+  -- which a reference may name
+  pub record WholeIs (name : Name) (first : ℕ) (reach : Extent) : Type 0 where
+    pub to : Reference
+    pub is : look (whole_of name) w ≡ Gives to w
+    pub refers : RefersTo x.program x.room v to first
+    pub reaches : Reaches reach.first reach.inner to
+
+  pub whole_is : (name : Name) (sizes : List ℕ) (first : ℕ) (reach : Extent)
       → PlacedIn x.program x.room v (Thing name sizes) first
       → IsAlive (depth v) v.temps name → known_extent sizes ≡ Some reach
-      → c.state.pri ≡ pos (4 * first)
-      → DoesAt x 0 w c (look (whole_of name) w) (ArrayAt x.program x.room v reach pending p)
-  whole_does name sizes first reach placed alive e pri =
+      → WholeIs name first reach
+  whole_is name sizes first reach placed alive e =
       let k = known sizes reach e in
       let f = found w.memory name sizes (mem_there s.mem placed) in
       let all : f.object.sizes ≡ k.first ∷ k.inner = f.sized.sizes_are ∙ k.sizes_are in
-      rw f.is (given x s (record {
-        stands = s;
-        cell = first;
+      record {
+        to = record { object = name; at = 0; sizes = f.object.sizes };
+        is = rw f.is refl;
         refers = record {
           sizes = sizes;
           first = first;
@@ -79,25 +85,39 @@ module _ (x : Site) (v : View) {pending : List ℤ} {p : ℕ} {w : World} {c : C
               (whole_leads k.inner first k.first));
           alive = alive;
         };
-        address = pri;
         reaches =
             subst (λ z. Reaches z.first z.inner
             (record { object = name; at = 0; sizes = f.object.sizes })) (sym k.reach_is) all;
+      }
+
+  pub whole_does : (name : Name) (sizes : List ℕ) (first : ℕ) (reach : Extent)
+      → PlacedIn x.program x.room v (Thing name sizes) first
+      → IsAlive (depth v) v.temps name → known_extent sizes ≡ Some reach
+      → c.state.pri ≡ pos (4 * first)
+      → DoesAt x 0 w c (look (whole_of name) w) (ArrayAt x.program x.room v reach pending p)
+  whole_does name sizes first reach placed alive e pri =
+      let whole = whole_is name sizes first reach placed alive e in
+      rw whole.is (given x s (record {
+        stands = s;
+        cell = first;
+        refers = whole.refers;
+        address = pri;
+        reaches = whole.reaches;
       }))
 
 -- ---- what the scope says of objects and slots
 
-record ObjectAt (found : Option StaticObject) (reach : Extent) : Type 0 where
-  object : StaticObject
-  there : found ≡ Some object
-  known_as : known_extent object.sizes ≡ Some reach
+pub record ObjectAt (found : Option StaticObject) (reach : Extent) : Type 0 where
+  pub object : StaticObject
+  pub there : found ≡ Some object
+  pub known_as : known_extent object.sizes ≡ Some reach
 
-object_at : (o : Option StaticObject) (reach : Extent) → object_extent o ≡ Some reach
+pub object_at : (o : Option StaticObject) (reach : Extent) → object_extent o ≡ Some reach
     → ObjectAt o reach
 object_at None reach e = cc
 object_at (Some object) reach e = record { object = object; there = refl; known_as = e }
 
-own_extent : (o : Option Slot) (reach : Extent) → slot_extent o ≡ Some reach
+pub own_extent : (o : Option Slot) (reach : Extent) → slot_extent o ≡ Some reach
     → known_extent (own_sizes o) ≡ Some reach
 own_extent None reach e = cc
 own_extent (Some ScalarSlot) reach e = cc
@@ -108,7 +128,7 @@ own_extent (Some (OpenSlot inner)) reach e = cc
 -- a parameter of which the scope says how far it reaches does so
 module _ (x : Site) (scope : Scope) (v : View) (fits : Fits x.program x.room scope v) (slot : ℕ)
     (below : slot < scope.params) where
-  reaches_by : (o : Option Slot) (known_here : Bool) (reach : Extent)
+  pub reaches_by : (o : Option Slot) (known_here : Bool) (reach : Extent)
       → slice_get scope.slots slot ≡ o → param_extent o known_here ≡ Some reach
       → (r : Reference) → v.params (innermost v) slot ≡ Some r → Reaches reach.first reach.inner r
   reaches_by None known_here reach k e r is = cc

@@ -1,5 +1,5 @@
 -- Chains: of one link, and of several.
-use Rattle.std.proofs.Common.{◌≡◌, ◌+◌, ◌^◌, ◌<◌, inl, inr, ℕ, zero, suc, ℤ, pos, negsuc, List, []}
+use Rattle.std.proofs.Common.{◌≡◌, ◌+◌, ◌^◌, ◌<◌, inl, inr, ℕ, ℤ, pos, List, []}
 use Rattle.std.proofs.Common.{◌∷◌, ◌++◌, Bool, Option, length, refl, sym, ap, subst, ◌∙◌, arith}
 use Rattle.std.specs.Prelude.{IfSome}
 use Rattle.pawn_cells.specs.declared.operator.Comparison.{Comparison}

@@ -1,13 +1,13 @@
 -- Updates and steps of a place that has instructions of its own.
-use Rattle.std.proofs.Common.{◌≡◌, ◌+◌, ◌*◌, ◌≤◌, ℕ, ℤ, pos, neg_ℤ, List, [], ◌∷◌, ◌++◌, Bool, true}
-use Rattle.std.proofs.Common.{w32, false, length, sum, refl, ap, subst, ◌∙◌, arith, if◌then◌else◌}
+use Rattle.std.proofs.Common.{◌≡◌, ◌+◌, ◌*◌, ℕ, ℤ, pos, neg_ℤ, List, [], ◌∷◌, ◌++◌, Bool, true}
+use Rattle.std.proofs.Common.{w32, false, length, refl, ap, ◌∙◌, arith, if◌then◌else◌}
 use Rattle.std.proofs.lemmas.Int.{int_wrap-add_left, int_wrap_fits}
 use Rattle.std.proofs.Math.IntN.{◌+ℤ◌, +ℤ-neg_ℤ_cancel}
 use Rattle.pawn_cells.specs.declared.operator.Operator.{Operator}
 use Rattle.pawn_cells.specs.Cells.{IsCell, add, wrap}
 use Rattle.pawn_cells.specs.Operators.{binary}
 use Rattle.host_script.specs.declared.event.End.TheVariants as end
-use Rattle.pawn_meaning.specs.Program.{Scalar, Expr, Update, UpdateBy, Step}
+use Rattle.pawn_meaning.specs.Program.{Scalar, Expr, Update, Step}
 use Rattle.pawn_meaning.specs.Scope.{Scope}
 use Rattle.pawn_meaning.specs.Memory.{Place, read, write}
 use Rattle.pawn_meaning.specs.World.{World}
@@ -19,7 +19,7 @@ use Rattle.amx_ops.specs.declared.op.Op.TheVariants as op
 use Rattle.amx_ops.specs.Written.{cells_of}
 use Rattle.amx_ops.specs.Moves.{Config}
 use Rattle.pawn_cells.proofs.CellLaws.{wrap_cell}
-use Rattle.gen_sim.specs.View.{View, kept, used}
+use Rattle.gen_sim.specs.View.{View}
 use Rattle.gen_sim.specs.Stands.{Stands, With}
 use Rattle.gen_sim.specs.Site.{Site, DoesAt, scene_at}
 use Rattle.gen_sim.specs.Items.{Item, item_cells, past, with}
@@ -48,7 +48,7 @@ taken_back y delta fit =
 module _ (x : Site) {v : View} {pending : List ℤ} (d : Direct) (at : Place)
     (r : ReachedAt x v d at) where
   -- stored, and given
-  direct_storing : (z : ℤ) → IsCell z → (p : ℕ) (u : World) (t : Config)
+  pub direct_storing : (z : ℤ) → IsCell z → (p : ℕ) (u : World) (t : Config)
       → Stands x.program x.room v pending p u t → t.state.pri ≡ z → Lies x p (direct_store d)
       → DoesAt x (length (item_cells (direct_store d))) u t (storing at z u)
       (With x.program x.room v pending (past p (direct_store d)))

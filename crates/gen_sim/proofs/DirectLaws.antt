@@ -1,5 +1,5 @@
 -- A place's own instruction reaches its cell: each place without an index has one.
-use Rattle.std.proofs.Common.{◌≡◌, ◌+◌, ◌*◌, ◌<◌, ◌≤◌, ℕ, ℤ, pos, negsuc, List, [], ◌∷◌, Option, None}
+use Rattle.std.proofs.Common.{◌≡◌, ◌+◌, ◌*◌, ◌<◌, ℕ, ℤ, pos, negsuc, List, [], ◌∷◌, Option, None}
 use Rattle.std.proofs.Common.{Some, length, slice_get, refl, sym, ap, subst, ◌∙◌, arith}
 use Rattle.pawn_cells.specs.Cells.{IsCell, bits_of, wrapped_sum}
 use Rattle.host_script.specs.declared.event.End.TheVariants as end
@@ -9,27 +9,27 @@ use Rattle.pawn_meaning.specs.ValidExprs.{IsCellObject}
 use Rattle.pawn_meaning.specs.Memory.{Name, Static, Local, Reference, Place, Cell, running}
 use Rattle.pawn_meaning.specs.Memory.{read, write}
 use Rattle.pawn_meaning.specs.World.{World}
-use Rattle.pawn_meaning.specs.Run.{Outcome, Gives, Stops, More, Run, Done, then_do, or_stop, give}
+use Rattle.pawn_meaning.specs.Run.{Outcome, Gives, Stops, More, Run, then_do, or_stop, give}
 use Rattle.pawn_meaning.specs.Run.{◌>>=◌, look, change}
 use Rattle.pawn_meaning.specs.References.{cell_at}
 use Rattle.pawn_meaning.specs.Meaning.{Fewer, place}
 use Rattle.amx_ops.specs.declared.op.Op.{Op}
-use Rattle.amx_ops.specs.declared.op.Op.TheVariants as op
 use Rattle.amx_ops.specs.Written.{cells_of}
-use Rattle.amx_ops.specs.State.{State}
+use Rattle.amx_ops.specs.State.{push}
 use Rattle.amx_ops.specs.Access.{load, store, raise, in_frame}
 use Rattle.amx_ops.specs.Effects.{at_next}
 use Rattle.amx_ops.specs.Step.{act}
 use Rattle.amx_ops.specs.Moves.{Config}
 use Rattle.gen_sim.specs.View.{View, CellAt, ParamAt, innermost}
-use Rattle.gen_sim.specs.Stands.{Stands, With}
-use Rattle.gen_sim.specs.Site.{Site, IsSite, DoesAt, scene_at}
+use Rattle.gen_sim.specs.Stands.{Stands}
+use Rattle.gen_sim.specs.Site.{Site, DoesAt, scene_at}
 use Rattle.gen_sim.specs.Items.{Item, item_cells, past, with}
 use Rattle.gen_sim.specs.Fits.{Fits}
 use Rattle.gen_sim.specs.Lies.{Lies}
 use Rattle.gen_sim.specs.PlaceItems.{object_address, slot_offset}
 use Rattle.gen_sim.specs.SimpleCode.{taking}
-use Rattle.gen_sim.specs.DirectCode.{Direct, direct_load, direct_store}
+use Rattle.gen_sim.specs.DirectCode.{Direct, data_cell, frame_cell, pointed_cell, direct_load}
+use Rattle.gen_sim.specs.DirectCode.{direct_store}
 use Rattle.gen_sim.proofs.DataLaws.{object_first}
 use Rattle.gen_sim.proofs.PlaceNodes.{global_cell, object_address_is, referred_cell}
 use Rattle.gen_sim.proofs.SlotLaws.{running_is, cell_slot_at, through_is, param_reads}
@@ -47,6 +47,14 @@ Adding x v operand cell (Some ops) =
     → (act x.amx ops.0 operand q c.state ≡ raise c.state (4 * cell) (pos 1) (at_next q))
     × (act x.amx ops.1 operand q c.state ≡ raise c.state (4 * cell) (negsuc 0) (at_next q))
 
+-- one pushes a cell of this number
+abbrev pub Pushing : Site → View → ℤ → ℕ → Option Op → Type 0
+Pushing x v operand cell None = Unit {0}
+Pushing x v operand cell (Some o) =
+    (pending : List ℤ) (p : ℕ) (w : World) (c : Config)
+    → Stands x.program x.room v pending p w c → (q : ℕ)
+    → act x.amx o operand q c.state ≡ load c.state (4 * cell) (λ z. push c.state z (at_next q))
+
 -- the instructions load and store a cell of this number, wherever the machine is in the view
 pub record Reached (x : Site) (v : View) (d : Direct) (cell : ℕ) : Type 0 where
   pub loading : {pending : List ℤ} {p : ℕ} {w : World} {c : Config}
@@ -62,6 +70,7 @@ pub record Reached (x : Site) (v : View) (d : Direct) (cell : ℕ) : Type 0 wher
       → act x.amx d.stores d.operand q c.state
       ≡ store c.state (4 * cell) c.state.pri (at_next q)
   pub adding : Adding x v d.operand cell d.adds
+  pub pushing : Pushing x v d.operand cell d.pushes
 
 -- a place is a cell that they reach
 pub record ReachedAt (x : Site) (v : View) (d : Direct) (at : Place) : Type 0 where
@@ -163,14 +172,7 @@ in_frame_is : (x : Site) (v : View) (offset : ℤ) (first : ℕ) {pending : List
 in_frame_is x v offset first s e = ap (λ n. wrapped_sum n (bits_of offset)) s.frame ∙ e
 
 abbrev through_its : ℕ → Direct
-through_its slot =
-    record {
-      loads = op.LrefSPri;
-      loads_alt = op.LrefSAlt;
-      stores = op.SrefSPri;
-      adds = None;
-      operand = pos (12 + 4 * slot);
-    }
+through_its slot = pointed_cell (pos (12 + 4 * slot))
 
 through_reached : (x : Site) (v : View) (slot : ℕ) (r : Reference)
     (at : ParamAt x.program x.room v slot r) → Reached x v (through_its slot) at.cell
@@ -185,6 +187,7 @@ through_reached x v slot r at = record {
       let its = param_reads x v b slot r at in
       rw (its.offset_is, its.reads.live, its.reads.value) refl;
   adding = tt;
+  pushing = tt;
 }
 
 through_finds : (x : Site) (v : View) (slot : ℕ) {pending : List ℤ} {p : ℕ} {w : World} {c : Config}
@@ -206,54 +209,68 @@ through_finds x v slot s one (Some r) e =
       },
     )
 
+-- a cell of the data whose address is the operand
+pub data_reached : (x : Site) (v : View) (address : ℤ) (cell : ℕ) → address ≡ pos (4 * cell)
+    → Reached x v (data_cell address) cell
+data_reached x v address cell at = record {
+  loading = λ {pending} {p} {w} {c} b q.
+      ap (λ z. load c.state (bits_of z) (λ y. at_next q (record c.state { pri = y }))) at;
+  left = λ {pending} {p} {w} {c} b q.
+      ap (λ z. load c.state (bits_of z) (λ y. at_next q (record c.state { alt = y }))) at;
+  storing = λ {pending} {p} {w} {c} b q.
+      ap (λ z. store c.state (bits_of z) c.state.pri (at_next q)) at;
+  adding = λ pending p w c b q. (
+    ap (λ z. raise c.state (bits_of z) (pos 1) (at_next q)) at,
+    ap (λ z. raise c.state (bits_of z) (negsuc 0) (at_next q)) at,
+  );
+  pushing = λ pending p w c b q.
+      ap (λ z. load c.state (bits_of z) (λ y. push c.state y (at_next q))) at;
+}
+
+-- a cell that lies so far from FRM
+pub frame_reached : (x : Site) (v : View) (offset : ℤ) (cell : ℕ)
+    → wrapped_sum v.frm (bits_of offset) ≡ 4 * cell → Reached x v (frame_cell offset) cell
+frame_reached x v offset cell at = record {
+  loading = λ {pending} {p} {w} {c} b q.
+      ap (λ z. load c.state z (λ y. at_next q (record c.state { pri = y })))
+      (in_frame_is x v offset cell b at);
+  left = λ {pending} {p} {w} {c} b q.
+      ap (λ z. load c.state z (λ y. at_next q (record c.state { alt = y })))
+      (in_frame_is x v offset cell b at);
+  storing = λ {pending} {p} {w} {c} b q.
+      ap (λ z. store c.state z c.state.pri (at_next q)) (in_frame_is x v offset cell b at);
+  adding = λ pending p w c b q. (
+    ap (λ z. raise c.state z (pos 1) (at_next q)) (in_frame_is x v offset cell b at),
+    ap (λ z. raise c.state z (negsuc 0) (at_next q)) (in_frame_is x v offset cell b at),
+  );
+  pushing = λ pending p w c b q.
+      ap (λ z. load c.state z (λ y. push c.state y (at_next q)))
+      (in_frame_is x v offset cell b at);
+}
+
 module _ (scope : Scope) where
   pub global_direct : (o : ℕ) → IsCellObject (slice_get scope.program.objects o)
-      → DirectPlace scope (Global o) (record {
-        loads = op.LoadPri;
-        loads_alt = op.LoadAlt;
-        stores = op.StorPri;
-        adds = Some (op.Inc, op.Dec);
-        operand = object_address scope.program o;
-      })
+      → DirectPlace scope (Global o) (data_cell (object_address scope.program o))
   global_direct o valid = record {
-    finds = λ x same fewer v fits s.
-        let at = object_address_is x scope o same in (
-          refl,
-          record {
-            name = Static o;
-            i = 0;
-            cell = object_first x.program o;
-            is = refl;
-            placed =
-                global_cell x v o s.laid (subst (λ p. IsCellObject (slice_get p.objects o))
-                (sym same) valid);
-            reached = record {
-              loading = λ {pending} {p} {w} {c} b q.
-                  ap (λ z. load c.state (bits_of z)
-                  (λ y. at_next q (record c.state { pri = y }))) at;
-              left = λ {pending} {p} {w} {c} b q.
-                  ap (λ z. load c.state (bits_of z)
-                  (λ y. at_next q (record c.state { alt = y }))) at;
-              storing = λ {pending} {p} {w} {c} b q.
-                  ap (λ z. store c.state (bits_of z) c.state.pri (at_next q)) at;
-              adding = λ pending p w c b q. (
-                ap (λ z. raise c.state (bits_of z) (pos 1) (at_next q)) at,
-                ap (λ z. raise c.state (bits_of z) (negsuc 0) (at_next q)) at,
-              );
-            };
-          },
-        );
+    finds = λ x same fewer v fits s. (
+      refl,
+      record {
+        name = Static o;
+        i = 0;
+        cell = object_first x.program o;
+        is = refl;
+        placed =
+            global_cell x v o s.laid (subst (λ p. IsCellObject (slice_get p.objects o))
+            (sym same) valid);
+        reached =
+            data_reached x v (object_address scope.program o) (object_first x.program o)
+            (object_address_is x scope o same);
+      },
+    );
   }
 
   pub own_direct : (slot : ℕ) → slice_get scope.slots slot ≡ Some ScalarSlot
-      → IsInSight scope slot
-      → DirectPlace scope (Own slot) (record {
-        loads = op.LoadSPri;
-        loads_alt = op.LoadSAlt;
-        stores = op.StorSPri;
-        adds = Some (op.IncS, op.DecS);
-        operand = slot_offset scope slot;
-      })
+      → IsInSight scope slot → DirectPlace scope (Own slot) (frame_cell (slot_offset scope slot))
   own_direct slot kind sight = record {
     finds = λ x same fewer v fits {pending} {p} {w} {c} s.
         let at = cell_slot_at x v s scope fits slot kind sight in
@@ -273,23 +290,7 @@ module _ (scope : Scope) where
             placed =
                 subst (λ k. CellAt x.program x.room v (Local k slot) 0 at.first)
                 (sym (running_is x v s)) here;
-            reached = record {
-              loading = λ {pending} {p} {w} {c} b q.
-                  ap (λ z. load c.state z (λ y. at_next q (record c.state { pri = y })))
-                  (in_frame_is x v (slot_offset scope slot) at.first b at.address);
-              left = λ {pending} {p} {w} {c} b q.
-                  ap (λ z. load c.state z (λ y. at_next q (record c.state { alt = y })))
-                  (in_frame_is x v (slot_offset scope slot) at.first b at.address);
-              storing = λ {pending} {p} {w} {c} b q.
-                  ap (λ z. store c.state z c.state.pri (at_next q))
-                  (in_frame_is x v (slot_offset scope slot) at.first b at.address);
-              adding = λ pending p w c b q. (
-                ap (λ z. raise c.state z (pos 1) (at_next q))
-                    (in_frame_is x v (slot_offset scope slot) at.first b at.address),
-                ap (λ z. raise c.state z (negsuc 0) (at_next q))
-                    (in_frame_is x v (slot_offset scope slot) at.first b at.address),
-              );
-            };
+            reached = frame_reached x v (slot_offset scope slot) at.first at.address;
           },
         );
   }

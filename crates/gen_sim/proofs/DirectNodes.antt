@@ -1,27 +1,16 @@
 -- Reads and assignments of a place that has instructions of its own.
-use Rattle.std.proofs.Common.{◌≡◌, ◌+◌, ◌≤◌, ℕ, ℤ, pos, List, [], ◌∷◌, ◌++◌, length, sum, refl, arith}
-use Rattle.pawn_cells.specs.Cells.{IsCell}
-use Rattle.pawn_meaning.specs.Program.{Scalar, Expr, Const, Read, Assign}
+use Rattle.std.proofs.Common.{ℕ, List, ◌++◌, length, arith}
+use Rattle.pawn_meaning.specs.Program.{Scalar, Expr, Read, Assign}
 use Rattle.pawn_meaning.specs.Scope.{Scope}
 use Rattle.pawn_meaning.specs.Memory.{read, write}
-use Rattle.pawn_meaning.specs.World.{World}
 use Rattle.pawn_meaning.specs.Run.{◌>>=◌, look, change}
 use Rattle.pawn_meaning.specs.Meaning.{place, value}
-use Rattle.pawn_meaning.specs.Need.{load}
-use Rattle.amx_ops.specs.declared.op.Op.TheVariants as op
-use Rattle.amx_ops.specs.Moves.{Config}
-use Rattle.gen_sim.specs.View.{View, kept, used}
-use Rattle.gen_sim.specs.Stands.{Stands, With}
-use Rattle.gen_sim.specs.Site.{Site, IsSite, Starts, DoesAt, scene_at}
-use Rattle.gen_sim.specs.Items.{Item, item_cells, past, LieIn, with}
-use Rattle.gen_sim.specs.Fits.{Fits}
-use Rattle.gen_sim.specs.Code.{CallsWithin, with_turns}
+use Rattle.gen_sim.specs.Stands.{With}
+use Rattle.gen_sim.specs.Site.{scene_at}
+use Rattle.gen_sim.specs.Items.{Item, item_cells, past}
+use Rattle.gen_sim.specs.Code.{with_turns}
 use Rattle.gen_sim.specs.Contract.{ValueCode}
-use Rattle.gen_sim.specs.Lies.{Lies}
-use Rattle.gen_sim.specs.SimpleCode.{const_code}
 use Rattle.gen_sim.specs.DirectCode.{Direct, direct_load, direct_store}
-use Rattle.gen_sim.proofs.StepLaws.{given}
-use Rattle.gen_sim.proofs.ItemSteps.{item_sets}
 use Rattle.gen_sim.proofs.NodesPartLaws.{gives_of, does_as, then_items}
 use Rattle.gen_sim.proofs.AccessLaws.{Loaded, Stored}
 use Rattle.gen_sim.proofs.AccessNodes.{storing, storing_grows}

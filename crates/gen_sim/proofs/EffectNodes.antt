@@ -1,14 +1,14 @@
 -- Expressions whose value isn't used: steps by one instruction, and commas.
-use Rattle.std.proofs.Common.{◌≡◌, ◌+◌, ◌*◌, ◌≤◌, ◌⊎◌, inl, inr, ℕ, ℤ, pos, negsuc, List, [], ◌∷◌}
-use Rattle.std.proofs.Common.{◌++◌, Bool, true, false, Option, None, Some, length, sum, refl, sym, ap}
+use Rattle.std.proofs.Common.{◌≡◌, ◌+◌, ◌*◌, ◌⊎◌, inl, inr, ℕ, ℤ, pos, negsuc, List, [], ◌∷◌}
+use Rattle.std.proofs.Common.{Bool, true, Option, None, Some, length, refl, sym, ap}
 use Rattle.std.proofs.Common.{subst, ◌∙◌, arith, if◌then◌else◌}
-use Rattle.pawn_cells.specs.Cells.{IsCell, add}
+use Rattle.pawn_cells.specs.Cells.{add}
 use Rattle.pawn_cells.proofs.CellLaws.{wrap_cell}
 use Rattle.pawn_meaning.specs.Program.{Scalar, Expr, Step, Seq}
 use Rattle.pawn_meaning.specs.Scope.{Scope}
 use Rattle.pawn_meaning.specs.Memory.{Place, read, write}
 use Rattle.pawn_meaning.specs.World.{World}
-use Rattle.pawn_meaning.specs.Run.{Run, ◌>>=◌, give, look, change}
+use Rattle.pawn_meaning.specs.Run.{◌>>=◌, give, look, change}
 use Rattle.pawn_meaning.specs.Meaning.{place, value}
 use Rattle.amx_ops.specs.declared.op.Op.{Op}
 use Rattle.amx_ops.specs.declared.op.Op.TheVariants as op
@@ -17,7 +17,7 @@ use Rattle.amx_ops.specs.Effects.{at_next}
 use Rattle.amx_ops.specs.Step.{act}
 use Rattle.amx_ops.specs.Written.{cells_of}
 use Rattle.amx_ops.specs.Moves.{Config}
-use Rattle.gen_sim.specs.View.{View, kept, used}
+use Rattle.gen_sim.specs.View.{View}
 use Rattle.gen_sim.specs.Stands.{Stands, With}
 use Rattle.gen_sim.specs.Site.{Site, DoesAt, scene_at}
 use Rattle.gen_sim.specs.Items.{Item, item_cells, past, with}

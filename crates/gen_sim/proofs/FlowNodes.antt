@@ -1,8 +1,8 @@
 -- Expression statements, locals, lists, `if`, `exit` and `assert`: their code does what they mean,
 -- where that of their parts does.
-use Rattle.std.proofs.Common.{◌≡◌, ◌+◌, ◌≤◌, ℕ, pos, List, [], ◌∷◌, ◌++◌, Some, length, sum}
+use Rattle.std.proofs.Common.{◌≡◌, ◌+◌, ◌≤◌, ℕ, pos, List, [], ◌∷◌, ◌++◌, Some, false, length, sum}
 use Rattle.std.proofs.Common.{slice_get, refl, sym, ap, subst, ◌∙◌, arith}
-use Rattle.pawn_cells.specs.Cells.{cell_of, is_zero}
+use Rattle.pawn_cells.specs.Cells.{IsCell, cell_of, is_zero}
 use Rattle.host_script.specs.declared.event.End.TheVariants as end
 use Rattle.pawn_meaning.specs.Program.{Expr, Stmt, Do, Empty, Local, If, Exit, Assert, Stmts}
 use Rattle.pawn_meaning.specs.Program.{no_stmts, then_stmt, Else, no_else, otherwise, ScalarSlot}
@@ -18,7 +18,7 @@ use Rattle.pawn_meaning.specs.Later.{Grows}
 use Rattle.pawn_meaning.proofs.Grows.{same_later, give_grows, stop_grows, after_grows, change_grows}
 use Rattle.amx_ops.specs.declared.op.Op.TheVariants as op
 use Rattle.amx_ops.specs.Moves.{Config, move}
-use Rattle.gen_sim.proofs.Sim.{stops, ends_one, wider}
+use Rattle.gen_sim.proofs.Sim.{stops, ends_one, wider, in_turn, size_is, after_it}
 use Rattle.gen_sim.specs.View.{View, kept, used}
 use Rattle.gen_sim.specs.Next.{with_local}
 use Rattle.gen_sim.specs.Stands.{Stands, With}
@@ -26,24 +26,27 @@ use Rattle.gen_sim.specs.Site.{Site, DoesAt, scene_at}
 use Rattle.gen_sim.specs.Items.{Item, item_cells, past, with}
 use Rattle.gen_sim.specs.Fits.{own_sizes}
 use Rattle.gen_sim.specs.Code.{with_turns}
-use Rattle.gen_sim.specs.Contract.{EffectCode, ValueCode}
-use Rattle.gen_sim.proofs.ItemLaws.{count-append}
+use Rattle.gen_sim.specs.Contract.{EffectCode, ValueCode, PushedCode}
+use Rattle.gen_sim.specs.Branch.{BranchCode}
+use Rattle.gen_sim.proofs.TestSteps.{test_goes}
+use Rattle.gen_sim.proofs.ItemLaws.{past-append, count-append}
 use Rattle.gen_sim.proofs.StepLaws.{given, move_is}
 use Rattle.gen_sim.proofs.MadeLaws.{local_does}
 use Rattle.gen_sim.proofs.EndLaws.{exit_does}
 use Rattle.gen_sim.specs.Lies.{Lies}
-use Rattle.gen_sim.specs.SimpleCode.{alone, taking}
-use Rattle.gen_sim.specs.JumpCode.{jump_to, other_at, choice_code}
-use Rattle.gen_sim.proofs.ItemSteps.{one_item, next_lies}
+use Rattle.gen_sim.specs.SimpleCode.{taking}
+use Rattle.gen_sim.specs.JumpCode.{jump_to, choice_code}
+use Rattle.gen_sim.proofs.ItemSteps.{one_item, first_lies, rest_lies, next_lies}
+use Rattle.gen_sim.proofs.JumpSteps.{past_small, jump_does}
 use Rattle.gen_sim.proofs.NodesPartLaws.{nodes_of, gives_of, then_items}
 use Rattle.gen_sim.proofs.JumpNodes.{choose_grows}
 use Rattle.gen_sim.specs.Here.{Here, behind}
-use Rattle.gen_sim.specs.FlowCode.{made_cells, local_code, exit_code, assert_code, if_code}
+use Rattle.gen_sim.specs.FlowCode.{made_cells, exit_code, assert_code, else_at, if_code}
 use Rattle.gen_sim.specs.Ways.{Outer, made_view, Left}
 use Rattle.gen_sim.specs.Flow.{Begins, StmtCode, StmtsCode, ElseCode}
 use Rattle.gen_sim.proofs.MadeViews.{count_more, made_upon, upon_used, upon_needs, made_more}
 use Rattle.gen_sim.proofs.MadeViews.{new_more, made_begins}
-use Rattle.gen_sim.proofs.WayLaws.{pass_grows, passes_left, chooses}
+use Rattle.gen_sim.proofs.WayLaws.{pass_grows, passes_left, chooses, ends_left}
 
 -- an expression in a statement
 pub value_at : (here : Here) {x : Site} {turns : ℕ} {v : View} {o : Outer}
@@ -81,8 +84,8 @@ module _ (here : Here) (begin : ℕ) where
 
   pub local_node_does : (slot : ℕ) (e : Expr) (items : List Item) → here.scope.params ≤ slot
       → ¬ (IsMade here.scope slot)
-      → slice_get here.scope.slots slot ≡ Some ScalarSlot → ValueCode here.scope e begin items
-      → StmtCode here (Local slot e) begin (local_code items)
+      → slice_get here.scope.slots slot ≡ Some ScalarSlot → PushedCode here.scope e begin items
+      → StmtCode here (Local slot e) begin items
   local_node_does slot e items above new is part = record {
     fresh = (above, new, tt);
     count = rw is refl;
@@ -90,21 +93,21 @@ module _ (here : Here) (begin : ℕ) where
         let p = past begin items in
         let size : slot_size (slice_get here.scope.slots slot) ≡ 1 = ap slot_size is in
         let own : own_sizes (slice_get here.scope.slots slot) ≡ 1 ∷ [] = ap own_sizes is in
-        then_items x begin items (alone op.PushPri ∷ [])
-        (λ y u t. With x.program x.room v [] p y u t)
-        (λ q. Left x here.exits o (made_view here.scope.slots (slot ∷ []) v) q) w l
+        size_is (move x.amx x.script) (length x.amx.code) x.room
+        {c = length (item_cells items) + 0} (omega arith)
+        (in_turn (move x.amx x.script) (length x.amx.code) x.room
         (value (scene_at x) (with_turns x turns) e w)
         (λ y. change (made slot (one_cell y)) >>= (λ _. give Through))
+        (λ y u t. Stands x.program x.room v (y ∷ []) p u t × IsCell y)
         (λ y u. (after_grows (change_grows (made slot (one_cell y))) (λ _. give_grows Through)).at
         u)
-        (λ j. value_at here b part j (omega (arith, deep, size)) w c s)
-        (λ j y u t k. one_item x (with op.PushPri (pos 0)) [] u
-        (gives_of x 1 u (change (made slot (one_cell y)) u) (λ d. Through)
-        (λ d n i. Stands x.program x.room (with_local v slot (1 ∷ [])) [] (p + 4) n i)
-        (λ d n i m. subst (λ z. Stands x.program x.room (with_local v slot z) [] (p + 4) n i)
+        (part.does x b.site b.same turns b.calls v b.fits l.lie l.starts []
+        (omega (arith, deep, size)) w c s)
+        (λ y u t k. gives_of x 0 u (change (made slot (one_cell y)) u) (λ d. Through)
+        (λ d n i. Stands x.program x.room (with_local v slot (1 ∷ [])) [] p n i)
+        (λ d n i m. subst (λ z. Stands x.program x.room (with_local v slot z) [] p n i)
         (sym own) m)
-        (local_does x here.scope v b.fits slot above new y p u t k j.lie.0
-        (omega (arith, deep, size)))));
+        (local_does x here.scope v b.fits slot above new y p u t k.0)));
   }
 
   -- ---- lists
@@ -174,9 +177,11 @@ module _ (here : Here) (begin : ℕ) where
   }
 
   pub if_does : (e : Expr) (a : Stmt) (other : Else) (condition first second : List Item)
-      → slots_made a ≡ [] → ValueCode here.scope e begin condition
-      → StmtCode here a (past begin condition + 8) first
-      → ElseCode here other (other_at (past begin condition) first) second
+      → slots_made a ≡ []
+      → BranchCode here.scope (λ x fewer. value (scene_at x) fewer e) (load e) false
+      (else_at (past begin condition) first) begin condition
+      → StmtCode here a (past begin condition) first
+      → ElseCode here other (else_at (past begin condition) first) second
       → StmtCode here (If e a other) begin (if_code begin condition first second)
   if_does e a other condition first second none test one two = record {
     fresh = tt;
@@ -184,26 +189,81 @@ module _ (here : Here) (begin : ℕ) where
     does = λ x turns v o b l paid deep w c s.
         let fewer = with_turns x turns in
         let p = past begin condition in
+        let at = else_at p first in
+        let end = past at second in
+        let jump = jump_to op.Jump end in
         let ra = run (scene_at x) fewer a in
         let rb = run_else (scene_at x) fewer other in
         let count : made_by here.scope.slots a ≡ 0 =
         sym one.count ∙ ap (λ m. made_cells here.scope.slots m) none in
-        let jump = jump_to op.Jump (past (other_at p first) second) in
-        let long = count-append condition (choice_code p first second) in
+        let long = count-append condition (first ++ (jump ∷ second)) in
         let longer = count-append first (jump ∷ second) in
-        then_items x begin condition (choice_code p first second)
-        (λ y u t. With x.program x.room v [] p y u t) (Left x here.exits o v) w l
-        (value (scene_at x) fewer e w) (λ y. at_zero y rb ra)
-        (λ y u. (choose_grows (is_zero y) rb ra (else_grows x turns other)
-        ((nodes_of x turns).statements a)).at u)
-        (λ j. value_at here b test j (omega (arith, deep)) w c s)
-        (λ j y u t k. chooses x here.exits o p first second ra rb y u t k j
-        (λ i n h m. subst (λ z. DoesAt x (length (item_cells first)) n h (ra n)
-        (Left x here.exits o (made_view here.scope.slots z v) (past (p + 8) first))) none
-        (one.does x turns v o b i (omega (arith, paid, long, longer))
-        (omega (arith, deep, count)) n h m))
-        (λ i n h m. two.does x turns v o b i (omega (arith, paid, long, longer))
-        (omega (arith, deep)) n h m));
+        let lc = first_lies x begin condition (first ++ (jump ∷ second)) l in
+        let l1 = rest_lies x begin condition (first ++ (jump ∷ second)) l in
+        let l2 = rest_lies x p first (jump ∷ second) l1 in
+        let l3 = next_lies x (past p first) jump second l2 in
+        let ends : end ≡ past begin (if_code begin condition first second) =
+        sym (past-append begin condition (first ++ (jump ∷ second))
+        ∙ past-append p first (jump ∷ second)) in
+        subst (λ q. DoesAt x (length (item_cells (if_code begin condition first second))) w c
+        (run (scene_at x) fewer (If e a other) w) (Left x here.exits o v q)) ends
+        (size_is (move x.amx x.script) (length x.amx.code) x.room
+        {c = length (item_cells condition) + length (item_cells (first ++ (jump ∷ second)))}
+        (sym long)
+        (test.does x b.site b.same turns b.calls v b.fits lc (omega (arith, deep)) here.exits o v
+        end (length (item_cells (first ++ (jump ∷ second)))) rb ra (else_grows x turns other)
+        ((nodes_of x turns).statements a)
+        (λ q t u i k h f. wider (move x.amx x.script) (length x.amx.code) x.room
+        {c = 1 + length (item_cells second)} (omega (arith, longer))
+        (test_goes x k t at l2.lie.2 h f
+        (λ j g. two.does x turns v o b l3 (omega (arith, paid, long, longer)) (omega (arith, deep))
+        u j g)))
+        (λ u i k. size_is (move x.amx x.script) (length x.amx.code) x.room (sym longer)
+        (after_it (move x.amx x.script) (length x.amx.code) x.room (ra u)
+        (Left x here.exits o v (past p first))
+        (subst (λ z. DoesAt x (length (item_cells first)) u i (ra u)
+        (Left x here.exits o (made_view here.scope.slots z v) (past p first))) none
+        (one.does x turns v o b (first_lies x p first (jump ∷ second) l1)
+        (omega (arith, paid, long, longer)) (omega (arith, deep, count)) u i k))
+        (λ way n g m. ends_left x here.exits o v v (past p first) end way n g m
+        (λ j. jump_does x j end 0 (past_small x at second l3.lie l2.lie.2) (omega arith) l2
+        (λ z d r. given x d d))))) w c s));
+  }
+
+  -- without `else`
+  pub only_if_does : (e : Expr) (a : Stmt) (condition first : List Item)
+      → slots_made a ≡ []
+      → BranchCode here.scope (λ x fewer. value (scene_at x) fewer e) (load e) false
+      (past (past begin condition) first) begin condition
+      → StmtCode here a (past begin condition) first
+      → StmtCode here (If e a no_else) begin (condition ++ first)
+  only_if_does e a condition first none test one = record {
+    fresh = tt;
+    count = refl;
+    does = λ x turns v o b l paid deep w c s.
+        let fewer = with_turns x turns in
+        let p = past begin condition in
+        let end = past p first in
+        let ra = run (scene_at x) fewer a in
+        let count : made_by here.scope.slots a ≡ 0 =
+        sym one.count ∙ ap (λ m. made_cells here.scope.slots m) none in
+        let long = count-append condition first in
+        let lc = first_lies x begin condition first l in
+        let l1 = rest_lies x begin condition first l in
+        let small = past_small x p first l1.lie (test.ends x lc.lie) in
+        subst (λ q. DoesAt x (length (item_cells (condition ++ first))) w c
+        (run (scene_at x) fewer (If e a no_else) w) (Left x here.exits o v q))
+        (sym (past-append begin condition first))
+        (size_is (move x.amx x.script) (length x.amx.code) x.room
+        {c = length (item_cells condition) + length (item_cells first)} (sym long)
+        (test.does x b.site b.same turns b.calls v b.fits lc (omega (arith, deep)) here.exits o v
+        end (length (item_cells first)) (give Through) ra (give_grows Through)
+        ((nodes_of x turns).statements a)
+        (λ q t u i k h f. test_goes x k t end small h f (λ j g. given x g g))
+        (λ u i k. subst (λ z. DoesAt x (length (item_cells first)) u i (ra u)
+        (Left x here.exits o (made_view here.scope.slots z v) end)) none
+        (one.does x turns v o b l1 (omega (arith, paid, long)) (omega (arith, deep, count)) u i k))
+        w c s));
   }
 
   -- ---- ends

@@ -1,5 +1,5 @@
 -- An expression that folds: what it folds to is a cell, and the constant is its code.
-use Rattle.std.proofs.Common.{◌≡◌, ℕ, ℤ, List, [], Bool, true, false, Option, None, Some, length, refl}
+use Rattle.std.proofs.Common.{◌≡◌, ℕ, ℤ, List, Bool, true, false, Option, None, Some, length, refl}
 use Rattle.std.proofs.Common.{sym, subst, if◌then◌else◌, not}
 use Rattle.std.specs.Prelude.{option_map}
 use Rattle.pawn_cells.specs.declared.operator.Prefix.{Prefix}
@@ -9,25 +9,20 @@ use Rattle.pawn_cells.specs.declared.operator.Logical.TheVariants as logic
 use Rattle.pawn_cells.specs.Cells.{IsCell, is_zero, truth, floor_div, floor_rem}
 use Rattle.pawn_cells.specs.Operators.{prefix, binary, logical}
 use Rattle.pawn_cells.proofs.CellLaws.{cell_of_cell, wrap_cell, shr_cell, truth_cell, floor_rem_cell}
-use Rattle.pawn_meaning.specs.Program.{Expr, Const, Read, Unary, Binary, Chain, And, Or, Cond}
-use Rattle.pawn_meaning.specs.Program.{Assign, Update, UpdateBy, Step, StepBy, Copy, Operate}
-use Rattle.pawn_meaning.specs.Program.{OperateOne, Call, Native, Seq, Links, no_links, then_link}
+use Rattle.pawn_meaning.specs.Program.{Expr, Const, Unary, Binary, Chain, And, Or, Cond}
+use Rattle.pawn_meaning.specs.Program.{Links, no_links, then_link}
 use Rattle.pawn_meaning.specs.Scope.{Scope}
 use Rattle.pawn_meaning.specs.ValidExprs.{IsValidExpr}
 use Rattle.pawn_meaning.specs.Fold.{is_constant, constant_value, binary_value, and_value, or_value}
 use Rattle.pawn_meaning.specs.Fold.{choice_value, links_value, fold}
-use Rattle.pawn_meaning.specs.Meaning.{value}
-use Rattle.pawn_meaning.specs.Run.{Gives}
 use Rattle.pawn_meaning.proofs.FoldLaws.{fold_means_lem}
-use Rattle.amx_ops.specs.declared.op.Op.TheVariants as op
 use Rattle.gen_sim.specs.Stands.{With}
 use Rattle.gen_sim.specs.Site.{DoesAt, scene_at}
-use Rattle.gen_sim.specs.Items.{Item, item_cells, past, with}
+use Rattle.gen_sim.specs.Items.{Item, item_cells, past}
 use Rattle.gen_sim.specs.Code.{with_turns}
 use Rattle.gen_sim.specs.Contract.{ValueCode}
 use Rattle.gen_sim.specs.SimpleCode.{const_code, folded}
-use Rattle.gen_sim.proofs.StepLaws.{given}
-use Rattle.gen_sim.proofs.ItemSteps.{item_sets}
+use Rattle.gen_sim.proofs.ConstantNodes.{const_does}
 use Rattle.gen_sim.proofs.OperatorLaws.{prefix_cell}
 
 -- ---- cells
@@ -141,15 +136,13 @@ module _ (scope : Scope) where
   -- ---- its code
 
   module _ (begin : ℕ) (e : Expr) where
-    constant_does : (y : ℤ) → IsCell y → fold e ≡ Some y → ValueCode scope e begin (const_code y)
+    pub constant_does : (y : ℤ) → IsCell y → fold e ≡ Some y → ValueCode scope e begin (const_code y)
     constant_does y fit is = record {
       does = λ x site same turns calls v fits lie starts pending deep w c s.
           subst (λ o. DoesAt x (length (item_cells (const_code y))) w c o
           (With x.program x.room v pending (past begin (const_code y))))
           (sym (((fold_means_lem (scene_at x) (with_turns x turns) e y).0 is).1 w))
-          (item_sets x (with op.ConstPri y) {js = []} s (record { lie = lie; starts = starts }) y
-          c.state.alt refl
-          (λ t b m n. given x b (record { stands = b; value = m; fits = fit })));
+          (const_does x begin y fit (record { lie = lie; starts = starts }) w c s);
     }
 
     pub folded_does : IsValidExpr scope e → (items : List Item) → ValueCode scope e begin items

@@ -15,6 +15,7 @@ use Rattle.pawn_meaning.proofs.Grows.{after_grows, give_grows, same_later}
 use Rattle.amx_ops.specs.declared.op.Op.TheVariants as op
 use Rattle.amx_ops.specs.Moves.{Config, move}
 use Rattle.pawn_cells.proofs.CellLaws.{truth_cell, small_cell}
+use Rattle.gen_sim.proofs.ConstantNodes.{const_does}
 use Rattle.gen_sim.proofs.Sim.{after_it, size_is}
 use Rattle.gen_sim.specs.View.{View}
 use Rattle.gen_sim.specs.Stands.{Stands, With}
@@ -102,16 +103,7 @@ module _ (x : Site) {v : View} {pending : List ℤ} (p : ℕ) (first second : Li
 
 -- ---- 1 or 0
 
--- the constants' code
 module _ (x : Site) {v : View} {pending : List ℤ} (p : ℕ) where
-  const_does : (y : ℤ) → IsCell y → Lies x p (const_code y) → (n : World) (k : Config)
-      → Stands x.program x.room v pending p n k
-      → DoesAt x (length (item_cells (const_code y))) n k (give y n)
-      (With x.program x.room v pending (past p (const_code y)))
-  const_does y fit l n k s =
-      item_sets x (with op.ConstPri y) s l y k.state.alt refl
-      (λ t b e f. given x b (record { stands = b; value = e; fits = fit }))
-
   truth_does : (y : ℤ) (n : World) (k : Config) → With x.program x.room v pending p y n k
       → Lies x p truth_code
       → DoesAt x (length (item_cells truth_code)) n k (give (cells.not (cells.not y)) n)
@@ -133,10 +125,10 @@ twice (pos zero) = refl
 twice (pos (suc n)) = refl
 twice (negsuc n) = refl
 
-and_value : (y z : ℤ) → is_zero y ≡ false → cells.not (cells.not z) ≡ logical logic.And y z
+pub and_value : (y z : ℤ) → is_zero y ≡ false → cells.not (cells.not z) ≡ logical logic.And y z
 and_value y z e = twice z ∙ rw e refl
 
-or_value : (y z : ℤ) → is_zero y ≡ true → cells.not (cells.not z) ≡ logical logic.Or y z
+pub or_value : (y z : ℤ) → is_zero y ≡ true → cells.not (cells.not z) ≡ logical logic.Or y z
 or_value y z e = twice z ∙ rw e refl
 
 -- a right operand's truth

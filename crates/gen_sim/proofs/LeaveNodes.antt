@@ -28,7 +28,7 @@ use Rattle.gen_sim.proofs.LeaveLaws.{leaves}
 use Rattle.gen_sim.specs.Lies.{Lies}
 use Rattle.gen_sim.specs.SimpleCode.{alone, taking}
 use Rattle.gen_sim.proofs.ItemSteps.{one_item, next_lies}
-use Rattle.gen_sim.proofs.NodesPartLaws.{gives_of, then_items}
+use Rattle.gen_sim.proofs.NodesPartLaws.{gives_of, does_as, then_items}
 use Rattle.gen_sim.specs.JumpCode.{jump_to}
 use Rattle.gen_sim.proofs.JumpSteps.{jump_does}
 use Rattle.gen_sim.specs.Here.{Exits, Here}
@@ -37,7 +37,8 @@ use Rattle.gen_sim.specs.FlowCode.{return_code}
 use Rattle.gen_sim.specs.Ways.{Outer, made_view, Left, Upon}
 use Rattle.gen_sim.specs.Flow.{StmtCode, StmtsCode}
 use Rattle.gen_sim.proofs.MadeViews.{total_locals, made_upon, upon_less}
-use Rattle.gen_sim.proofs.WayLaws.{ends_left, after_items}
+use Rattle.gen_sim.proofs.WayLaws.{IsOut, ends_left, out_left, after_items}
+use Rattle.gen_sim.proofs.KindLaws.{Known, known_does}
 
 module _ (x : Site) {A : Type 0} {out : Outcome A} {Q : A → World → Config → Type 0}
     (slots : List Slot) {js : List Item} {v base : View} {p : ℕ} {w : World} {c : Config} where
@@ -113,6 +114,25 @@ module _ (here : Here) (begin : ℕ) where
         (λ j. part.does x turns v o b j (omega (arith, paid, long)) (omega (arith, deep)) w c s)
         (λ j way u t k. leaves_way x here.exits o slots made (past begin items) way u t
         (made_upon x slots made v s.laid) k j (omega (arith, deep)));
+  }
+
+  -- a list that is never left through its end
+  pub left_block_does : (stmts : Stmts) (items : List Item)
+      → ((x : Site) (turns : ℕ) (w : World)
+      → Known (run_all (scene_at x) (with_turns x turns) stmts w) IsOut)
+      → StmtsCode here stmts begin items → StmtCode here (Block stmts) begin items
+  left_block_does stmts items out part = record {
+    fresh = tt;
+    count = refl;
+    does = λ x turns v o b l paid deep w c s.
+        let q = past begin items in
+        let inner = made_view here.scope.slots (slots_made_by stmts) v in
+        let all = run_all (scene_at x) (with_turns x turns) stmts w in
+        does_as x (length (item_cells items)) w all
+        (λ way u t. Left x here.exits o inner q way u t × IsOut way)
+        (λ way u t k. out_left x here.exits o inner v q q way u t k.1 k.0)
+        (known_does x (length (item_cells items)) w all (Left x here.exits o inner q) IsOut
+        (out x turns w) (part.does x turns v o b l paid (omega (arith, deep)) w c s));
   }
 
   -- ---- ways out

@@ -64,7 +64,7 @@ chained_grows x turns (then_link o e f swapped links) y u =
 
 -- ---- a link on its operands
 
-compare_act : (amx : Amx) (o : Comparison) (q : ℕ) (s : State)
+pub compare_act : (amx : Amx) (o : Comparison) (q : ℕ) (s : State)
     → act amx (compare_op o) (pos 0) q s
     ≡ Goes (record s { pri = truth (compare o s.alt s.pri); cip = q })
 compare_act amx comparison.Less q s = refl

@@ -1,26 +1,25 @@
 -- `while` and `for`: their code does what they mean, where that of their parts does.
-use Rattle.std.proofs.Common.{◌≡◌, ◌+◌, ◌^◌, ◌<◌, ◌≤◌, ℕ, ℤ, pos, List, [], ◌∷◌, ◌++◌, length, max}
+use Rattle.std.proofs.Common.{◌≡◌, ◌+◌, ◌^◌, ◌<◌, ◌≤◌, ℕ, pos, List, [], ◌++◌, true, length, max}
 use Rattle.std.proofs.Common.{sum, refl, sym, ap, subst, ◌∙◌, arith}
 use Rattle.pawn_cells.specs.Cells.{is_zero}
 use Rattle.pawn_meaning.specs.Program.{Expr, Perhaps, Absent, Present, Stmt, While, For, Stmts}
 use Rattle.pawn_meaning.specs.Program.{no_stmts}
 use Rattle.pawn_meaning.specs.ValidStmts.{slots_made, slots_made_by}
 use Rattle.pawn_meaning.specs.World.{World}
-use Rattle.pawn_meaning.specs.Run.{Run, Done, ◌>>=◌, give, done, at_zero}
+use Rattle.pawn_meaning.specs.Run.{Run, give, done}
 use Rattle.pawn_meaning.specs.Calls.{Way, Through, pass}
 use Rattle.pawn_meaning.specs.Meaning.{value, run, run_all, condition, perhaps}
-use Rattle.pawn_meaning.specs.Need.{load, perhaps_load, stmt_load, stmts_load, made_by, locals}
-use Rattle.pawn_meaning.specs.Need.{own_locals, inner_locals}
+use Rattle.pawn_meaning.specs.Need.{load, perhaps_load, stmt_load, made_by, locals}
 use Rattle.pawn_meaning.specs.Later.{Grows}
 use Rattle.pawn_meaning.proofs.Grows.{give_grows, after_grows, turn_grows}
 use Rattle.pawn_meaning.proofs.RunLaws.{runs_grow_lem}
 use Rattle.amx_ops.specs.Moves.{Config}
 use Rattle.gen_sim.specs.View.{View, kept, used, Laid}
-use Rattle.gen_sim.specs.Stands.{Stands, With}
+use Rattle.gen_sim.specs.Stands.{Stands}
 use Rattle.gen_sim.specs.Site.{Site, DoesAt, scene_at}
-use Rattle.gen_sim.specs.Items.{Item, item_cells, past}
+use Rattle.gen_sim.specs.Items.{Item, item_cells, past, LieIn}
 use Rattle.gen_sim.specs.Code.{with_turns}
-use Rattle.gen_sim.specs.Contract.{ValueCode}
+use Rattle.gen_sim.specs.Branch.{BranchCode}
 use Rattle.gen_sim.proofs.ItemLaws.{count-append}
 use Rattle.gen_sim.proofs.StepLaws.{given}
 use Rattle.gen_sim.specs.Lies.{Lies}
@@ -28,13 +27,14 @@ use Rattle.gen_sim.proofs.NodesPartLaws.{nodes_of, then_items}
 use Rattle.gen_sim.proofs.JumpNodes.{choose_grows}
 use Rattle.gen_sim.specs.Here.{Exits, Here, behind, within}
 use Rattle.gen_sim.specs.FlowCode.{made_cells, leave_code}
-use Rattle.gen_sim.specs.Ways.{Outer, made_view, Left, Inside}
-use Rattle.gen_sim.specs.Flow.{Begins, StmtCode, StmtsCode, ConditionCode, PerhapsCode}
+use Rattle.gen_sim.specs.Ways.{Outer, made_view, Left}
+use Rattle.gen_sim.specs.Flow.{Begins, StmtCode, StmtsCode, PerhapsCode}
 use Rattle.gen_sim.proofs.MadeViews.{made_upon, upon_used, upon_needs, made_begins}
 use Rattle.gen_sim.proofs.WayLaws.{pass_grows, passes_left, after_items}
 use Rattle.gen_sim.proofs.LeaveNodes.{leaves_way}
-use Rattle.gen_sim.specs.LoopCode.{body_at, step_at, loop_end, loop_exits, loop_code, for_code}
-use Rattle.gen_sim.proofs.LoopLaws.{again_grows, tested, pass_run, Parts, end_small, step_small}
+use Rattle.gen_sim.specs.LoopCode.{body_at, step_at, loop_test, loop_end, loop_exits, loop_code}
+use Rattle.gen_sim.specs.LoopCode.{for_code}
+use Rattle.gen_sim.proofs.LoopLaws.{again_grows, tested, pass_run, end_small, step_small}
 use Rattle.gen_sim.proofs.LoopLaws.{body_paid, loop_does}
 
 -- the body of a loop begins in its view, with fewer turns left
@@ -90,57 +90,61 @@ module _ (here : Here) {s : Stmt} {begin : ℕ} {items : List Item} (none : slot
       (part.does x turns v o b l paid (omega (arith, deep, makes_none)) w c k)
 
 -- the body of a loop in its passes
-module _ (here : Here) (top : ℕ) (s : Stmt) (test body step : List Item) (none : slots_made s ≡ [])
-    (part : StmtCode (within (loop_exits top test body step) here) s (body_at top test) body)
+module _ (here : Here) (top : ℕ) (s : Stmt) (test body step : List Item)
+    (none : slots_made s ≡ [])
+    (part : StmtCode (within (loop_exits top test body step) here) s (body_at top) body)
     (x : Site) (turns : ℕ) (v : View) (o : Outer) (b : Begins here x turns v o)
     (l : Lies x top (loop_code top test body step))
     (paid : length (item_cells (loop_code top test body step)) ≤ length x.amx.code)
+    (small : LieIn x (loop_test top body step) test → loop_end top test body step < 2 ^ 31)
     (deep : used x.program x.room v [] + (locals here.scope.slots s + stmt_load s)
     ≤ kept x.program x.room + sum v.needs) where
-  pub passes_do : (k : ℕ) → k ≤ turns → Lies x (body_at top test) body → (w : World) (c : Config)
-      → Stands x.program x.room v [] (body_at top test) w c
+  pub passes_do : (k : ℕ) → k ≤ turns → Lies x (body_at top) body → (w : World) (c : Config)
+      → Stands x.program x.room v [] (body_at top) w c
       → DoesAt x (length (item_cells body)) w c (run (scene_at x) (with_turns x k) s w)
-      (Left x (loop_exits top test body step) (record o { loop = v }) v (step_at top test body))
+      (Left x (loop_exits top test body step) (record o { loop = v }) v (step_at top body))
   passes_do k h j w c g =
       let exits = loop_exits top test body step in
       inner_does (within exits here) none part x k v (record o { loop = v })
       (loop_begins here x turns k o exits v h g.laid
-      (end_small x here.exits o v top test body step l paid)
-      (step_small x here.exits o v top test body step l paid) b)
-      j (body_paid x here.exits o v top test body step l paid) deep w c g
+      (end_small x here.exits o v top test body step l paid small)
+      (step_small x here.exits o v top test body step l paid small) b)
+      j (body_paid x here.exits o v top test body step l paid small) deep w c g
 
 module _ (here : Here) (top : ℕ) where
   pub while_does : (e : Expr) (s : Stmt) (test body : List Item) → slots_made s ≡ []
-      → ValueCode here.scope e top test
-      → StmtCode (within (loop_exits top test body []) here) s (body_at top test) body
+      → BranchCode here.scope (λ x fewer. value (scene_at x) fewer e) (load e) true (body_at top)
+      (loop_test top body []) test
+      → StmtCode (within (loop_exits top test body []) here) s (body_at top) body
       → StmtCode here (While e s) top (loop_code top test body [])
   while_does e s test body none one two = record {
     fresh = tt;
     count = refl;
     does = λ x turns v o b l paid deep w c st.
-        loop_does x here.exits o v top test body [] l paid (While e s) turns
+        loop_does x here.exits o v top test body [] l paid (one.ends x) (While e s) turns
         (λ k. value (scene_at x) (with_turns x k) e)
         (λ k. run (scene_at x) (with_turns x k) s) (λ k. give done)
         (λ k h. record {
           body_grows = (nodes_of x k).statements s;
           step_grows = give_grows done;
           tests =
-              λ j n i g. one.does x b.site b.same k
-              (λ fewer m. b.calls fewer (omega (arith, m, h))) v b.fits j.lie j.starts []
-              (omega (arith, deep)) n i g;
+              λ j. one.does x b.site b.same k (λ fewer m. b.calls fewer (omega (arith, m, h))) v
+              b.fits j (omega (arith, deep)) here.exits o v (loop_end top test body []) 0;
           does =
-              passes_do here top s test body [] none two x turns v o b l paid
+              passes_do here top s test body [] none two x turns v o b l paid (one.ends x)
               (omega (arith, deep)) k h;
           steps = λ j n i g. given x g g;
         }) (λ k. refl) w c st;
   }
 
 -- a `for` without what it does first
-module _ (here : Here) (top : ℕ) (e step : Perhaps) (s : Stmt) (test body more : List Item)
+module _ (here : Here) (top : ℕ) (e step : Perhaps) (s : Stmt)
+    (test body more : List Item)
     (none : slots_made s ≡ [])
-    (one : ConditionCode here.scope e top test)
-    (two : StmtCode (within (loop_exits top test body more) here) s (body_at top test) body)
-    (three : PerhapsCode here.scope step (step_at top test body) more) where
+    (one : BranchCode here.scope (λ x fewer. condition (scene_at x) fewer e) (perhaps_load e) true
+    (body_at top) (loop_test top body more) test)
+    (two : StmtCode (within (loop_exits top test body more) here) s (body_at top) body)
+    (three : PerhapsCode here.scope step (step_at top body) more) where
   -- what it means
   abbrev pub for_run : (x : Site) (turns : ℕ) → Run Way
   for_run x turns =
@@ -170,17 +174,17 @@ module _ (here : Here) (top : ℕ) (e step : Perhaps) (s : Stmt) (test body more
       → DoesAt x (length (item_cells (loop_code top test body more))) w c (for_run x turns w)
       (Left x here.exits o v (past top (loop_code top test body more)))
   passes_for x turns v o b l paid deep w c st =
-      loop_does x here.exits o v top test body more l paid (For no_stmts e step s) turns
+      loop_does x here.exits o v top test body more l paid (one.ends x) (For no_stmts e step s) turns
       (λ k. condition (scene_at x) (with_turns x k) e)
       (λ k. run (scene_at x) (with_turns x k) s) (λ k. perhaps (scene_at x) (with_turns x k) step)
       (λ k h. record {
         body_grows = (nodes_of x k).statements s;
         step_grows = perhaps_grows x k step;
         tests =
-            λ j n i g. one.does x b.site b.same k (λ fewer m. b.calls fewer (omega (arith, m, h))) v
-            b.fits j.lie j.starts [] (omega (arith, deep)) n i g;
+            λ j. one.does x b.site b.same k (λ fewer m. b.calls fewer (omega (arith, m, h))) v
+            b.fits j (omega (arith, deep)) here.exits o v (loop_end top test body more) 0;
         does =
-            passes_do here top s test body more none two x turns v o b l paid
+            passes_do here top s test body more none two x turns v o b l paid (one.ends x)
             (omega (arith, deep)) k h;
         steps =
             λ j n i g. three.does x b.site b.same k
@@ -189,13 +193,16 @@ module _ (here : Here) (top : ℕ) (e step : Perhaps) (s : Stmt) (test body more
       }) (λ k. refl) w c st
 
 module _ (here : Here) (begin : ℕ) where
-  pub for_does : (init : Stmts) (e step : Perhaps) (s : Stmt) (first test body more : List Item)
+  pub for_does : (init : Stmts) (e step : Perhaps) (s : Stmt)
+      (first test body more : List Item)
       → slots_made s ≡ [] → StmtsCode here init begin first
-      → ConditionCode (behind (slots_made_by init) here).scope e (past begin first) test
+      → BranchCode (behind (slots_made_by init) here).scope
+      (λ x fewer. condition (scene_at x) fewer e) (perhaps_load e) true (body_at (past begin first))
+      (loop_test (past begin first) body more) test
       → StmtCode (within (loop_exits (past begin first) test body more)
-      (behind (slots_made_by init) here)) s (body_at (past begin first) test) body
+      (behind (slots_made_by init) here)) s (body_at (past begin first)) body
       → PerhapsCode (behind (slots_made_by init) here).scope step
-      (step_at (past begin first) test body) more
+      (step_at (past begin first) body) more
       → StmtCode here (For init e step s) begin
       (for_code here.scope.slots (slots_made_by init) begin first test body more)
   for_does init e step s first test body more none zeroth one two three = record {

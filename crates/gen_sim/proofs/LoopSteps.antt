@@ -1,7 +1,7 @@
 -- The instructions of a loop: a turn begins, a jump leads back, a test leads to the end.
-use Rattle.std.proofs.Common.{◌≡◌, ◌+◌, ◌*◌, ◌^◌, ◌<◌, ◌≤◌, inr, ℕ, zero, suc, ℤ, pos, List, []}
-use Rattle.std.proofs.Common.{◌∷◌, Some, Bool, true, false, length, nat_lt, refl, sym, ap, subst}
-use Rattle.std.proofs.Common.{◌∙◌, arith, if◌then◌else◌}
+use Rattle.std.proofs.Common.{◌≡◌, ◌+◌, ◌^◌, ◌<◌, ◌≤◌, inr, ℕ, ℤ, pos, List}
+use Rattle.std.proofs.Common.{Some, Bool, true, false, length, nat_lt, refl, ap}
+use Rattle.std.proofs.Common.{◌∙◌, arith}
 use Rattle.std.proofs.lemmas.Int.{ints}
 use Rattle.pawn_cells.specs.Cells.{bits_of, is_zero}
 use Rattle.pawn_meaning.specs.World.{World}

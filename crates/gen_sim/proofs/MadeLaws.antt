@@ -1,6 +1,6 @@
 -- Cells that wait become a local of the frame that runs.
-use Rattle.std.proofs.Common.{◌≡◌, ◌+◌, ◌<◌, ◌≤◌, inr, ℕ, ℤ, pos, List, [], ◌∷◌, ◌++◌, Option, None}
-use Rattle.std.proofs.Common.{Some, Bool, true, false, length, sum, slice_get, nat_lt}
+use Rattle.std.proofs.Common.{◌≡◌, ◌<◌, ◌≤◌, inr, ℕ, ℤ, List, [], ◌∷◌, ◌++◌, Option, None}
+use Rattle.std.proofs.Common.{Some, Bool, true, false, length, slice_get, nat_lt}
 use Rattle.std.proofs.Common.{if◌then◌else◌, refl, sym, ap, subst, ◌∙◌, arith}
 use Rattle.std.proofs.lemmas.Bool.{ltb-true}
 use Rattle.std.specs.Prelude.{Any}
@@ -11,19 +11,13 @@ use Rattle.pawn_meaning.specs.Memory.{slot_in, pointed, running, with_slot, with
 use Rattle.pawn_meaning.specs.Memory.{made, needs_of}
 use Rattle.pawn_meaning.specs.World.{World}
 use Rattle.pawn_meaning.specs.Run.{changed, change}
-use Rattle.pawn_meaning.proofs.Grows.{change_grows}
-use Rattle.amx_ops.specs.declared.op.Op.TheVariants as op
-use Rattle.amx_ops.specs.Instructions.{fetched}
-use Rattle.amx_ops.specs.Written.{read_as}
-use Rattle.amx_ops.specs.State.{push}
-use Rattle.amx_ops.specs.Effects.{at_next}
 use Rattle.amx_ops.specs.Moves.{Config}
 use Rattle.gen_sim.specs.Pieces.{Piece, Fixed, Thing, Automaton, Each, IsSized, vectors}
 use Rattle.gen_sim.specs.Places.{Apart}
 use Rattle.gen_sim.specs.Mem.{Mem}
-use Rattle.gen_sim.specs.View.{View, IsOf, innermost, all_cells, low, kept, used}
+use Rattle.gen_sim.specs.View.{View, IsOf, innermost, all_cells, low}
 use Rattle.gen_sim.specs.Next.{with_local}
-use Rattle.gen_sim.specs.Stands.{Stands, With, refers_at}
+use Rattle.gen_sim.specs.Stands.{Stands, refers_at}
 use Rattle.gen_sim.proofs.PieceLaws.{each_both, each_gives}
 use Rattle.gen_sim.proofs.FrameLaws.{pointed_made}
 use Rattle.gen_sim.proofs.ObjectLaws.{object_needs, object_heap}
@@ -31,10 +25,9 @@ use Rattle.gen_sim.proofs.ChangeLaws.{made_mem}
 use Rattle.gen_sim.proofs.DataLaws.{of_low}
 use Rattle.gen_sim.proofs.ViewLaws.{local_apart, local_laid}
 use Rattle.gen_sim.specs.Site.{Site, DoesAt}
-use Rattle.gen_sim.specs.Items.{with}
 use Rattle.gen_sim.specs.Fits.{own_sizes, locals_of, Fits}
 use Rattle.gen_sim.proofs.ParameterLaws.{count_needs}
-use Rattle.gen_sim.proofs.StepLaws.{given, stray, pushes}
+use Rattle.gen_sim.proofs.StepLaws.{given, stray}
 use Rattle.gen_sim.proofs.LocalScopes.{any_here, any_there}
 
 -- a slot that wasn't made stands nowhere among those that were
@@ -136,24 +129,18 @@ module _ (x : Site) (scope : Scope) (v : View) (fits : Fits x.program x.room sco
         by_frame n (frame_at w.memory.frames (innermost v)) refl
         (subst (λ j. made_in (frame_at w.memory.frames j) j slot object w.memory ≡ Some n) k h)
 
-  -- PUSH.pri makes a local of one cell
-  pub local_does : (y : ℤ) (p : ℕ) (w : World) (c : Config) → With x.program x.room v [] p y w c
-      → fetched x.amx.code p ≡ Some (read_as (with op.PushPri (pos 0)))
-      → used x.program x.room v [] ≤ kept x.program x.room + sum v.needs + 15
-      → DoesAt x 1 w c (change (made slot (one_cell y)) w)
-      (λ d u t. Stands x.program x.room (with_local v slot (1 ∷ [])) [] (p + 4) u t)
-  local_does y p w c a f deep =
-      pushes x {d = 0} a.stands (with op.PushPri (pos 0)) f y
-      (ap (λ z. push c.state z (at_next (p + 4))) a.value) a.fits deep
-      ((change_grows (made slot (one_cell y))).at w)
-      (λ t s e g. by_made t s (made slot (one_cell y) w.memory) refl)
+  -- a cell that waits becomes a local of one cell
+  pub local_does : (y : ℤ) (p : ℕ) (w : World) (c : Config)
+      → Stands x.program x.room v (y ∷ []) p w c
+      → DoesAt x 0 w c (change (made slot (one_cell y)) w)
+      (λ d u t. Stands x.program x.room (with_local v slot (1 ∷ [])) [] p u t)
+  local_does y p w c s = by_made (made slot (one_cell y) w.memory) refl
     where
-      by_made : (t : Config) → Stands x.program x.room v (y ∷ []) (p + 4) w t → (o : Option Memory)
-          → made slot (one_cell y) w.memory ≡ o
-          → DoesAt x 0 w t (changed o w)
-          (λ d u t. Stands x.program x.room (with_local v slot (1 ∷ [])) [] (p + 4) u t)
-      by_made t s None e = stray x s
-      by_made t s (Some n) e =
+      by_made : (o : Option Memory) → made slot (one_cell y) w.memory ≡ o
+          → DoesAt x 0 w c (changed o w)
+          (λ d u t. Stands x.program x.room (with_local v slot (1 ∷ [])) [] p u t)
+      by_made None e = stray x s
+      by_made (Some n) e =
           let k =
           made_stands s (1 ∷ []) (one_cell y)
           (record { sizes_are = refl; count = refl }) refl n e in given x k k

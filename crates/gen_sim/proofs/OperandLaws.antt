@@ -1,13 +1,15 @@
 -- What operators do, with the left operand in PRI and the right one in ALT, or known.
-use Rattle.std.proofs.Common.{w32, ◌≡◌, ◌+◌, ◌*◌, ℕ, ℤ, pos, neg_ℤ, List, [], ◌∷◌, Bool, true, false}
-use Rattle.std.proofs.Common.{not as no, length, refl, ap, ◌∙◌}
+use Rattle.std.proofs.Common.{w32, ◌≡◌, ◌+◌, ◌*◌, ℕ, ℤ, pos, neg_ℤ, List, [], ◌∷◌, ◌++◌, Bool, true}
+use Rattle.std.proofs.Common.{false, not as no, length, refl, sym, ap, subst, ◌∙◌}
 use Rattle.std.proofs.lemmas.Int.{int_wrap-add_right}
 use Rattle.pawn_cells.specs.declared.operator.Operator.{Operator}
 use Rattle.pawn_cells.specs.declared.operator.Operator.TheVariants as between
-use Rattle.pawn_cells.specs.Cells.{IsCell, add, sub, mul, neg, and, or, xor, shl, shr, ushr, floor_div}
+use Rattle.pawn_cells.specs.Cells.{IsCell, add, sub, mul, neg, and, or, xor, shl, shr, ushr}
+use Rattle.pawn_cells.specs.Cells.{floor_div}
 use Rattle.pawn_cells.specs.Cells.{floor_rem, equal, is_zero, truth}
 use Rattle.pawn_cells.specs.Operators.{binary}
-use Rattle.pawn_cells.proofs.CellLaws.{cell_of_cell, wrap_cell, shr_cell, truth_cell, floor_rem_cell}
+use Rattle.pawn_cells.proofs.CellLaws.{cell_of_cell, wrap_cell, shr_cell, truth_cell}
+use Rattle.pawn_cells.proofs.CellLaws.{floor_rem_cell}
 use Rattle.host_script.specs.declared.event.End.TheVariants as end
 use Rattle.pawn_meaning.specs.World.{World}
 use Rattle.pawn_meaning.specs.Run.{Gives, or_stop}
@@ -20,14 +22,16 @@ use Rattle.amx_ops.specs.Moves.{Config}
 use Rattle.gen_sim.specs.View.{View}
 use Rattle.gen_sim.specs.Stands.{Stands, With}
 use Rattle.gen_sim.specs.Site.{Site, DoesAt}
-use Rattle.gen_sim.specs.Items.{Item, item_cells, past, with}
+use Rattle.gen_sim.specs.Items.{item_cells, past, with}
 use Rattle.gen_sim.specs.Lies.{Lies}
-use Rattle.gen_sim.specs.SimpleCode.{alone, taking}
+use Rattle.gen_sim.specs.SimpleCode.{alone, taking, alt_code}
 use Rattle.gen_sim.specs.OperandCode.{loaded_code, known_code}
 use Rattle.gen_sim.proofs.StepLaws.{given, errs}
-use Rattle.gen_sim.proofs.ItemSteps.{item_sets, one_item, next_lies}
+use Rattle.gen_sim.proofs.ItemSteps.{item_sets, one_item, next_lies, rest_lies}
+use Rattle.gen_sim.proofs.ConstantNodes.{alt_sets}
+use Rattle.gen_sim.proofs.ItemLaws.{past-append}
 
-subtracted : (l r : ℤ) → add l (neg r) ≡ sub l r
+pub subtracted : (l r : ℤ) → add l (neg r) ≡ sub l r
 subtracted l r = int_wrap-add_right w32 l (neg_ℤ r)
 
 -- ---- the right operand in ALT
@@ -140,14 +144,17 @@ module _ (x : Site) {v : View} {pending : List ℤ} {w : World} (l r : ℤ) wher
   -- or it goes to ALT
   goes_to_alt : (o : Operator) → IsCell l → IsCell r → (p : ℕ) (c : Config)
       → Stands x.program x.room v pending p w c → c.state.pri ≡ l
-      → Lies x p (taking op.ConstAlt r ∷ loaded_code o)
-      → DoesAt x (length (item_cells (taking op.ConstAlt r ∷ loaded_code o))) w c
+      → Lies x p (alt_code r ++ loaded_code o)
+      → DoesAt x (length (item_cells (alt_code r ++ loaded_code o))) w c
       (or_stop (binary o l r) (end.Error (pos 11)) w)
-      (With x.program x.room v pending (past p (taking op.ConstAlt r ∷ loaded_code o)))
+      (With x.program x.room v pending (past p (alt_code r ++ loaded_code o)))
   goes_to_alt o fl fr p c a pri lies =
-      item_sets x (with op.ConstAlt r) a lies c.state.pri r refl
-      (λ t s m n. loaded_does o fl fr (p + 8) t s (m ∙ pri) n
-      (next_lies x p (taking op.ConstAlt r) (loaded_code o) lies))
+      subst (λ q. DoesAt x (length (item_cells (alt_code r ++ loaded_code o))) w c
+      (or_stop (binary o l r) (end.Error (pos 11)) w) (With x.program x.room v pending q))
+      (sym (past-append p (alt_code r) (loaded_code o)))
+      (alt_sets x p r (loaded_code o) a lies
+      (λ t s m n. loaded_does o fl fr (past p (alt_code r)) t s (m ∙ pri) n
+      (rest_lies x p (alt_code r) (loaded_code o) lies)))
 
   pub known_does : (o : Operator) → IsCell l → IsCell r → (p : ℕ) (c : Config)
       → Stands x.program x.room v pending p w c → c.state.pri ≡ l → Lies x p (known_code o r)
@@ -162,7 +169,8 @@ module _ (x : Site) {v : View} {pending : List ℤ} {w : World} (l r : ℤ) wher
   known_does between.Add fl fr p c a k lies =
       has op.AddC r (λ y. add y r) (add l r) (λ q s. refl) refl (wrap_cell _) p c a k lies
   known_does between.Subtract fl fr p c a k lies =
-      has op.AddC (neg r) (λ y. add y (neg r)) (sub l r) (λ q s. refl) (subtracted l r) (wrap_cell _) p c a
+      has op.AddC (neg r) (λ y. add y (neg r)) (sub l r) (λ q s. refl) (subtracted l r) (wrap_cell
+      _) p c a
       k lies
   known_does between.ShiftLeft fl fr p c a k lies =
       has op.ShlCPri r (λ y. shl y r) (shl l r) (λ q s. refl) refl (cell_of_cell _) p c a k lies

@@ -1,6 +1,6 @@
 -- Operators, by how their right operand comes.
-use Rattle.std.proofs.Common.{◌≡◌, ◌+◌, ◌*◌, ◌≤◌, ℕ, ℤ, pos, List, [], ◌∷◌, ◌++◌, Option, None, Some}
-use Rattle.std.proofs.Common.{length, sum, refl, sym, subst, ◌∙◌, arith}
+use Rattle.std.proofs.Common.{◌≡◌, ◌+◌, ◌*◌, ℕ, ℤ, pos, List, ◌∷◌, ◌++◌, Option, None, Some, length}
+use Rattle.std.proofs.Common.{refl, sym, subst, ◌∙◌, arith}
 use Rattle.pawn_cells.specs.declared.operator.Operator.{Operator}
 use Rattle.pawn_cells.specs.Cells.{IsCell}
 use Rattle.pawn_cells.specs.Operators.{binary}
@@ -9,34 +9,33 @@ use Rattle.pawn_meaning.specs.Program.{Scalar, Expr, Read, Binary}
 use Rattle.pawn_meaning.specs.Scope.{Scope}
 use Rattle.pawn_meaning.specs.ValidExprs.{IsValidExpr}
 use Rattle.pawn_meaning.specs.Fold.{fold}
-use Rattle.pawn_meaning.specs.Memory.{Place, read}
-use Rattle.pawn_meaning.specs.World.{World}
+use Rattle.pawn_meaning.specs.Memory.{read}
 use Rattle.pawn_meaning.specs.Run.{Outcome, Gives, Stops, More, Run, ◌>>=◌, then_do, or_stop, look}
 use Rattle.pawn_meaning.specs.Meaning.{place, value}
 use Rattle.pawn_meaning.proofs.Grows.{after_grows, or_stop_grows}
 use Rattle.pawn_meaning.proofs.FoldLaws.{fold_means_lem}
+use Rattle.amx_ops.specs.declared.op.Op.{Op}
 use Rattle.amx_ops.specs.declared.op.Op.TheVariants as op
 use Rattle.amx_ops.specs.Written.{cells_of}
-use Rattle.amx_ops.specs.Moves.{Config}
-use Rattle.gen_sim.specs.View.{View}
 use Rattle.gen_sim.specs.Stands.{Stands, With}
-use Rattle.gen_sim.specs.Site.{Site, DoesAt, scene_at}
+use Rattle.gen_sim.specs.Site.{DoesAt, scene_at}
 use Rattle.gen_sim.specs.Items.{Item, item_cells, past, with}
 use Rattle.gen_sim.specs.Code.{with_turns}
-use Rattle.gen_sim.specs.Contract.{ValueCode}
-use Rattle.gen_sim.specs.SimpleCode.{taking}
+use Rattle.gen_sim.specs.Contract.{ValueCode, PushedCode}
+use Rattle.gen_sim.specs.SimpleCode.{alone, taking, operator_code}
 use Rattle.gen_sim.specs.DirectCode.{Direct}
-use Rattle.gen_sim.specs.OperandCode.{Right, Known, Placed, Waiting, right_by, loaded_code, known_code}
-use Rattle.gen_sim.specs.OperandCode.{binary_by}
-use Rattle.gen_sim.proofs.ItemSteps.{next_lies}
+use Rattle.gen_sim.specs.OperandCode.{Right, Known, Placed, Waiting, right_by, loaded_code}
+use Rattle.gen_sim.specs.OperandCode.{known_code, operate_by}
+use Rattle.gen_sim.specs.PushCode.{pushed_by, left_by}
+use Rattle.gen_sim.proofs.ItemSteps.{next_lies, item_pops_alt}
 use Rattle.gen_sim.proofs.NodesPartLaws.{nodes_of, then_items}
 use Rattle.gen_sim.proofs.OperandLaws.{loaded_does, known_does}
 use Rattle.gen_sim.proofs.DirectLaws.{DirectPlace, found_does, direct_left}
-use Rattle.gen_sim.proofs.SimpleNodes.{binary_does}
+use Rattle.gen_sim.proofs.OperatorLaws.{operator_does}
 use Rattle.gen_sim.proofs.FoldNodes.{fold_cell}
 
 -- a run behind two others
-runs_on : {A B C : Type 0} (o : Outcome A) (f : A → Run B) (g : B → Run C)
+pub runs_on : {A B C : Type 0} (o : Outcome A) (f : A → Run B) (g : B → Run C)
     → then_do o (λ a. f a >>= g) ≡ then_do (then_do o f) g
 runs_on (Gives a w) f g = refl
 runs_on (Stops e w) f g = refl
@@ -116,13 +115,46 @@ module _ (scope : Scope) (begin : ℕ) (o : Operator) (l : Expr) (left : List It
         (next_lies x q (taking d.loads_alt d.operand) (loaded_code o) k)))));
   }
 
-  -- each
-  pub binary_by_does : (r : Expr) (right : List Item) (how : Right) → Comes scope r how
-      → ValueCode scope r (past begin left + 4) right
-      → ValueCode scope (Binary o l r) begin (binary_by o how left right)
-  binary_by_does r right (Known v) h two = binary_known r v h.0 h.1
-  binary_by_does r right (Placed d) h two =
-      subst (λ e. ValueCode scope (Binary o l e) begin
-      (left ++ (taking d.loads_alt d.operand ∷ loaded_code o))) (sym h.is)
-      (binary_placed h.place d h.direct)
-  binary_by_does r right Waiting h two = binary_does scope begin o l r left right one two
+-- one that waits on the stack while the right one is made
+binary_waiting : (scope : Scope) (begin : ℕ) (o : Operator) (l r : Expr) (waits right : List Item)
+    → PushedCode scope l begin waits → ValueCode scope r (past begin waits) right
+    → ValueCode scope (Binary o l r) begin
+    (waits ++ (right ++ (alone op.PopAlt ∷ operator_code o)))
+binary_waiting scope begin o l r waits right one two = record {
+  does = λ x site same turns calls v fits lie starts pending deep w c s.
+      let fewer = with_turns x turns in
+      let q = past begin waits in
+      let last = alone op.PopAlt ∷ operator_code o in
+      let rest = λ (y : ℤ) (a : ℤ). or_stop (binary o y a) (end.Error (pos 11)) in
+      then_items x begin waits (right ++ last)
+      (λ y u t. Stands x.program x.room v (y ∷ pending) q u t × IsCell y)
+      (λ n. With x.program x.room v pending n) w (record { lie = lie; starts = starts })
+      (value (scene_at x) fewer l w) (λ y. value (scene_at x) fewer r >>= rest y)
+      (λ y u. (after_grows ((nodes_of x turns).values r)
+      (λ a. or_stop_grows (binary o y a) (end.Error (pos 11)))).at u)
+      (λ k. one.does x site same turns calls v fits k.lie k.starts pending
+      (omega (arith, deep)) w c s)
+      (λ k y u t a. then_items x q right last (With x.program x.room v (y ∷ pending) (past q right))
+      (λ n. With x.program x.room v pending n) u k (value (scene_at x) fewer r u) (rest y)
+      (λ z m. (or_stop_grows (binary o y z) (end.Error (pos 11))).at m)
+      (λ j. two.does x site same turns calls v fits j.lie j.starts (y ∷ pending)
+      (omega (arith, deep)) u t a.0)
+      (λ j z m n b. item_pops_alt x b.stands j
+      (λ h i alt pri. operator_does x y z o a.1 b.fits (past q right + 4) h i (pri ∙ b.value) alt
+      (next_lies x (past q right) (alone op.PopAlt) (operator_code o) j))));
+}
+
+-- each
+pub binary_by_does : (scope : Scope) (begin : ℕ) (o : Operator) (l r : Expr) (how : Right)
+    → Comes scope r how → (push : Option (Op × ℤ)) (left right : List Item)
+    → ValueCode scope l begin left → PushedCode scope l begin (pushed_by push left)
+    → ValueCode scope r (past begin (left_by how push left)) right
+    → ValueCode scope (Binary o l r) begin (left_by how push left ++ operate_by o how right)
+binary_by_does scope begin o l r (Known v) h push left right one waits two =
+    binary_known scope begin o l left one r v h.0 h.1
+binary_by_does scope begin o l r (Placed d) h push left right one waits two =
+    subst (λ e. ValueCode scope (Binary o l e) begin
+    (left ++ (taking d.loads_alt d.operand ∷ loaded_code o))) (sym h.is)
+    (binary_placed scope begin o l left one h.place d h.direct)
+binary_by_does scope begin o l r Waiting h push left right one waits two =
+    binary_waiting scope begin o l r (pushed_by push left) right waits two

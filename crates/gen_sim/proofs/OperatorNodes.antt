@@ -1,6 +1,6 @@
 -- Operators of the user's own, in expressions, updates and steps.
 use Rattle.std.proofs.Common.{◌≡◌, ◌+◌, ◌≤◌, ℕ, ℤ, pos, List, [], ◌∷◌, ◌++◌, Bool, true, false}
-use Rattle.std.proofs.Common.{Option, length, sum, refl, sym, ap, subst, ◌∙◌, arith, if◌then◌else◌}
+use Rattle.std.proofs.Common.{Option, length, sum, refl, ap, subst, ◌∙◌, arith, if◌then◌else◌}
 use Rattle.std.specs.Prelude.{IfSome}
 use Rattle.pawn_cells.specs.Cells.{IsCell}
 use Rattle.pawn_meaning.specs.Program.{Scalar, Expr, UpdateBy, StepBy, Operate, OperateOne}

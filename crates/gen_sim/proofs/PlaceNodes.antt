@@ -71,7 +71,7 @@ one_cell o None h = elim h [ ]
 one_cell o (Some object) h = record { object = object; there = refl; sizes = h }
 
 module _ (x : Site) (v : View) (o : ℕ) where
-  global_placed : Laid x.program x.room v → IsCellObject (slice_get x.program.objects o)
+  pub global_placed : Laid x.program x.room v → IsCellObject (slice_get x.program.objects o)
       → PlacedIn x.program x.room v (Thing (Static o) (1 ∷ [])) (object_first x.program o)
   global_placed laid valid =
       let it = one_cell o (slice_get x.program.objects o) valid in

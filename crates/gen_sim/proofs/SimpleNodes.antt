@@ -1,32 +1,26 @@
 -- Constants, operators and commas: a node's code does what it means, where those of its parts do.
-use Rattle.std.proofs.Common.{◌≡◌, ◌+◌, ◌*◌, ℕ, ℤ, pos, List, [], ◌∷◌, length, ap, sym, subst, ◌∙◌}
+use Rattle.std.proofs.Common.{◌+◌, ◌*◌, ℕ, pos, List, [], ◌∷◌, length, ap, ◌∙◌}
 use Rattle.std.proofs.Common.{arith}
 use Rattle.pawn_cells.specs.declared.operator.Prefix.{Prefix}
-use Rattle.pawn_cells.specs.declared.operator.Operator.{Operator}
-use Rattle.pawn_cells.specs.Cells.{IsCell}
-use Rattle.pawn_cells.specs.Operators.{prefix, binary}
-use Rattle.host_script.specs.declared.event.End.TheVariants as end
-use Rattle.pawn_meaning.specs.Program.{Expr, Unary, Binary, Seq}
+use Rattle.pawn_cells.specs.Operators.{prefix}
+use Rattle.pawn_meaning.specs.Program.{Expr, Unary, Seq}
 use Rattle.pawn_meaning.specs.Scope.{Scope}
-use Rattle.pawn_meaning.specs.World.{World}
-use Rattle.pawn_meaning.specs.Run.{give, or_stop}
+use Rattle.pawn_meaning.specs.Run.{give}
 use Rattle.pawn_meaning.specs.Meaning.{value}
-use Rattle.pawn_meaning.proofs.Grows.{same_later, or_stop_grows}
+use Rattle.pawn_meaning.proofs.Grows.{same_later}
 use Rattle.amx_ops.specs.Written.{cells_of}
 use Rattle.amx_ops.specs.State.{Goes}
-use Rattle.amx_ops.specs.Moves.{Config}
-use Rattle.gen_sim.specs.View.{View}
 use Rattle.gen_sim.specs.Stands.{With}
-use Rattle.gen_sim.specs.Site.{Site, scene_at}
+use Rattle.gen_sim.specs.Site.{scene_at}
 use Rattle.gen_sim.specs.Items.{Item, past, with}
 use Rattle.gen_sim.specs.Code.{with_turns}
 use Rattle.gen_sim.specs.Contract.{ValueCode}
 use Rattle.gen_sim.proofs.StepLaws.{given}
-use Rattle.gen_sim.specs.SimpleCode.{alone, prefix_op, operator_code, unary_code, binary_code}
+use Rattle.gen_sim.specs.SimpleCode.{alone, prefix_op, unary_code}
 use Rattle.gen_sim.specs.SimpleCode.{comma_code}
 use Rattle.gen_sim.proofs.ItemSteps.{item_sets}
-use Rattle.gen_sim.proofs.NodesPartLaws.{nodes_of, then_items, with_value, value_leaves}
-use Rattle.gen_sim.proofs.OperatorLaws.{prefix_act, prefix_cell, operator_does}
+use Rattle.gen_sim.proofs.NodesPartLaws.{nodes_of, then_items}
+use Rattle.gen_sim.proofs.OperatorLaws.{prefix_act, prefix_cell}
 
 module _ (scope : Scope) (begin : ℕ) where
   pub unary_does : (o : Prefix) (e : Expr) (items : List Item) → ValueCode scope e begin items
@@ -61,22 +55,4 @@ module _ (scope : Scope) (begin : ℕ) where
         (omega (arith, deep)) w c s)
         (λ l y u t k. two.does x site same turns calls v fits l.lie l.starts pending
         (omega (arith, deep)) u t k.stands);
-  }
-
-  pub binary_does : (o : Operator) (l r : Expr) (left right : List Item)
-      → ValueCode scope l begin left → ValueCode scope r (past begin left + 4) right
-      → ValueCode scope (Binary o l r) begin (binary_code o left right)
-  binary_does o l r left right one two = record {
-    does = λ x site same turns calls v fits lie starts pending deep w c s.
-        with_value scope begin r left right (operator_code o) two x site same turns calls fits pending
-        (omega (arith, deep)) w (record { lie = lie; starts = starts })
-        (value (scene_at x) (with_turns x turns) l w)
-        (λ y z. or_stop (binary o y z) (end.Error (pos 11)))
-        (λ y u t. With x.program x.room v pending (past begin left) y u t) (λ y z. z ≡ y)
-        (λ y z. or_stop_grows (binary o y z) (end.Error (pos 11)))
-        (λ k. one.does x site same turns calls v fits k.lie k.starts pending
-        (omega (arith, deep)) w c s)
-        (λ y u t a. value_leaves x a)
-        (λ k y z a a_is fa fz u t j alt pri.
-        operator_does x y z o (subst (λ n. IsCell n) a_is fa) fz _ t j pri (alt ∙ a_is) k);
   }

@@ -1,6 +1,6 @@
 -- `sleep`: the host is shown the value and its tag, and the run goes on behind it. What is free is
 -- swept.
-use Rattle.std.proofs.Common.{◌≡◌, ◌+◌, ◌-◌, ◌*◌, ◌/◌, ◌≤◌, ℕ, ℤ, pos, List, [], ◌∷◌, ◌++◌, Some}
+use Rattle.std.proofs.Common.{◌≡◌, ◌+◌, ◌-◌, ◌/◌, ℕ, ℤ, pos, List, [], ◌∷◌, ◌++◌, Some}
 use Rattle.std.proofs.Common.{length, take, drop, replicate, refl, sym, ap, subst, ◌∙◌, arith}
 use Rattle.std.proofs.Common.{append_assoc, length-append}
 use Rattle.std.proofs.Math.Seq.{drop-append_seam, take-append_seam, drop-append-add}
@@ -11,7 +11,7 @@ use Rattle.pawn_cells.specs.Cells.{IsCell, cell_of}
 use Rattle.host_script.specs.declared.event.Event.TheVariants as event
 use Rattle.pawn_meaning.specs.Program.{Expr, Sleep}
 use Rattle.pawn_meaning.specs.World.{Entry, World, said}
-use Rattle.pawn_meaning.specs.Run.{Gives, Done, done, ◌>>=◌, give, say}
+use Rattle.pawn_meaning.specs.Run.{Gives, done, ◌>>=◌, give, say}
 use Rattle.pawn_meaning.specs.Calls.{Through}
 use Rattle.pawn_meaning.specs.Meaning.{value}
 use Rattle.pawn_meaning.specs.Memory.{Memory}

@@ -54,6 +54,23 @@ module _ (x : Site) (v : View) {pending : List ℤ} {p : ℕ} {w : World} {c : C
       pub placed : PlacedIn x.program x.room v (Thing (Local (innermost v) slot) sizes) first
       pub address : wrapped_sum v.frm (bits_of (slot_offset scope slot)) ≡ 4 * first
 
+    -- a local's offset leads down from FRM, and not below the machine's first cell
+    pub local_low : (slot : ℕ) → IsMade scope slot
+        → let down = cells_to scope.slots scope.made slot in
+        (slot_offset scope slot ≡ neg_ℤ (pos (4 * down))) × (4 * down ≤ v.frm)
+    local_low slot is =
+        let above : scope.params ≤ slot = fits.behind_params slot is in
+        let l =
+        local_stands (innermost v) scope.slots slot scope.made fits.rest is fits.once
+        (fits.nowhere_else slot above).0 in
+        let all = ap total fits.locals in
+        let both = total-append (locals_of (innermost v) scope.slots scope.made) fits.rest in
+        let size = s.mem.size in
+        let e : nat_lt slot scope.params ≡ false = le-ltb _ _ above in (
+          rw e refl,
+          omega (arith, l.down, fits.frame, all, both, size),
+        )
+
     pub local_at : (slot : ℕ) → IsMade scope slot
         → SlotAt slot (own_sizes (slice_get scope.slots slot))
     local_at slot is =
@@ -67,8 +84,7 @@ module _ (x : Site) (v : View) {pending : List ℤ} {p : ℕ} {w : World} {c : C
         let both = total-append (locals_of (innermost v) scope.slots scope.made) fits.rest in
         let first : ℕ = all_cells x.program x.room + l.behind - total v.high in
         let size = s.mem.size in
-        let offset_is : slot_offset scope slot ≡ neg_ℤ (pos (4 * down)) =
-        let e : nat_lt slot scope.params ≡ false = le-ltb _ _ above in rw e refl in
+        let under = local_low slot is in
         record {
           first = first;
           placed = record {
@@ -83,8 +99,8 @@ module _ (x : Site) (v : View) {pending : List ℤ} {p : ℕ} {w : World} {c : C
             });
           };
           address =
-              ap (λ z. wrapped_sum v.frm (bits_of z)) offset_is
-              ∙ frame_down v.frm (4 * down) (omega (arith, l.down, fits.frame, all, both, size))
+              ap (λ z. wrapped_sum v.frm (bits_of z)) under.0
+              ∙ frame_down v.frm (4 * down) under.1
               (omega (arith, s.laid.small, s.laid.frame_below))
               ∙ omega (arith, l.down, fits.frame, all, both, size);
         }

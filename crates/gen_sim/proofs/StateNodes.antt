@@ -1,10 +1,10 @@
 -- `state`: its code does what it means, where that of its condition does, and calls do.
 use Rattle.std.proofs.Common.{◌≡◌, ◌+◌, ◌*◌, ◌/◌, ◌^◌, ◌<◌, ◌≤◌, inl, ℕ, zero, suc, ℤ, pos, List}
-use Rattle.std.proofs.Common.{[], ◌∷◌, ◌++◌, Option, None, Some, true, length, sum, slice_get}
+use Rattle.std.proofs.Common.{[], ◌∷◌, Option, None, Some, length, sum, slice_get}
 use Rattle.std.proofs.Common.{slice_set, refl, sym, ap, subst, ◌∙◌, arith}
 use Rattle.std.specs.Prelude.{IfSome}
 use Rattle.pawn_cells.specs.Cells.{is_zero}
-use Rattle.pawn_meaning.specs.Program.{Perhaps, Absent, Present, State, Program}
+use Rattle.pawn_meaning.specs.Program.{Perhaps, State, Program}
 use Rattle.pawn_meaning.specs.ValidStmts.{IsStateOf}
 use Rattle.pawn_meaning.specs.ValidExprs.{Takes}
 use Rattle.pawn_meaning.specs.Memory.{Memory, switched}
@@ -18,10 +18,8 @@ use Rattle.amx_ops.specs.declared.op.Op.TheVariants as op
 use Rattle.amx_ops.specs.Instructions.{fetched}
 use Rattle.amx_ops.specs.Written.{read_as}
 use Rattle.amx_ops.specs.State as machine
-use Rattle.amx_ops.specs.Step.{act}
-use Rattle.amx_ops.specs.Moves.{Config, move}
+use Rattle.amx_ops.specs.Moves.{Config}
 use Rattle.pawn_cells.proofs.CellLaws.{small_cell}
-use Rattle.gen_sim.proofs.Sim.{wider}
 use Rattle.gen_sim.specs.Pieces.{Automaton}
 use Rattle.gen_sim.specs.Places.{Apart}
 use Rattle.gen_sim.specs.View.{View, IsOfCall, depth, kept, used, PlacedIn}
@@ -40,7 +38,7 @@ use Rattle.gen_sim.specs.Lies.{Lies}
 use Rattle.gen_sim.specs.SimpleCode.{taking}
 use Rattle.gen_sim.specs.JumpCode.{choice_code}
 use Rattle.gen_sim.proofs.ItemSteps.{one_item, next_lies, item_sets, item_pushes}
-use Rattle.gen_sim.proofs.NodesPartLaws.{nodes_of, gives_of, then_items}
+use Rattle.gen_sim.proofs.NodesPartLaws.{gives_of, then_items}
 use Rattle.gen_sim.proofs.JumpNodes.{choose_grows}
 use Rattle.gen_sim.proofs.OperatorCalls.{call_grows, call_does}
 use Rattle.gen_sim.specs.Here.{Here}

@@ -1,16 +1,16 @@
 -- `do` with its test behind the body, and conditions and steps that may be absent.
 use Rattle.std.proofs.Common.{◌≡◌, ◌+◌, ◌^◌, ◌<◌, ◌≤◌, inr, ℕ, zero, suc, ℤ, pos, List, [], ◌∷◌}
 use Rattle.std.proofs.Common.{◌++◌, Bool, true, false, length, max, sum, refl, sym, ap, subst, ◌∙◌}
-use Rattle.std.proofs.Common.{arith}
+use Rattle.std.proofs.Common.{arith, not as no}
 use Rattle.pawn_cells.specs.Cells.{is_zero}
-use Rattle.pawn_meaning.specs.Program.{Expr, Perhaps, Absent, Present, Stmt, DoWhile}
+use Rattle.pawn_meaning.specs.Program.{Expr, Absent, Present, Stmt, DoWhile}
 use Rattle.pawn_meaning.specs.Scope.{Scope}
 use Rattle.pawn_meaning.specs.ValidStmts.{slots_made}
 use Rattle.pawn_meaning.specs.World.{World}
-use Rattle.pawn_meaning.specs.Run.{Run, Done, done, ◌>>=◌, give, turn, choose, at_zero}
+use Rattle.pawn_meaning.specs.Run.{Run, done, ◌>>=◌, give, turn, choose, at_zero}
 use Rattle.pawn_meaning.specs.Calls.{Way, Through, Broke, Continued, Returned, again}
-use Rattle.pawn_meaning.specs.Meaning.{value, run}
-use Rattle.pawn_meaning.specs.Need.{load, stmt_load, locals}
+use Rattle.pawn_meaning.specs.Meaning.{value, run, condition}
+use Rattle.pawn_meaning.specs.Need.{load, perhaps_load, stmt_load, locals}
 use Rattle.pawn_meaning.specs.Later.{Grows}
 use Rattle.pawn_meaning.proofs.Grows.{give_grows, after_grows}
 use Rattle.pawn_meaning.proofs.RunLaws.{runs_grow_lem}
@@ -24,6 +24,9 @@ use Rattle.gen_sim.specs.Site.{Site, DoesAt, scene_at}
 use Rattle.gen_sim.specs.Items.{Item, item_cells, past, with}
 use Rattle.gen_sim.specs.Code.{with_turns}
 use Rattle.gen_sim.specs.Contract.{EffectCode, ValueCode}
+use Rattle.gen_sim.specs.TestCode.{IsSet, test_op}
+use Rattle.gen_sim.specs.Branch.{test_where, BranchCode}
+use Rattle.gen_sim.proofs.BranchNodes.{told_branch}
 use Rattle.gen_sim.proofs.ItemLaws.{past-append, count-append, past_is}
 use Rattle.gen_sim.proofs.StepLaws.{given}
 use Rattle.gen_sim.specs.Lies.{Lies}
@@ -32,7 +35,7 @@ use Rattle.gen_sim.specs.JumpCode.{jump_to}
 use Rattle.gen_sim.proofs.ItemSteps.{first_lies, rest_lies, next_lies, item_sets}
 use Rattle.gen_sim.proofs.NodesPartLaws.{nodes_of, gives_of}
 use Rattle.gen_sim.proofs.JumpNodes.{choose_grows}
-use Rattle.gen_sim.specs.Here.{Exits, Here, within}
+use Rattle.gen_sim.specs.Here.{Here, within}
 use Rattle.gen_sim.specs.Ways.{Outer, Left}
 use Rattle.gen_sim.specs.Flow.{Begins, StmtCode, ConditionCode, PerhapsCode}
 use Rattle.gen_sim.proofs.WayLaws.{stays_left}
@@ -216,3 +219,22 @@ module _ (scope : Scope) (begin : ℕ) where
         (λ y. Stands x.program x.room v pending (past begin items)) (λ y u t k. k)
         (part.does x site same turns calls v fits lie starts pending deep w c s);
   }
+
+  -- conditions with jumps
+
+  pub absent_branch : (when : Bool) (to : ℕ)
+      → BranchCode scope (λ x fewer. condition (scene_at x) fewer Absent) (perhaps_load Absent) when
+      to begin (const_code (pos 1) ++ jump_to (test_op (test_where when IsSet)) to ∷ [])
+  absent_branch when to =
+      told_branch scope (λ x fewer. condition (scene_at x) fewer Absent) (perhaps_load Absent) begin
+      IsSet (const_code (pos 1)) when to
+      (λ x site same turns calls v fits lie starts pending deep w c s.
+      item_sets x (with op.ConstPri (pos 1)) {js = []} s
+      (record { lie = lie; starts = starts }) (pos 1) c.state.alt refl
+      (λ t b e f. given x b (b, ap (λ z. no (is_zero z)) e)))
+
+  pub present_branch : (e : Expr) (when : Bool) (to : ℕ) (items : List Item)
+      → BranchCode scope (λ x fewer. value (scene_at x) fewer e) (load e) when to begin items
+      → BranchCode scope (λ x fewer. condition (scene_at x) fewer (Present e))
+      (perhaps_load (Present e)) when to begin items
+  present_branch e when to items part = record { ends = part.ends; does = part.does }

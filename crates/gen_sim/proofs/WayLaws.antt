@@ -53,6 +53,21 @@ module _ (x : Site) (e : Exits) (o : Outer) where
     ends_left Continued w t k next = stays_left v2 q2 Continued w t k
     ends_left (Returned y) w t k next = stays_left v2 q2 (Returned y) w t k
 
+-- in another way than through its end
+abbrev pub IsOut : Way → Type 0
+IsOut Through = ⊥
+IsOut Broke = Unit {0}
+IsOut Continued = Unit {0}
+IsOut (Returned y) = Unit {0}
+
+-- what holds then doesn't depend on the view or on the end
+pub out_left : (x : Site) (e : Exits) (o : Outer) (v v2 : View) (q q2 : ℕ) (way : Way) (w : World)
+    (t : Config) → IsOut way → Left x e o v q way w t → Left x e o v2 q2 way w t
+out_left x e o v v2 q q2 Through w t h k = elim h [ ]
+out_left x e o v v2 q q2 Broke w t h k = k
+out_left x e o v v2 q q2 Continued w t h k = k
+out_left x e o v v2 q q2 (Returned y) w t h k = k
+
 pub pass_grows : (way : Way) {go : Run Way} → Grows go → Grows (pass way go)
 pass_grows Through h = h
 pass_grows Broke h = give_grows Broke

@@ -1,10 +1,27 @@
--- The code of reads and writes: a place's address comes first, and then its cell or its character
--- is loaded, or stored behind the value.
+-- The code of reads and writes: a place's index comes first, then its address, and then its cell or
+-- its character is loaded, or stored behind the value.
 use Rattle.std.specs.Prelude.{ℤ, pos, Bool, true, false, List, [], ◌∷◌, ◌++◌}
 use Rattle.pawn_meaning.specs.Program.{Scalar, Global, Own, Through, Element, Char}
 use Rattle.amx_ops.specs.declared.op.Op.TheVariants as op
 use Rattle.gen_sim.specs.Items.{Item}
 use Rattle.gen_sim.specs.SimpleCode.{alone, taking, both_code}
+
+-- the address of a place, from where its index leads: of an element or a character it is made of
+-- the array's in ALT and the index in PRI
+abbrev pub address_code : Scalar → List Item
+address_code (Global o) = []
+address_code (Own s) = []
+address_code (Through s) = []
+address_code (Element a e) = alone op.Idxaddr ∷ []
+address_code (Char a e) = alone op.Add ∷ []
+
+-- what stands there, from the same
+abbrev pub fetch_code : Scalar → List Item
+fetch_code (Global o) = alone op.LoadI ∷ []
+fetch_code (Own s) = alone op.LoadI ∷ []
+fetch_code (Through s) = alone op.LoadI ∷ []
+fetch_code (Element a e) = alone op.Lidx ∷ []
+fetch_code (Char a e) = alone op.Add ∷ taking op.LodbI (pos 1) ∷ []
 
 -- from the address in PRI; ALT stays
 abbrev pub load_code : Scalar → List Item
@@ -22,9 +39,13 @@ store_code (Through s) = alone op.StorI ∷ []
 store_code (Element a e) = alone op.StorI ∷ []
 store_code (Char a e) = taking op.StrbI (pos 1) ∷ []
 
--- what stands at a place goes to PRI
+-- a place's address goes to PRI
+abbrev pub place_code : Scalar → List Item → List Item
+place_code p index = index ++ address_code p
+
+-- what stands there goes to PRI
 abbrev pub read_code : Scalar → List Item → List Item
-read_code p place = place ++ load_code p
+read_code p index = index ++ fetch_code p
 
 -- the address waits on the stack while the value is made
 abbrev pub assign_code : Scalar → (place value : List Item) → List Item

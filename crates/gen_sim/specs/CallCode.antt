@@ -32,10 +32,6 @@ operate_code f swapped left right = both_code left right (two_code f swapped)
 
 -- ---- arguments
 
--- a value or an address is pushed
-abbrev pub pushed_code : List Item → List Item
-pushed_code part = part ++ alone op.PushPri ∷ []
-
 -- a value gets a cell on the heap, whose address is pushed
 abbrev pub temporary_code : List Item → List Item
 temporary_code value = value ++ taking op.Heap (pos 4) ∷ alone op.StorI ∷ alone op.PushAlt ∷ []

@@ -9,6 +9,7 @@ use Rattle.gen_sim.specs.Items.{Item}
 use Rattle.gen_sim.specs.SimpleCode.{alone}
 use Rattle.gen_sim.specs.JumpCode.{jump_to}
 use Rattle.gen_sim.specs.CallCode.{two_code}
+use Rattle.gen_sim.specs.OperandCode.{Right, Known, Placed, Waiting, bring_code}
 
 -- of the left operand in ALT and the right one in PRI
 abbrev pub compare_op : Comparison → Op
@@ -16,6 +17,19 @@ compare_op comparison.Less = op.Sgrtr
 compare_op comparison.LessEqual = op.Sgeq
 compare_op comparison.Greater = op.Sless
 compare_op comparison.GreaterEqual = op.Sleq
+
+-- of the left operand in PRI and the right one in ALT
+abbrev pub loaded_compare : Comparison → Op
+loaded_compare comparison.Less = op.Sless
+loaded_compare comparison.LessEqual = op.Sleq
+loaded_compare comparison.Greater = op.Sgrtr
+loaded_compare comparison.GreaterEqual = op.Sgeq
+
+-- by how the right operand was brought
+abbrev pub compare_by : Right → Comparison → Op
+compare_by (Known v) o = loaded_compare o
+compare_by (Placed d) o = loaded_compare o
+compare_by Waiting o = compare_op o
 
 -- by the machine, or by a user's operator
 abbrev pub link_code : Comparison → Option ℕ → Bool → List Item
@@ -25,6 +39,11 @@ link_code o (Some f) swapped = two_code f swapped
 -- the last link, with the operand before it in PRI
 abbrev pub last_link_code : (operand link : List Item) → List Item
 last_link_code operand link = alone op.PushPri ∷ (operand ++ (alone op.PopAlt ∷ link))
+
+-- by how its right operand comes; a user's operator takes both from the stack
+abbrev pub last_link_by : Comparison → Option ℕ → Bool → Right → (operand : List Item) → List Item
+last_link_by o None swapped how operand = bring_code how operand ++ alone (compare_by how o) ∷ []
+last_link_by o (Some f) swapped how operand = last_link_code operand (two_code f swapped)
 
 -- a link with others behind it: its right operand waits, and is the left one of the next
 abbrev pub middle_link_code : (fail : ℕ) → (operand link others : List Item) → List Item

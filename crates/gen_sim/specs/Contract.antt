@@ -1,7 +1,8 @@
 -- What the code that was appended for a node is: the contracts of all nodes.
-use Rattle.std.specs.Prelude.{◌≡◌, ◌+◌, ◌*◌, ◌/◌, ◌≤◌, ℕ, ℤ, List, ◌++◌, Bool, ◌||◌, Some, length}
-use Rattle.std.specs.Prelude.{◌==◌}
+use Rattle.std.specs.Prelude.{◌≡◌, ◌+◌, ◌*◌, ◌/◌, ◌≤◌, ℕ, ℤ, List, ◌∷◌, ◌++◌, Bool, ◌||◌, Some}
+use Rattle.std.specs.Prelude.{length, ◌==◌, not}
 use Rattle.std.specs.List.{list_any}
+use Rattle.pawn_cells.specs.Cells.{IsCell}
 use Rattle.pawn_meaning.specs.Program.{Scalar, Array, Slot, Args, Expr}
 use Rattle.pawn_meaning.specs.Scope.{Scope, Extent, extent}
 use Rattle.pawn_meaning.specs.Need.{load, place_load, array_load, args_load, count_of}
@@ -12,8 +13,10 @@ use Rattle.amx_ops.specs.Valid.{IsPiece}
 use Rattle.gen_sim.specs.Stands.{Stands, With}
 use Rattle.gen_sim.specs.Site.{scene_at}
 use Rattle.gen_sim.specs.Items.{Item, AreWritten, item_cells, cells_with, waits_from}
-use Rattle.gen_sim.specs.Results.{PlaceAt, ArrayAt, ArgumentsAt, temporaries_in}
+use Rattle.gen_sim.specs.Results.{IndexedAt, PlaceAt, ArrayAt, ArgumentsAt, temporaries_in}
 use Rattle.gen_sim.specs.Code.{Code}
+use Rattle.gen_sim.specs.TestCode.{Test, holds}
+use Rattle.pawn_cells.specs.Cells.{is_zero}
 
 -- ---- each sort of node, for items at an address
 
@@ -27,10 +30,28 @@ pub record EffectCode (scope : Scope) (e : Expr) (begin : ℕ) (items : List Ite
   pub does : Code scope (λ x fewer. value (scene_at x) fewer e) (load e) items begin
       (λ x v pending q y. Stands x.program x.room v pending q)
 
+-- or push it
+pub record PushedCode (scope : Scope) (e : Expr) (begin : ℕ) (items : List Item) : Type 0 where
+  pub does : Code scope (λ x fewer. value (scene_at x) fewer e) (load e) items begin
+      (λ x v pending q y w c. Stands x.program x.room v (y ∷ pending) q w c × IsCell y)
+
+-- the items evaluate a condition: behind them a test holds where its value isn't 0
+pub record TestCode (scope : Scope) (e : Expr) (t : Test) (begin : ℕ)
+    (items : List Item) : Type 0 where
+  pub does : Code scope (λ x fewer. value (scene_at x) fewer e) (load e) items begin
+      (λ x v pending q y u c.
+      Stands x.program x.room v pending q u c
+      × (holds t c.state.pri c.state.alt ≡ not (is_zero y)))
+
 -- the items find a place: its address is in PRI behind them
 pub record PlaceCode (scope : Scope) (p : Scalar) (begin : ℕ) (items : List Item) : Type 0 where
   pub does : Code scope (λ x fewer. place (scene_at x) fewer p) (place_load p) items begin
       (λ x v pending q. PlaceAt x.program x.room v pending q)
+
+-- or they find where its index leads
+pub record IndexedCode (scope : Scope) (p : Scalar) (begin : ℕ) (items : List Item) : Type 0 where
+  pub does : Code scope (λ x fewer. place (scene_at x) fewer p) (place_load p) items begin
+      (λ x v pending q. IndexedAt x.program x.room v p pending q)
 
 -- the items find an array, whose extent is known from its scope: its address is in PRI
 pub record ArrayCode (scope : Scope) (a : Array) (begin : ℕ) (items : List Item) : Type 0 where

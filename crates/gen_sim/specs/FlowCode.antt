@@ -1,11 +1,11 @@
 -- The code of statements without a loop. Locals are made where they stand, and dropped where they
 -- are left.
-use Rattle.std.specs.Prelude.{◌*◌, ℕ, pos, List, [], ◌∷◌, ◌++◌}
+use Rattle.std.specs.Prelude.{◌+◌, ◌*◌, ℕ, pos, List, [], ◌∷◌, ◌++◌}
 use Rattle.pawn_cells.specs.Cells.{cell_of}
 use Rattle.pawn_meaning.specs.Program.{Slot}
 use Rattle.amx_ops.specs.declared.op.Op.TheVariants as op
 use Rattle.gen_sim.specs.Pieces.{total}
-use Rattle.gen_sim.specs.Items.{Item}
+use Rattle.gen_sim.specs.Items.{Item, past}
 use Rattle.gen_sim.specs.Fits.{locals_of}
 use Rattle.gen_sim.specs.SimpleCode.{alone, taking}
 use Rattle.gen_sim.specs.JumpCode.{jump_to, cond_code}
@@ -19,10 +19,6 @@ made_cells slots made = total (locals_of 0 slots made)
 abbrev pub leave_code : List Slot → List ℕ → List Item
 leave_code slots [] = []
 leave_code slots (s ∷ made) = taking op.Stack (pos (4 * made_cells slots (s ∷ made))) ∷ []
-
--- a plain local is its first value, pushed
-abbrev pub local_code : List Item → List Item
-local_code value = value ++ alone op.PushPri ∷ []
 
 -- what a block made is dropped at its end
 abbrev pub block_code : List Slot → List ℕ → List Item → List Item
@@ -50,6 +46,13 @@ exit_code tag value = value ++ (taking op.ConstAlt (cell_of tag) ∷ taking op.H
 abbrev pub assert_code : ℕ → List Item → List Item
 assert_code begin value = cond_code begin value [] (taking op.Halt (pos 2) ∷ [])
 
--- the other part may have no items
+-- behind the first of two parts that begins at an address, and the jump over the second one
+abbrev pub else_at : ℕ → (first : List Item) → ℕ
+else_at p first = past p first + 8
+
+-- one of two parts, by a condition whose jumps lead to the second one
 abbrev pub if_code : (begin : ℕ) → (condition first second : List Item) → List Item
-if_code begin condition first second = cond_code begin condition first second
+if_code begin condition first second =
+    condition
+    ++ (first
+    ++ (jump_to op.Jump (past (else_at (past begin condition) first) second) ∷ second))

@@ -1,8 +1,11 @@
 pub mod AccessCode
 pub mod ArgumentCode
 pub mod Back
+pub mod BaseCode
+pub mod Branch
 pub mod CallCode
 pub mod ChainCode
+pub mod ChangeCode
 pub mod Code
 pub mod Contract
 pub mod DirectCode
@@ -25,10 +28,12 @@ pub mod OperandCode
 pub mod Pieces
 pub mod PlaceItems
 pub mod Places
+pub mod PushCode
 pub mod Results
 pub mod SimpleCode
 pub mod Site
 pub mod Stands
 pub mod StateCode
+pub mod TestCode
 pub mod View
 pub mod Ways

@@ -1,6 +1,6 @@
--- The code of loops. Each pass begins with an instruction of its own: the jump behind a test, or a
--- NOP.
-use Rattle.std.specs.Prelude.{◌+◌, ℕ, pos, List, [], ◌∷◌, ◌++◌, true}
+-- The code of loops. Each pass begins with an instruction of its own: a jump back of its condition,
+-- or a NOP.
+use Rattle.std.specs.Prelude.{◌+◌, ℕ, List, [], ◌∷◌, ◌++◌, true}
 use Rattle.pawn_meaning.specs.Program.{Slot}
 use Rattle.amx_ops.specs.declared.op.Op.TheVariants as op
 use Rattle.gen_sim.specs.Items.{Item, past}
@@ -9,30 +9,33 @@ use Rattle.gen_sim.specs.JumpCode.{jump_to}
 use Rattle.gen_sim.specs.Here.{Exits}
 use Rattle.gen_sim.specs.FlowCode.{leave_code}
 
--- ---- a test, a body, a step
+-- ---- a body, a step, and a condition behind them, whose jumps lead back to the body
 
--- behind the test and the jump that leaves the loop
-abbrev pub body_at : ℕ → List Item → ℕ
-body_at top test = past top test + 8
+-- behind the jump to the condition, which begins a loop
+abbrev pub body_at : ℕ → ℕ
+body_at top = top + 8
 
 -- behind the body: `continue` leads here
-abbrev pub step_at : ℕ → (test body : List Item) → ℕ
-step_at top test body = past (body_at top test) body
+abbrev pub step_at : ℕ → List Item → ℕ
+step_at top body = past (body_at top) body
 
--- behind the jump back: `break` leads here
+-- behind the step
+abbrev pub loop_test : ℕ → (body step : List Item) → ℕ
+loop_test top body step = past (step_at top body) step
+
+-- behind the condition: `break` leads here
 abbrev pub loop_end : ℕ → (test body step : List Item) → ℕ
-loop_end top test body step = past (step_at top test body) step + 8
+loop_end top test body step = past (loop_test top body step) test
 
 -- where `break` and `continue` of the body lead
 abbrev pub loop_exits : ℕ → (test body step : List Item) → Exits
 loop_exits top test body step =
-    record { looped = true; broke = loop_end top test body step; continued = step_at top test body }
+    record { looped = true; broke = loop_end top test body step; continued = step_at top body }
 
--- a test that doesn't hold leaves the loop; behind the step a jump goes back to the test
+-- a jump leads to the condition first
 abbrev pub loop_code : ℕ → (test body step : List Item) → List Item
 loop_code top test body step =
-    test ++ (jump_to op.Jzer (loop_end top test body step)
-    ∷ (body ++ (step ++ jump_to op.Jump top ∷ [])))
+    jump_to op.Jump (loop_test top body step) ∷ (body ++ (step ++ test))
 
 -- what it does first makes locals, which are dropped at its end
 abbrev pub for_code : List Slot → List ℕ → ℕ → (first test body step : List Item) → List Item

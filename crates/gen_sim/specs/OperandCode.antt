@@ -1,7 +1,7 @@
 -- The code of an operator behind its left operand, which is in PRI, by how the right one comes: known,
 -- it is an operand of the operator's own instruction, or goes to ALT; a direct place's cell goes to
 -- ALT; for all else the left one waits on the stack.
-use Rattle.std.specs.Prelude.{◌+◌, ℕ, ℤ, List, [], ◌∷◌, ◌++◌, Option, None, Some}
+use Rattle.std.specs.Prelude.{ℤ, List, [], ◌∷◌, ◌++◌, Option, None, Some}
 use Rattle.pawn_cells.specs.declared.operator.Operator.{Operator}
 use Rattle.pawn_cells.specs.declared.operator.Operator.TheVariants as between
 use Rattle.pawn_cells.specs.Cells.{neg}
@@ -10,7 +10,7 @@ use Rattle.pawn_meaning.specs.Scope.{Scope}
 use Rattle.pawn_meaning.specs.Fold.{fold}
 use Rattle.amx_ops.specs.declared.op.Op.TheVariants as op
 use Rattle.gen_sim.specs.Items.{Item}
-use Rattle.gen_sim.specs.SimpleCode.{alone, taking, operator_code}
+use Rattle.gen_sim.specs.SimpleCode.{alone, taking, alt_code, operator_code}
 use Rattle.gen_sim.specs.DirectCode.{Direct, direct_of}
 
 -- how a right operand comes
@@ -61,15 +61,21 @@ known_code between.Subtract v = taking op.AddC (neg v) ∷ []
 known_code between.ShiftLeft v = taking op.ShlCPri v ∷ []
 known_code between.ShiftUnsigned v = taking op.ShrCPri v ∷ []
 known_code between.Equal v = taking op.EqCPri v ∷ []
-known_code o v = taking op.ConstAlt v ∷ loaded_code o
+known_code o v = alt_code v ++ loaded_code o
+
+-- one with the cell of a direct place, which goes to ALT
+abbrev pub placed_code : Operator → Direct → List Item
+placed_code o d = taking d.loads_alt d.operand ∷ loaded_code o
 
 -- behind the left operand
 abbrev pub operate_by : Operator → Right → (right : List Item) → List Item
 operate_by o (Known v) right = known_code o v
-operate_by o (Placed d) right = taking d.loads_alt d.operand ∷ loaded_code o
-operate_by o Waiting right =
-    alone op.PushPri ∷ (right ++ (alone op.PopAlt ∷ operator_code o))
+operate_by o (Placed d) right = placed_code o d
+operate_by o Waiting right = right ++ (alone op.PopAlt ∷ operator_code o)
 
--- an operator's whole code
-abbrev pub binary_by : Operator → Right → (left right : List Item) → List Item
-binary_by o how left right = left ++ operate_by o how right
+-- what brings the right operand while the left one is in PRI: behind it the left one is in PRI and
+-- the right one in ALT, or the other way round where the left one waited
+abbrev pub bring_code : Right → (right : List Item) → List Item
+bring_code (Known v) right = taking op.ConstAlt v ∷ []
+bring_code (Placed d) right = taking d.loads_alt d.operand ∷ []
+bring_code Waiting right = alone op.PushPri ∷ (right ++ alone op.PopAlt ∷ [])

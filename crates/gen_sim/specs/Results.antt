@@ -1,9 +1,10 @@
 -- What holds behind the code of a place, an array and arguments. Behind that of an expression it is
 -- `With`.
-use Rattle.std.specs.Prelude.{◌≡◌, ◌+◌, ◌*◌, ◌-◌, ◌<◌, ℕ, zero, suc, ℤ, pos, List, [], ◌∷◌, ◌++◌}
+use Rattle.std.specs.Prelude.{◌≡◌, ◌+◌, ◌*◌, ◌-◌, ◌^◌, ◌<◌, ℕ, zero, suc, ℤ, pos, List, [], ◌∷◌}
+use Rattle.std.specs.Prelude.{◌++◌}
 use Rattle.std.specs.Prelude.{Option, None, Some}
 use Rattle.pawn_meaning.specs.Program.{Slot, ScalarSlot, Arg, Value, Ref, Whole, Temp, Args}
-use Rattle.pawn_meaning.specs.Program.{no_args, then_arg, Program}
+use Rattle.pawn_meaning.specs.Program.{no_args, then_arg, Program, Scalar, Element, Char}
 use Rattle.pawn_meaning.specs.Scope.{Extent}
 use Rattle.pawn_meaning.specs.Memory.{Reference, Place, Cell, Character}
 use Rattle.pawn_meaning.specs.World.{World}
@@ -60,6 +61,24 @@ module _ (program : Program) (room : ℕ) where
       × RefersTo program room v (to_cell name i) cell
   IsAddress v (Character name i k) x =
       (cell : ℕ) × CellAt program room v name i cell × (k < 4) × (x ≡ pos (4 * cell + (3 - k)))
+
+  -- PRI leads to a place: it is the place's address; or an element's index, or how far a
+  -- character's
+  -- byte lies behind the address in ALT
+  abbrev pub LeadsTo : View → Scalar → Place → (pri alt : ℤ) → Type 0
+  LeadsTo v (Element a e) at x y =
+      (cell : ℕ) × (i : ℕ) × (x ≡ pos i) × (y ≡ pos (4 * cell)) × (4 * (cell + i) < 2 ^ 31)
+      × IsAddress v at (pos (4 * (cell + i)))
+  LeadsTo v (Char a e) at x y =
+      (from : ℕ) × (i : ℕ) × (x ≡ pos i) × (y ≡ pos from) × (from + i < 2 ^ 31)
+      × IsAddress v at (pos (from + i))
+  LeadsTo v p at x y = IsAddress v at x
+
+  -- behind a place's index
+  pub record IndexedAt (v : View) (s : Scalar) (pending : List ℤ) (p : ℕ) (at : Place) (w : World)
+      (c : Config) : Type 0 where
+    pub stands : Stands program room v pending p w c
+    pub leads : LeadsTo v s at c.state.pri c.state.alt
 
   -- behind a place's code, which found this place
   pub record PlaceAt (v : View) (pending : List ℤ) (p : ℕ) (at : Place) (w : World)

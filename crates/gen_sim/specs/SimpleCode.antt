@@ -1,7 +1,7 @@
 -- The code of nodes without a jump, of which each is its own step between the codes of its parts. A
 -- value comes in PRI; while a second part runs, what the first one gave waits on the stack, and
 -- then goes to ALT.
-use Rattle.std.specs.Prelude.{ℤ, pos, List, [], ◌∷◌, ◌++◌, Option, None, Some}
+use Rattle.std.specs.Prelude.{zero, suc, ℤ, pos, negsuc, List, [], ◌∷◌, ◌++◌, Option, None, Some}
 use Rattle.pawn_cells.specs.declared.operator.Prefix.{Prefix}
 use Rattle.pawn_cells.specs.declared.operator.Prefix.TheVariants as before
 use Rattle.pawn_cells.specs.declared.operator.Operator.{Operator}
@@ -44,9 +44,17 @@ operator_code between.NotEqual = alone op.Neq ∷ []
 
 -- ---- expressions
 
--- a cell that is known
+-- a cell that is known goes to PRI: 0 by an instruction without an operand
 abbrev pub const_code : ℤ → List Item
-const_code v = taking op.ConstPri v ∷ []
+const_code (pos zero) = alone op.ZeroPri ∷ []
+const_code (pos (suc n)) = taking op.ConstPri (pos (suc n)) ∷ []
+const_code (negsuc n) = taking op.ConstPri (negsuc n) ∷ []
+
+-- and so to ALT
+abbrev pub alt_code : ℤ → List Item
+alt_code (pos zero) = alone op.ZeroAlt ∷ []
+alt_code (pos (suc n)) = taking op.ConstAlt (pos (suc n)) ∷ []
+alt_code (negsuc n) = taking op.ConstAlt (negsuc n) ∷ []
 
 -- an expression that folds is a constant; any other has its node's items
 abbrev pub folded : Option ℤ → List Item → List Item
@@ -65,10 +73,6 @@ waiting_code first second tail = first ++ (alone op.PushPri ∷ (second ++ tail)
 -- or with it in ALT
 abbrev pub both_code : (first second last : List Item) → List Item
 both_code first second last = waiting_code first second (alone op.PopAlt ∷ last)
-
--- a binary operator whose left operand waits on the stack
-abbrev pub binary_code : Operator → (left right : List Item) → List Item
-binary_code o left right = both_code left right (operator_code o)
 
 -- the first value isn't used
 abbrev pub comma_code : (first second : List Item) → List Item

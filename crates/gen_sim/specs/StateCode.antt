@@ -1,6 +1,6 @@
 -- The code of `state` and `sleep`. The automaton's cell is written first, and then its entry
 -- function is called, where there is one that serves the state.
-use Rattle.std.specs.Prelude.{◌+◌, ◌*◌, ℕ, ℤ, pos, List, [], ◌∷◌, ◌++◌, Option, None, Some}
+use Rattle.std.specs.Prelude.{◌+◌, ◌*◌, ℕ, pos, List, [], ◌∷◌, ◌++◌, Option, None, Some}
 use Rattle.std.specs.Prelude.{slice_get}
 use Rattle.pawn_cells.specs.Cells.{cell_of}
 use Rattle.pawn_meaning.specs.Program.{Program}
