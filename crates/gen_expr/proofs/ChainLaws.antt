@@ -15,7 +15,8 @@ use Rattle.gen_sim.specs.Items.{Item, item_cells, past}
 use Rattle.gen_sim.proofs.ItemLaws.{past-append}
 use Rattle.gen_sim.specs.SimpleCode.{alone}
 use Rattle.gen_sim.specs.JumpCode.{jump_to}
-use Rattle.gen_sim.specs.ChainCode.{link_code, last_link_code, middle_link_code, fail_at}
+use Rattle.gen_sim.specs.OperandCode.{right_of}
+use Rattle.gen_sim.specs.ChainCode.{link_code, last_link_by, middle_link_code, fail_at}
 use Rattle.gen_sim.specs.ChainCode.{chain_end_code}
 use Rattle.gen_laws.specs.ExprCode.{value_items, links_items, others_at}
 use Rattle.gen_expr.specs.Built.{Built, with_items}
@@ -286,8 +287,8 @@ pub record AllLinked (scope : Scope) (b : Built) (all : Links) (linked : Built)
 pub last_linked : (scope : Scope) (b : Built) (all : Links) (m n : Built) (holes : List ℕ)
     (o : Comparison) (e : Expr) (f : Option ℕ)
     (swapped : Bool) → Linked scope b all m holes (then_link o e f swapped no_links)
-    → n ≡ with_items (last_link_code (value_items scope (4 * length m.code + 4) e)
-    (link_code o f swapped)) m → AllLinked scope b all n holes
+    → n ≡ with_items (last_link_by o f swapped (right_of scope e)
+    (value_items scope (4 * length m.code + 4) e)) m → AllLinked scope b all n holes
 last_linked scope b all m n holes o e f swapped so_far grown =
     record { code = grown ∙ so_far.code; cells = sym (append-nil holes) ∙ so_far.cells }
 
@@ -359,9 +360,9 @@ pub link_ended : (scope : Scope) (b m n : Built) (holes : List ℕ) (items : Lis
     (link : Link)
     → i + 1 ≡ length items → link ≡ get_or items i link
     → Linked scope b (links_view items) m holes (links_view (drop i items))
-    → n ≡ with_items (last_link_code
-    (value_items scope (4 * length m.code + 4) (expr_view link.operand))
-    (link_code link.op link.function link.swapped)) m
+    → n ≡ with_items (last_link_by link.op link.function link.swapped
+    (right_of scope (expr_view link.operand))
+    (value_items scope (4 * length m.code + 4) (expr_view link.operand))) m
     → AllLinked scope b (links_view items) n holes
 link_ended scope b m n holes items i link within is so_far grown =
     let here : i < length items = omega arith in

@@ -1,6 +1,8 @@
 pub mod ArgLaws
 pub mod BuilderLaws
 pub mod ChainLaws
+pub mod ConditionLaws
+pub mod ElementLaws
 pub mod GrowLaws
 pub mod HoleLaws
 pub mod JumpLaws

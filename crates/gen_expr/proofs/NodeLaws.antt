@@ -1,13 +1,14 @@
 -- A node's code is that of its parts, by what is known of each step; where the last step may fail,
 -- so may the whole.
-use Rattle.std.proofs.Common.{◌≡◌, ◌+◌, ◌*◌, ℕ, pos, List, [], ◌∷◌, ◌++◌, Option, None}
-use Rattle.std.proofs.Common.{length, refl, sym}
+use Rattle.std.proofs.Common.{◌≡◌, ◌+◌, ◌*◌, ℕ, pos, List, [], ◌∷◌, ◌++◌, Bool, Option, None, Some}
+use Rattle.std.proofs.Common.{length, refl, sym, subst, append_assoc}
+use Rattle.pawn_cells.specs.declared.operator.Comparison.{Comparison}
 use Rattle.std.proofs.Common.{ap, ◌∙◌, Result, Ok, Err, IfOk}
 use Rattle.std.specs.declared.alloc.Global.{Global}
 use Rattle.std.specs.declared.boxed.Box.{Box}
-use Rattle.pawn_meaning.specs.Program.{Array, Expr, Chain}
+use Rattle.pawn_meaning.specs.Program.{Scalar, Chain}
 use Rattle.pawn_meaning.specs.Fold.{fold}
-use Rattle.pawn_meaning.specs.Scope.{Scope, Extent, extent}
+use Rattle.pawn_meaning.specs.Scope.{Scope, Extent}
 use Rattle.pawn_meaning.specs.View.{expr_view, args_view, links_view}
 use Rattle.pawn_meaning.specs.declared.node.Arg.{Arg}
 use Rattle.pawn_meaning.specs.declared.node.Link.{Link}
@@ -19,14 +20,20 @@ use Rattle.gen_sim.specs.Items.{Item, CallOf, past}
 use Rattle.gen_sim.specs.Results.{temporaries_in}
 use Rattle.gen_sim.specs.SimpleCode.{alone, taking, waiting_code, folded}
 use Rattle.gen_sim.specs.JumpCode.{jump_to, other_at, choice_code, cond_code}
-use Rattle.gen_sim.specs.ChainCode.{last_link_code, middle_link_code}
-use Rattle.gen_sim.specs.CallCode.{give_back_code, call_code, native_code}
-use Rattle.gen_laws.specs.ExprCode.{array_items, value_items, args_items}
+use Rattle.gen_sim.specs.ChainCode.{compare_by, last_link_by, middle_link_code}
+use Rattle.gen_sim.specs.OperandCode.{Right, Waiting, bring_code}
+use Rattle.gen_sim.specs.CallCode.{two_code, give_back_code, call_code, native_code}
+use Rattle.gen_laws.specs.ExprCode.{value_items, args_items}
+use Rattle.gen_sim.specs.BaseCode.{Base, index_begin, indexed_code}
+use Rattle.gen_sim.specs.AccessCode.{fetch_code}
+use Rattle.gen_sim.specs.DirectCode.{Direct, read_by}
+use Rattle.gen_sim.proofs.ItemLaws.{past-append}
+use Rattle.gen_expr.specs.BaseView.{array_part}
 use Rattle.gen_expr.specs.Built.{Built, with_items}
 use Rattle.gen_expr.specs.Filled.{filled}
-use Rattle.gen_expr.proofs.GrowLaws.{then_grow, both_grow, next_at}
+use Rattle.gen_expr.proofs.GrowLaws.{then_grow, then_ok, both_grow, next_at}
 use Rattle.gen_expr.proofs.PartLaws.{behind, waiting_done}
-use Rattle.gen_expr.proofs.JumpLaws.{first_turned, second_done, choice_done}
+use Rattle.gen_expr.proofs.JumpLaws.{jzer_wide, first_turned, second_done, choice_done}
 use Rattle.gen_expr.specs.ChainItems.{chain_items}
 
 pub then_part : {E : Type 0} (b m : Built) (r : Result Built E) (first : List Item)
@@ -66,7 +73,7 @@ chosen c t y r first second end et ee ey er =
     let led : Built = with_items (jump_to op.Jzer (other_at p first) ∷ first) c in
     let ts : t ≡ with_items rest led =
     et ∙ sym (both_grow (jump_to op.Jzer (other_at p first) ∷ first) rest c) in
-    second_done c led t y r first second end refl ts ee ey er
+    second_done op.Jzer jzer_wide c led t y r first second end refl ts ee ey er
 
 -- of one of two by a condition: the second one begins where the first one's end leads
 pub then_choice : {E : Type 0} (b c t y : Built) (r : Result Built E) (condition : List Item)
@@ -94,7 +101,7 @@ pub part_turned : (c j x t : Built) (first : ℕ → List Item) (other : ℕ)
     t ≡ with_items (jump_to op.Jzer (other_at p (first (p + 8)))
     ∷ (first (p + 8) ++ jump_to op.Jump 0 ∷ [])) c
 part_turned c j x t first other ej eo ex et =
-    first_turned c j x t (first (4 * length c.code + 8)) other ej eo
+    first_turned op.Jzer jzer_wide c j x t (first (4 * length c.code + 8)) other ej eo
     (ex ∙ ap (λ q. with_items (first q) j) (next_at c j (jump_to op.Jzer 0 ∷ []) ej)) et
 
 -- and both
@@ -112,13 +119,36 @@ parts_done c j x t y r first second other end ej eo ex et ee ey er =
 
 -- ---- links
 
-pub last_done : (b m n r : Built) (operand link : List Item)
-    → m ≡ with_items (alone op.PushPri ∷ operand) b
-    → n ≡ with_items (alone op.PopAlt ∷ []) m → r ≡ with_items link n
-    → r ≡ with_items (last_link_code operand link) b
-last_done b m n r operand link e f g =
-    then_grow b m r (alone op.PushPri ∷ operand) (alone op.PopAlt ∷ link) e
-    (then_grow m n r (alone op.PopAlt ∷ []) link f g)
+-- a right operand that waited
+pub brought_waiting : {E : Type 0} (how : Right) (right : List Item) (b m : Built)
+    (r : Result Built E) → how ≡ Waiting → m ≡ with_items (alone op.PushPri ∷ right) b
+    → IfOk r (λ x. x ≡ with_items (alone op.PopAlt ∷ []) m)
+    → IfOk r (λ x. x ≡ with_items (bring_code how right) b)
+brought_waiting how right b m r is e f =
+    subst (λ j. IfOk r (λ x. x ≡ with_items (bring_code j right) b)) (sym is)
+    (then_ok b m r (alone op.PushPri ∷ right) (alone op.PopAlt ∷ []) e f)
+
+-- a last one, which the machine compares
+pub last_compared : {E : Type 0} (o : Comparison) (k : Option ℕ) (swapped : Bool)
+    (how given : Right) (right : List Item) (b m : Built) (r : Result Built E)
+    → k ≡ None → given ≡ how → m ≡ with_items (bring_code given right) b
+    → IfOk r (λ x. x ≡ with_items (alone (compare_by given o) ∷ []) m)
+    → IfOk r (λ x. x ≡ with_items (last_link_by o k swapped how right) b)
+last_compared o k swapped how given right b m r none is e f =
+    subst (λ j. IfOk r (λ x. x ≡ with_items (last_link_by o j swapped how right) b)) (sym none)
+    (subst (λ j. IfOk r (λ x. x ≡ with_items (last_link_by o None swapped j right) b)) is
+    (then_ok b m r (bring_code given right) (alone (compare_by given o) ∷ []) e f))
+
+-- or a user's operator
+pub last_called : {E : Type 0} (o : Comparison) (k : Option ℕ) (f : ℕ) (swapped : Bool)
+    (how : Right) (right : List Item) (b m n : Built) (r : Result Built E)
+    → k ≡ Some f → m ≡ with_items (alone op.PushPri ∷ right) b
+    → n ≡ with_items (alone op.PopAlt ∷ []) m → IfOk r (λ x. x ≡ with_items (two_code f swapped) n)
+    → IfOk r (λ x. x ≡ with_items (last_link_by o k swapped how right) b)
+last_called o k f swapped how right b m n r some e g h =
+    subst (λ j. IfOk r (λ x. x ≡ with_items (last_link_by o j swapped how right) b)) (sym some)
+    (then_ok b m r (alone op.PushPri ∷ right) (alone op.PopAlt ∷ two_code f swapped) e
+    (then_ok m n r (alone op.PopAlt ∷ []) (two_code f swapped) g h))
 
 pub middle_done : (b m n t j r : Built) (operand link : List Item)
     → m ≡ with_items (alone op.PushPri ∷ operand) b
@@ -163,32 +193,58 @@ native_done b m n r args f count cells all temporaries ec et e g h =
 
 -- ---- an index, in an array that reaches so far
 
-pub indexed : (scope : Scope) (a : Array) (e : Expr) (b m n r : Built) (reach : Option Extent)
-    (ends : Option Extent → List Item)
-    → m ≡ with_items (array_items scope (4 * length b.code) a) b
-    → n ≡ with_items (alone op.PushPri ∷ value_items scope (4 * length m.code + 4) e) m
-    → reach ≡ extent scope a
-    → r ≡ with_items (ends reach) n
-    → r ≡ with_items (waiting_code (array_items scope (4 * length b.code) a)
-    (value_items scope (past (4 * length b.code) (array_items scope (4 * length b.code) a) + 4) e)
-    (ends (extent scope a))) b
-indexed scope a e b m n r reach ends f g h k =
-    waiting_done b m n r (array_items scope (4 * length b.code) a) (ends (extent scope a))
-    (λ q. value_items scope q e) f g
-    (k ∙ ap (λ z. with_items (ends z) n) h)
+-- behind an array that waits, or before an instruction that sets its address
+pub indexed : (base d : Option Base) (b m n r : Built) (array : List Item) (index : ℕ → List Item)
+    (reach whole : Option Extent) (ends : Option Base → Option Extent → List Item) → d ≡ base
+    → m ≡ with_items (array_part base array) b → n ≡ with_items (index (4 * length m.code)) m
+    → reach ≡ whole → r ≡ with_items (ends d reach) n
+    → r ≡ with_items (indexed_code base array (index (index_begin base (4 * length b.code) array))
+    (ends base whole)) b
+indexed None d b m n r array index reach whole ends is e f g h =
+    let p : ℕ = 4 * length b.code in
+    let push = alone op.PushPri ∷ [] in
+    let tail = ends None whole in
+    let done : r ≡ with_items tail n =
+    h ∙ ap (λ k. with_items (ends k reach) n) is ∙ ap (λ z. with_items (ends None z) n) g in
+    behind b m r (array ++ push) (λ q. index q ++ tail) e
+    (then_grow m n r (index (4 * length m.code)) tail f done)
+    ∙ ap (λ q. with_items ((array ++ push) ++ (index q ++ tail)) b) (past-append p array push)
+    ∙ ap (λ l. with_items l b) (append_assoc array push (index (past p array + 4) ++ tail))
+indexed (Some k) d b m n r array index reach whole ends is e f g h =
+    let tail = ends (Some k) whole in
+    let done : r ≡ with_items tail n =
+    h ∙ ap (λ k2. with_items (ends k2 reach) n) is
+    ∙ ap (λ z. with_items (ends (Some k) z) n) g in
+    behind b m r [] (λ q. index q ++ tail) e
+    (then_grow m n r (index (4 * length m.code)) tail f done)
 
-pub then_indexed : {E : Type 0} (scope : Scope) (a : Array) (e : Expr) (b m n : Built)
-    (r : Result Built E) (reach : Option Extent)
-    (ends : Option Extent → List Item) → m ≡ with_items (array_items scope (4 * length b.code) a) b
-    → n ≡ with_items (alone op.PushPri ∷ value_items scope (4 * length m.code + 4) e) m
-    → reach ≡ extent scope a
-    → IfOk r (λ x. x ≡ with_items (ends reach) n)
-    → IfOk r (λ x. x ≡ with_items (waiting_code (array_items scope (4 * length b.code) a)
-    (value_items scope (past (4 * length b.code) (array_items scope (4 * length b.code) a) + 4) e)
-    (ends (extent scope a))) b)
-then_indexed scope a e b m n (Ok x) reach ends f g h k =
-    indexed scope a e b m n x reach ends f g h k
-then_indexed scope a e b m n (Err fault) reach ends f g h k = k
+pub then_indexed : {E : Type 0} (base d : Option Base) (b m n : Built) (r : Result Built E)
+    (array : List Item) (index : ℕ → List Item) (reach whole : Option Extent)
+    (ends : Option Base → Option Extent → List Item) → d ≡ base
+    → m ≡ with_items (array_part base array) b → n ≡ with_items (index (4 * length m.code)) m
+    → reach ≡ whole → IfOk r (λ x. x ≡ with_items (ends d reach) n)
+    → IfOk r (λ x. x ≡ with_items (indexed_code base array
+    (index (index_begin base (4 * length b.code) array)) (ends base whole)) b)
+then_indexed base d b m n (Ok x) array index reach whole ends is e f g h =
+    indexed base d b m n x array index reach whole ends is e f g h
+then_indexed base d b m n (Err fault) array index reach whole ends is e f g h = h
+
+-- an array before its index, where it waits
+pub array_waits : (base : Option Base) (b m r : Built) (array : List Item) → None ≡ base
+    → m ≡ with_items array b → r ≡ with_items (alone op.PushPri ∷ []) m
+    → r ≡ with_items (array_part base array) b
+array_waits base b m r array is e f =
+    then_grow b m r array (alone op.PushPri ∷ []) e f
+    ∙ ap (λ k. with_items (array_part k array) b) is
+
+-- what stands at a place that no instruction reaches by itself
+pub fetched : {E : Type 0} (o : Option Direct) (p : Scalar) (b m : Built) (r : Result Built E)
+    (index : List Item) → None ≡ o → m ≡ with_items index b
+    → IfOk r (λ x. x ≡ with_items (fetch_code p) m)
+    → IfOk r (λ x. x ≡ with_items (read_by o p index) b)
+fetched o p b m r index is e f =
+    subst (λ k. IfOk r (λ x. x ≡ with_items (read_by k p index) b)) is
+    (then_ok b m r index (fetch_code p) e f)
 
 -- ---- nodes with a list
 

@@ -1,5 +1,5 @@
 -- An operator has the code of its parts, by how its right operand comes; what folds is a constant.
-use Rattle.std.proofs.Common.{◌≡◌, ◌*◌, ℕ, ℤ, List, [], ◌∷◌, Option, None, Some, length}
+use Rattle.std.proofs.Common.{◌≡◌, ◌*◌, ℕ, ℤ, List, [], ◌∷◌, ◌++◌, Option, None, Some, length}
 use Rattle.std.proofs.Common.{sym, ap, subst, Result, IfOk}
 use Rattle.pawn_cells.specs.declared.operator.Operator.{Operator}
 use Rattle.pawn_meaning.specs.Program.{Expr, Const, Read, Unary, Binary, Chain, And, Or, Cond}
@@ -7,40 +7,56 @@ use Rattle.pawn_meaning.specs.Program.{Assign, Update, UpdateBy, Step, StepBy, C
 use Rattle.pawn_meaning.specs.Program.{OperateOne, Call, Native, Seq}
 use Rattle.pawn_meaning.specs.Scope.{Scope}
 use Rattle.pawn_meaning.specs.Fold.{fold}
+use Rattle.amx_ops.specs.declared.op.Op.{Op}
 use Rattle.amx_ops.specs.declared.op.Op.TheVariants as op
-use Rattle.gen_sim.specs.Items.{Item}
+use Rattle.gen_sim.specs.Items.{Item, past}
 use Rattle.gen_sim.specs.SimpleCode.{alone, taking, operator_code, const_code, folded}
-use Rattle.gen_sim.specs.DirectCode.{Direct}
-use Rattle.gen_sim.specs.OperandCode.{Right, Known, Placed, Waiting, loaded_code, known_code}
-use Rattle.gen_sim.specs.OperandCode.{operate_by}
+use Rattle.gen_sim.specs.OperandCode.{Right, Waiting, operate_by}
+use Rattle.gen_sim.specs.PushCode.{pushed_by, left_by}
 use Rattle.gen_laws.specs.ExprCode.{value_items}
 use Rattle.gen_expr.specs.Built.{Built, with_items}
 use Rattle.gen_expr.proofs.GrowLaws.{then_ok}
+use Rattle.gen_expr.proofs.NodeLaws.{then_part}
 
 -- ---- behind the left operand
 
-pub operated_known : {E : Type 0} (o : Operator) (v : ℤ) (how : Right) (right : List Item)
-    (b : Built) (r : Result Built E) → Known v ≡ how
-    → IfOk r (λ x. x ≡ with_items (known_code o v) b)
-    → IfOk r (λ x. x ≡ with_items (operate_by o how right) b)
-operated_known o v how right b r is e =
-    subst (λ k. IfOk r (λ x. x ≡ with_items (operate_by o k right) b)) is e
-
-pub operated_placed : {E : Type 0} (o : Operator) (d : Direct) (how : Right) (right : List Item)
-    (b : Built) (r : Result Built E) → Placed d ≡ how
-    → IfOk r (λ x. x ≡ with_items (taking d.loads_alt d.operand ∷ loaded_code o) b)
-    → IfOk r (λ x. x ≡ with_items (operate_by o how right) b)
-operated_placed o d how right b r is e =
-    subst (λ k. IfOk r (λ x. x ≡ with_items (operate_by o k right) b)) is e
-
 pub operated_waiting : {E : Type 0} (o : Operator) (how : Right) (right : List Item) (b m n : Built)
-    (r : Result Built E) → Waiting ≡ how → m ≡ with_items (alone op.PushPri ∷ right) b
+    (r : Result Built E) → how ≡ Waiting → m ≡ with_items right b
     → n ≡ with_items (alone op.PopAlt ∷ []) m → IfOk r (λ x. x ≡ with_items (operator_code o) n)
     → IfOk r (λ x. x ≡ with_items (operate_by o how right) b)
 operated_waiting o how right b m n r is e f g =
-    subst (λ k. IfOk r (λ x. x ≡ with_items (operate_by o k right) b)) is
-    (then_ok b m r (alone op.PushPri ∷ right) (alone op.PopAlt ∷ operator_code o) e
+    subst (λ k. IfOk r (λ x. x ≡ with_items (operate_by o k right) b)) (sym is)
+    (then_ok b m r right (alone op.PopAlt ∷ operator_code o) e
     (then_ok m n r (alone op.PopAlt ∷ []) (operator_code o) f g))
+
+-- an operator with both its operands
+pub then_operate : {E : Type 0} (o : Operator) (how there : Right) (b m : Built)
+    (r : Result Built E) (push : Option (Op × ℤ)) (left : List Item) (right : ℕ → List Item)
+    → how ≡ there → m ≡ with_items (left_by how push left) b
+    → IfOk r (λ x. x ≡ with_items (operate_by o how (right (4 * length m.code))) m)
+    → IfOk r (λ x. x ≡ with_items (left_by there push left
+    ++ operate_by o there (right (past (4 * length b.code) (left_by there push left)))) b)
+then_operate o how there b m r push left right is e f =
+    subst (λ k. IfOk r (λ x. x ≡ with_items (left_by k push left
+    ++ operate_by o k (right (past (4 * length b.code) (left_by k push left)))) b)) is
+    (then_part b m r (left_by how push left) (λ q. operate_by o how (right q)) e f)
+
+-- ---- what is pushed
+
+pub pushed_at_once : {E : Type 0} (push : Option (Op × ℤ)) (it : Op × ℤ) (part : List Item)
+    (b : Built) (r : Result Built E) → Some it ≡ push
+    → IfOk r (λ x. x ≡ with_items (taking it.0 it.1 ∷ []) b)
+    → IfOk r (λ x. x ≡ with_items (pushed_by push part) b)
+pushed_at_once push it part b r is e =
+    subst (λ k. IfOk r (λ x. x ≡ with_items (pushed_by k part) b)) is e
+
+pub pushed_behind : {E : Type 0} (push : Option (Op × ℤ)) (part : List Item) (b m : Built)
+    (r : Result Built E) → None ≡ push → m ≡ with_items part b
+    → IfOk r (λ x. x ≡ with_items (alone op.PushPri ∷ []) m)
+    → IfOk r (λ x. x ≡ with_items (pushed_by push part) b)
+pushed_behind push part b m r is e f =
+    subst (λ k. IfOk r (λ x. x ≡ with_items (pushed_by k part) b)) is
+    (then_ok b m r part (alone op.PushPri ∷ []) e f)
 
 -- ---- what folds
 

@@ -1,9 +1,12 @@
+pub mod BaseView
 pub mod Built
 pub mod ChainItems
 pub mod DirectView
 pub mod Filled
 pub mod Holes
 pub mod Opened
+pub mod PushView
 pub mod RightView
 pub mod Standing
 pub mod TargetCode
+pub mod TestView

@@ -1,18 +1,52 @@
 ghost use Rattle.std.specs.Prelude.{◌≡◌, ◌++◌, [], ◌∷◌, pos, IfOk};
 ghost use Rattle.pawn_meaning.specs.View.{scalar_view};
-ghost use Rattle.gen_sim.specs.SimpleCode.{alone, operator_code};
-ghost use Rattle.gen_sim.specs.AccessCode.{load_code, store_code, changed_code};
+ghost use Rattle.gen_sim.specs.SimpleCode.{alone, taking};
+ghost use Rattle.gen_sim.specs.AccessCode.{address_code, fetch_code, load_code};
+ghost use Rattle.gen_sim.specs.AccessCode.{store_code, changed_code};
 ghost use Rattle.gen_sim.specs.CallCode.{two_code, convert_code};
 ghost use Rattle.gen_expr.specs.Built.{with_items};
 ghost use Rattle.gen_expr.specs.Opened.{opened_code};
 
 use super::builder::Builder;
 use super::calls::{convert, two_by};
-use super::operators::{operator, two};
+use super::operators::two;
 use amx_ops::Op;
 use pawn_base::Memory;
-use pawn_cells::Operator;
 use pawn_meaning::Scalar;
+
+/// The address of a place, from where its index leads.
+#[tactic(auto, using(crate::proofs::GrowLaws::none_grow))]
+pub fn address(place: &Scalar, b: Builder) -> Result<Builder, Memory>
+    ensures { IfOk result (λ r. r ≡ with_items (address_code (scalar_view place.now)) b) }
+{
+    match place {
+        Scalar::Global(_) | Scalar::Slot(_) | Scalar::Through(_) => Ok(b),
+        Scalar::Element(..) => b.put(Op::Idxaddr, 0),
+        Scalar::Char(..) => b.put(Op::Add, 0),
+    }
+}
+
+/// The character at the sum of PRI and ALT.
+#[tactic(auto, using(crate::proofs::GrowLaws::then_grow))]
+fn fetch_character(b: Builder) -> Result<Builder, Memory>
+    ensures { IfOk result (λ r.
+        r ≡ with_items (alone Op.Add ∷ taking Op.LodbI (pos 1) ∷ []) b) }
+{
+    let b = b.put(Op::Add, 0)?;
+    let b = b.put(Op::LodbI, 1)?;
+    Ok(b)
+}
+
+/// What stands at a place, from where its index leads.
+pub fn fetch(place: &Scalar, b: Builder) -> Result<Builder, Memory>
+    ensures { IfOk result (λ r. r ≡ with_items (fetch_code (scalar_view place.now)) b) }
+{
+    match place {
+        Scalar::Global(_) | Scalar::Slot(_) | Scalar::Through(_) => b.put(Op::LoadI, 0),
+        Scalar::Element(..) => b.put(Op::Lidx, 0),
+        Scalar::Char(..) => fetch_character(b),
+    }
+}
 
 /// Loads from the address in PRI.
 pub fn load(place: &Scalar, b: Builder) -> Result<Builder, Memory>
@@ -68,18 +102,6 @@ fn opened(place: &Scalar, b: Builder) -> Result<Builder, Memory>
     let b = b.put(Op::PopAlt, 0)?;
     let b = two(Op::PushAlt, Op::Xchg, b)?;
     let b = exchanged(place, b)?;
-    Ok(b)
-}
-
-/// An update by an operator, behind the operand.
-#[tactic(auto, using(crate::proofs::ShapeLaws::changed_grows))]
-pub fn updated(place: &Scalar, o: Operator, b: Builder) -> Result<Builder, Memory>
-    ensures { IfOk result (λ r. r ≡ with_items
-        (alone Op.PopAlt ∷ changed_code (scalar_view place.now) (operator_code o)) b) }
-{
-    let b = opened(place, b)?;
-    let b = operator(o, b)?;
-    let b = stored(place, b)?;
     Ok(b)
 }
 

@@ -1,22 +1,28 @@
-ghost use Rattle.std.specs.Prelude.{◌≡◌, ◌++◌, ℤ, neg_ℤ, [], ◌∷◌, IfOk};
-ghost use Rattle.pawn_meaning.specs.View.{scalar_view};
+ghost use Rattle.std.specs.Prelude.{◌≡◌, ◌*◌, ◌+ℤ◌, ◌++◌, ℤ, pos, neg_ℤ, [], ◌∷◌, Some, IfOk};
+ghost use Rattle.pawn_meaning.specs.View.{scalar_view, array_view, expr_view};
+ghost use Rattle.pawn_meaning.specs.Program.{Element};
+ghost use Rattle.pawn_meaning.specs.References.{index_in};
+ghost use Rattle.pawn_meaning.specs.Fold.{fold};
 ghost use Rattle.gen_sim.specs.SimpleCode.{taking, operator_code};
-ghost use Rattle.gen_sim.specs.DirectCode.{direct_of, direct_load, direct_store, direct_changed};
+ghost use Rattle.gen_sim.specs.DirectCode.{direct_of, constant_index};
+ghost use Rattle.gen_sim.specs.DirectCode.{direct_load, direct_store, direct_changed};
 ghost use Rattle.gen_sim.specs.DirectCode.{direct_step, stepped_back, direct_effect};
 ghost use Rattle.gen_expr.specs.Built.{with_items};
-ghost use Rattle.gen_expr.specs.Standing.{scope_of, Serves};
+ghost use Rattle.gen_expr.specs.Standing.{scope_of, Serves, extent_of};
 ghost use Rattle.gen_expr.specs.DirectView.{direct_view, perhaps_direct};
 
 use super::builder::Builder;
-use super::frame::{Frame, object_at, slot_at, through_at};
+use super::frame::{Frame, object_at, object_reach, slot_at, slot_reach, through_at};
 use super::operators::operator;
+use super::reach::Reach;
+use super::right::folded;
 use amx_ops::Op;
 use pawn_base::Memory;
 use pawn_cells::Operator;
-use pawn_meaning::Scalar;
+use pawn_meaning::{Array, Expr, Scalar};
 
-/// A place that an instruction reaches by itself: the address of an object, the offset of a slot
-/// from FRM, or that of a parameter which refers to the cell.
+/// A place that an instruction reaches by itself: the address of a cell of the data, the offset of
+/// one of the frame from FRM, or that of a parameter which refers to the cell.
 #[derive(Clone, Copy, Debug)]
 pub enum Direct {
     Object(i32),
@@ -24,7 +30,7 @@ pub enum Direct {
     Through(i32),
 }
 
-/// That of a place without an index.
+/// That of a place without an index, or with a constant one.
 pub fn direct_of(place: &Scalar, frame: &Frame<'_>) -> Result<Option<Direct>, Memory>
     requires { Serves frame.now }
     ensures { IfOk result (λ found.
@@ -34,7 +40,65 @@ pub fn direct_of(place: &Scalar, frame: &Frame<'_>) -> Result<Option<Direct>, Me
         Scalar::Global(o) => Ok(Some(Direct::Object(object_at(*o, frame)?))),
         Scalar::Slot(s) => Ok(Some(Direct::Own(slot_at(*s, frame)?))),
         Scalar::Through(s) => Ok(Some(Direct::Through(through_at(*s)?))),
-        Scalar::Element(..) | Scalar::Char(..) => Ok(None),
+        Scalar::Element(a, e) => element_of(a, e, frame),
+        Scalar::Char(..) => Ok(None),
+    }
+}
+
+/// That of an element: a constant index is part of the address, where its array has a known one.
+#[inline(never)]
+#[tactic(auto, using(crate::proofs::ElementLaws::none_of_param, crate::proofs::ElementLaws::none_of_row, crate::proofs::ElementLaws::none_of_rest))]
+fn element_of(a: &Array, e: &Expr, frame: &Frame<'_>) -> Result<Option<Direct>, Memory>
+    requires { Serves frame.now }
+    ensures { IfOk result (λ found. perhaps_direct found ≡
+        direct_of (scope_of frame.now) (Element (array_view a.now) (expr_view e.now))) }
+{
+    match a {
+        Array::Object(o) => match constant_index(object_reach(*o, frame), e) {
+            Some(i) => Ok(Some(Direct::Object(cell_behind(object_at(*o, frame)?, i)?))),
+            None => Ok(None),
+        },
+        Array::SlotArray(s) => match constant_index(slot_reach(*s, frame), e) {
+            Some(i) => Ok(Some(Direct::Own(cell_behind(slot_at(*s, frame)?, i)?))),
+            None => Ok(None),
+        },
+        Array::ParamArray(..) | Array::Row(..) | Array::From(..) => Ok(None),
+    }
+}
+
+/// An index that folds, where it is below an array's first size.
+fn constant_index(reach: Reach, e: &Expr) -> Option<u32>
+    ensures { result ≡ constant_index (extent_of reach) (fold (expr_view e.now)) }
+{
+    match reach {
+        Reach::Known(shape) => match folded(e) {
+            Some(v) => index_in(shape.first, v),
+            None => None,
+        },
+        Reach::Nothing | Reach::Open(..) => None,
+    }
+}
+
+/// An index below a size: a negative one is none.
+fn index_in(size: u32, v: i32) -> Option<u32>
+    ensures { result ≡ index_in size v }
+{
+    if v < 0 {
+        return None;
+    }
+    let i = v as u32;
+    if i < size { Some(i) } else { None }
+}
+
+/// The address, or the offset, of a cell so far behind one.
+fn cell_behind(first: i32, i: u32) -> Result<i32, Memory>
+    ensures { IfOk result (λ x. x ≡ first +ℤ pos (4 * i)) }
+{
+    let at = i64::from(first) + 4 * i64::from(i);
+    if at < 2_147_483_648 {
+        Ok(at as i32)
+    } else {
+        Err(Memory)
     }
 }
 

@@ -1,44 +1,109 @@
 ghost use Rattle.std.specs.Prelude.{◌≡◌, ◌+◌, ◌*◌, ◌++◌, [], ◌∷◌, pos, length, None, IfOk};
 ghost use Rattle.pawn_meaning.specs.Scope.{extent};
 ghost use Rattle.pawn_meaning.specs.View.{scalar_view, array_view, expr_view};
-ghost use Rattle.pawn_meaning.specs.View.{arg_view, args_view, links_view};
 ghost use Rattle.pawn_meaning.specs.Fold.{fold};
-ghost use Rattle.pawn_meaning.specs.Need as need;
-ghost use Rattle.gen_sim.specs.Results.{temporaries_in};
 ghost use Rattle.gen_sim.specs.SimpleCode.{alone, const_code};
 ghost use Rattle.gen_sim.specs.JumpCode.{jump_to, choice_code, truth_code, other_at};
-ghost use Rattle.gen_sim.specs.CallCode.{call_code, native_code};
-ghost use Rattle.gen_sim.specs.ChainCode.{link_code, last_link_code, middle_link_code};
-ghost use Rattle.gen_sim.specs.DirectCode.{direct_of};
-ghost use Rattle.gen_sim.specs.OperandCode.{right_of, operate_by};
-ghost use Rattle.gen_laws.specs.ExprCode.{place_items, array_items, value_items};
-ghost use Rattle.gen_laws.specs.ExprCode.{arg_items, args_items};
+ghost use Rattle.gen_sim.specs.DirectCode.{direct_of, read_by};
+ghost use Rattle.gen_sim.specs.OperandCode.{Waiting, right_of, operate_by};
+ghost use Rattle.gen_sim.specs.PushCode.{value_push, left_by};
+ghost use Rattle.gen_laws.specs.ExprCode.{place_items, array_items, value_items, index_items};
+ghost use Rattle.gen_sim.specs.BaseCode.{base_of};
 ghost use Rattle.gen_expr.specs.Built.{with_items};
 ghost use Rattle.gen_expr.specs.Standing.{scope_of, Serves, extent_of};
-ghost use Rattle.gen_expr.specs.ChainItems.{chain_items};
 ghost use Rattle.gen_expr.specs.DirectView.{perhaps_direct};
-ghost use Rattle.gen_expr.specs.TargetCode.{address_part, value_part};
+ghost use Rattle.gen_expr.specs.RightView.{right_view};
+ghost use Rattle.gen_expr.specs.BaseView.{perhaps_base, array_part};
+ghost use Rattle.gen_expr.specs.TargetCode.{address_part, value_part, beside_part, operand_part};
 
-use super::access::updated_by;
-use super::arguments::{counted, give_back, native, temporary};
+mod arguments;
+mod links;
+mod nodes;
+
+use super::access::{address, fetch};
+use super::base::{Indexed, base_of, reach_of};
 use super::builder::Builder;
-use super::calls::{one, operated};
-use super::chain::{compared, ended};
-use super::counts::temporaries;
 use super::direct::direct_of;
-use super::ends::{character, copy, element, row};
+use super::ends::{character, element, row};
 use super::frame::{Frame, object, object_reach, param_reach, slot, slot_reach, through};
-use super::jumps::{cell_before_last, land, last_cell, truth, turn};
-use super::operators::{operator, prefix, two};
-use super::put::count_of;
+use super::jumps::{land, last_cell, truth, turn};
+use super::operators::operator;
+use super::push::value_push;
+use super::put::constant;
 use super::reach::{Reach, characters_of, rest_of, row_of, size_of};
-use super::right::{Right, folded, operate_known, operate_placed, right_of};
-use super::steps::turned;
-use super::target::{Target, read, step, update, write};
+use super::right::{
+    Right, folded, move_constant, move_placed, operate_known, operate_placed, right_of,
+};
+use super::target::{Target, Valued};
 use amx_ops::Op;
-use pawn_base::{List, Memory};
+pub(crate) use arguments::push_value;
+use arguments::{called, native_called};
+pub(crate) use links::bring;
+use links::chain;
+use nodes::{
+    UserOperator, array_copy, assignment, binary, choice, conjunction, disjunction, one_step,
+    sequence, unary, updating, user_operator, user_prefix, user_step, user_update,
+};
+use pawn_base::Memory;
 use pawn_cells::Operator;
-use pawn_meaning::{Arg, Array, Expr, Link, Scalar};
+use pawn_meaning::{Array, Expr, Scalar};
+
+/// An array before its index: its address waits, where no instruction sets it by itself.
+#[cycle(emit)]
+fn start_array(a: &Array, frame: &Frame<'_>, b: Builder) -> Result<Indexed, Memory>
+    requires { Serves frame.now }
+    ensures code { IfOk result (λ r. let scope = scope_of frame.now in
+        r.code ≡ with_items (array_part (base_of scope (array_view a.now))
+        (array_items scope (4 * length b.code) (array_view a.now))) b) }
+    ensures base { IfOk result (λ r.
+        perhaps_base r.base ≡ base_of (scope_of frame.now) (array_view a.now)) }
+    ensures reach { IfOk result (λ r.
+        extent_of r.reach ≡ extent (scope_of frame.now) (array_view a.now)) }
+{
+    match base_of(a, frame)? {
+        None => {
+            let (first, reach) = array(a, frame, b)?;
+            let code = first.put(Op::PushPri, 0)?;
+            Ok(Indexed {
+                code,
+                base: None,
+                reach,
+            })
+        }
+        Some(base) => {
+            let reach = reach_of(a, frame)?;
+            Ok(Indexed {
+                code: b,
+                base: Some(base),
+                reach,
+            })
+        }
+    }
+}
+
+/// A place, up to where its index leads.
+#[cycle(emit)]
+fn index(p: &Scalar, frame: &Frame<'_>, b: Builder) -> Result<Builder, Memory>
+    requires { Serves frame.now }
+    ensures { IfOk result (λ r. r ≡ with_items
+        (index_items (scope_of frame.now) (4 * length b.code) (scalar_view p.now)) b) }
+{
+    match p {
+        Scalar::Global(o) => object(*o, frame, b),
+        Scalar::Slot(s) => slot(*s, frame, b),
+        Scalar::Through(s) => through(*s, b),
+        Scalar::Element(a, e) => {
+            let Indexed { code, base, reach } = start_array(a, frame, b)?;
+            let behind = value(e, frame, code)?;
+            element(size_of(reach), base, behind)
+        }
+        Scalar::Char(a, e) => {
+            let Indexed { code, base, reach } = start_array(a, frame, b)?;
+            let behind = value(e, frame, code)?;
+            character(characters_of(reach), base, behind)
+        }
+    }
+}
 
 /// The address of a place, to PRI.
 #[cycle(emit)]
@@ -47,20 +112,24 @@ fn place(p: &Scalar, frame: &Frame<'_>, b: Builder) -> Result<Builder, Memory>
     ensures { IfOk result (λ r. r ≡ with_items
         (place_items (scope_of frame.now) (4 * length b.code) (scalar_view p.now)) b) }
 {
-    match p {
-        Scalar::Global(o) => object(*o, frame, b),
-        Scalar::Slot(s) => slot(*s, frame, b),
-        Scalar::Through(s) => through(*s, b),
-        Scalar::Element(a, e) => {
-            let (first, reach) = array(a, frame, b)?;
-            let both = beside(e, frame, first)?;
-            element(size_of(reach), both)
+    let led = index(p, frame, b)?;
+    address(p, led)
+}
+
+/// What stands at a place, to PRI.
+#[cycle(emit)]
+fn read(p: &Scalar, frame: &Frame<'_>, b: Builder) -> Result<Builder, Memory>
+    requires { Serves frame.now }
+    ensures { IfOk result (λ r. let scope = scope_of frame.now in
+        r ≡ with_items (read_by (direct_of scope (scalar_view p.now)) (scalar_view p.now)
+        (index_items scope (4 * length b.code) (scalar_view p.now))) b) }
+{
+    match direct_of(p, frame)? {
+        None => {
+            let led = index(p, frame, b)?;
+            fetch(p, led)
         }
-        Scalar::Char(a, e) => {
-            let (first, reach) = array(a, frame, b)?;
-            let both = beside(e, frame, first)?;
-            character(characters_of(reach), both)
-        }
+        Some(d) => d.load(b),
     }
 }
 
@@ -81,15 +150,17 @@ fn array(a: &Array, frame: &Frame<'_>, b: Builder) -> Result<(Builder, Reach), M
             Ok((through(*s, b)?, reach))
         }
         Array::Row(a, e) => {
-            let (first, reach) = array(a, frame, b)?;
-            let both = beside(e, frame, first)?;
-            let done = row(size_of(reach), both)?;
+            let Indexed { code, base, reach } = start_array(a, frame, b)?;
+            let behind = value(e, frame, code)?;
+            let led = element(size_of(reach), base, behind)?;
+            let done = row(led)?;
             Ok((done, row_of(reach)))
         }
         Array::From(a, e) => {
-            let (first, reach) = array(a, frame, b)?;
-            let both = beside(e, frame, first)?;
-            let done = element(size_of(reach), both)?;
+            let Indexed { code, base, reach } = start_array(a, frame, b)?;
+            let behind = value(e, frame, code)?;
+            let led = element(size_of(reach), base, behind)?;
+            let done = led.put(Op::Idxaddr, 0)?;
             Ok((done, rest_of(reach)))
         }
     }
@@ -119,20 +190,39 @@ fn array_beside(a: &Array, frame: &Frame<'_>, b: Builder) -> Result<Builder, Mem
     Ok(both)
 }
 
-/// An operator behind its left operand, which is in PRI.
+/// A left operand, by how the right one comes: it waits on the stack, or is in PRI.
 #[cycle(emit)]
-fn operate(o: Operator, e: &Expr, frame: &Frame<'_>, b: Builder) -> Result<Builder, Memory>
+fn left(e: &Expr, how: Right, frame: &Frame<'_>, b: Builder) -> Result<Builder, Memory>
     requires { Serves frame.now }
     ensures { IfOk result (λ r. let scope = scope_of frame.now in
-        r ≡ with_items (operate_by o (right_of scope (expr_view e.now))
-        (value_items scope (4 * length b.code + 4) (expr_view e.now))) b) }
+        r ≡ with_items (left_by (right_view how) (value_push scope (expr_view e.now))
+        (value_items scope (4 * length b.code) (expr_view e.now))) b) }
 {
-    match right_of(e, frame)? {
+    match how {
+        Right::Known(_) | Right::Placed(_) => value(e, frame, b),
+        Right::Waiting => push_value(e, frame, b),
+    }
+}
+
+/// An operator behind its left operand, by how the right one comes.
+#[cycle(emit)]
+fn operate(
+    o: Operator,
+    e: &Expr,
+    how: Right,
+    frame: &Frame<'_>,
+    b: Builder,
+) -> Result<Builder, Memory>
+    requires { Serves frame.now }
+    ensures { IfOk result (λ r. r ≡ with_items (operate_by o (right_view how)
+        (value_items (scope_of frame.now) (4 * length b.code) (expr_view e.now))) b) }
+{
+    match how {
         Right::Known(v) => operate_known(o, v, b),
         Right::Placed(d) => operate_placed(o, d, b),
         Right::Waiting => {
-            let both = beside(e, frame, b)?;
-            let moved = both.put(Op::PopAlt, 0)?;
+            let right = value(e, frame, b)?;
+            let moved = right.put(Op::PopAlt, 0)?;
             operator(o, moved)
         }
     }
@@ -160,28 +250,96 @@ pub(crate) fn target(p: &Scalar, frame: &Frame<'_>, b: Builder) -> Result<Target
     }
 }
 
-/// A value for a place, to PRI, while the place's address waits where it has one.
+/// A value beside the address in PRI, which waits in ALT where the value is quiet, and else on the
+/// stack.
 #[cycle(emit)]
-fn operand(e: &Expr, frame: &Frame<'_>, at: Target) -> Result<Target, Memory>
+fn beside_address(e: &Expr, how: Right, frame: &Frame<'_>, b: Builder) -> Result<Builder, Memory>
     requires { Serves frame.now }
-    ensures code { IfOk result (λ r.
-        r.code ≡ with_items (value_part (perhaps_direct at.direct) (4 * length at.code.code)
+    ensures { IfOk result (λ r. r ≡ with_items (beside_part (right_view how)
+        (value_items (scope_of frame.now) (4 * length b.code + 4) (expr_view e.now))) b) }
+{
+    match how {
+        Right::Known(v) => move_constant(v, b),
+        Right::Placed(d) => move_placed(d, b),
+        Right::Waiting => beside(e, frame, b),
+    }
+}
+
+/// A value for a place, to PRI.
+#[cycle(emit)]
+fn operand(e: &Expr, frame: &Frame<'_>, at: Target) -> Result<Valued, Memory>
+    requires { Serves frame.now }
+    ensures code { IfOk result (λ r. r.code ≡ with_items
+        (value_part (perhaps_direct at.direct) (right_view r.how) (4 * length at.code.code)
         (λ q. value_items (scope_of frame.now) q (expr_view e.now))) at.code) }
     ensures direct { IfOk result (λ r. r.direct ≡ at.direct) }
+    ensures how { IfOk result (λ r.
+        right_view r.how ≡ right_of (scope_of frame.now) (expr_view e.now)) }
 {
     let Target { code, direct } = at;
+    let how = right_of(e, frame)?;
     match direct {
         None => {
-            let code = beside(e, frame, code)?;
-            Ok(Target { code, direct: None })
+            let code = beside_address(e, how, frame, code)?;
+            Ok(Valued {
+                code,
+                direct: None,
+                how,
+            })
         }
         Some(d) => {
             let code = value(e, frame, code)?;
-            Ok(Target {
+            Ok(Valued {
                 code,
                 direct: Some(d),
+                how,
             })
         }
+    }
+}
+
+/// An operand of an update, to PRI, where it isn't quiet; the place's address waits where it has
+/// one.
+#[cycle(emit)]
+fn waiting_operand(e: &Expr, frame: &Frame<'_>, at: Target) -> Result<Builder, Memory>
+    requires { Serves frame.now }
+    ensures { IfOk result (λ r. r ≡ with_items
+        (operand_part (perhaps_direct at.direct) Waiting (4 * length at.code.code)
+        (λ q. value_items (scope_of frame.now) q (expr_view e.now))) at.code) }
+{
+    let Target { code, direct } = at;
+    match direct {
+        None => beside(e, frame, code),
+        Some(_) => value(e, frame, code),
+    }
+}
+
+/// An update's operand, and how it comes.
+#[cycle(emit)]
+fn update_operand(e: &Expr, frame: &Frame<'_>, at: Target) -> Result<Valued, Memory>
+    requires { Serves frame.now }
+    ensures code { IfOk result (λ r. r.code ≡ with_items
+        (operand_part (perhaps_direct at.direct) (right_view r.how) (4 * length at.code.code)
+        (λ q. value_items (scope_of frame.now) q (expr_view e.now))) at.code) }
+    ensures direct { IfOk result (λ r. r.direct ≡ at.direct) }
+    ensures how { IfOk result (λ r.
+        right_view r.how ≡ right_of (scope_of frame.now) (expr_view e.now)) }
+{
+    let direct = at.direct;
+    match right_of(e, frame)? {
+        Right::Waiting => {
+            let code = waiting_operand(e, frame, at)?;
+            Ok(Valued {
+                code,
+                direct,
+                how: Right::Waiting,
+            })
+        }
+        how => Ok(Valued {
+            code: at.code,
+            direct,
+            how,
+        }),
     }
 }
 
@@ -193,7 +351,7 @@ pub(crate) fn value(e: &Expr, frame: &Frame<'_>, b: Builder) -> Result<Builder, 
         (value_items (scope_of frame.now) (4 * length b.code) (expr_view e.now)) b) }
 {
     match folded(e) {
-        Some(v) => b.put(Op::ConstPri, v),
+        Some(v) => constant(v, b),
         None => node(e, frame, b),
     }
 }
@@ -207,38 +365,32 @@ fn node(e: &Expr, frame: &Frame<'_>, b: Builder) -> Result<Builder, Memory>
         (value_items (scope_of frame.now) (4 * length b.code) (expr_view e.now)) b) }
 {
     match e {
-        Expr::Const(v) => b.put(Op::ConstPri, *v),
-        Expr::Read(p) => read(p, target(p, frame, b)?),
-        Expr::Unary(o, x) => prefix(*o, value(x, frame, b)?),
-        Expr::Binary(o, x, y) => operate(*o, y, frame, value(x, frame, b)?),
+        Expr::Const(v) => constant(*v, b),
+        Expr::Read(p) => read(p, frame, b),
+        Expr::Unary(o, x) => unary(*o, x, frame, b),
+        Expr::Binary(o, x, y) => binary(*o, x, y, frame, b),
         Expr::Chain(x, links) => chain(links, frame, value(x, frame, b)?),
-        Expr::And(x, y) => and_then(y, frame, value(x, frame, b)?),
-        Expr::Or(x, y) => or_else(y, frame, value(x, frame, b)?),
-        Expr::Cond(c, x, y) => {
-            let opened = first_part(x, frame, value(c, frame, b)?)?;
-            let end = last_cell(&opened)?;
-            let second = value(y, frame, opened)?;
-            land(end, second)
-        }
-        Expr::Assign(p, x) => write(p, operand(x, frame, target(p, frame, b)?)?),
-        Expr::Update(p, o, x) => update(p, *o, operand(x, frame, target(p, frame, b)?)?),
+        Expr::And(x, y) => conjunction(x, y, frame, b),
+        Expr::Or(x, y) => disjunction(x, y, frame, b),
+        Expr::Cond(c, x, y) => choice(c, x, y, frame, b),
+        Expr::Assign(p, x) => assignment(p, x, frame, b),
+        Expr::Update(p, o, x) => updating(p, *o, x, frame, b),
         Expr::UpdateBy(p, f, swapped, x, convert) => {
-            let both = beside(x, frame, place(p, frame, b)?)?;
-            updated_by(p, *f, *swapped, *convert, both)
+            let by = UserOperator {
+                function: *f,
+                swapped: *swapped,
+                convert: *convert,
+            };
+            user_update(p, by, x, frame, b)
         }
-        Expr::Step(p, delta, first) => step(p, *delta, *first, target(p, frame, b)?),
-        Expr::StepBy(p, f, first) => turned(p, *f, *first, place(p, frame, b)?),
-        Expr::Copy(to, from, n) => {
-            let (first, _) = array(to, frame, b)?;
-            copy(*n, array_beside(from, frame, first)?)
-        }
-        Expr::Operate(f, x, y, swapped) => {
-            operated(*f, *swapped, beside(y, frame, value(x, frame, b)?)?)
-        }
-        Expr::OperateOne(f, x) => one(*f, value(x, frame, b)?),
+        Expr::Step(p, delta, first) => one_step(p, *delta, *first, frame, b),
+        Expr::StepBy(p, f, first) => user_step(p, *f, *first, frame, b),
+        Expr::Copy(to, from, n) => array_copy(to, from, *n, frame, b),
+        Expr::Operate(f, x, y, swapped) => user_operator(*f, *swapped, x, y, frame, b),
+        Expr::OperateOne(f, x) => user_prefix(*f, x, frame, b),
         Expr::Call(f, args) => called(*f, args, frame, b),
         Expr::Native(n, args) => native_called(*n, args, frame, b),
-        Expr::Seq(x, y) => value(y, frame, value(x, frame, b)?),
+        Expr::Seq(x, y) => sequence(x, y, frame, b),
     }
 }
 
@@ -274,7 +426,7 @@ fn and_then(y: &Expr, frame: &Frame<'_>, b: Builder) -> Result<Builder, Memory>
     let first = truth(part)?;
     let opened = turn(other, first)?;
     let end = last_cell(&opened)?;
-    let second = opened.put(Op::ConstPri, 0)?;
+    let second = opened.put(Op::ZeroPri, 0)?;
     let done = land(end, second)?;
     Ok(done)
 }
@@ -298,125 +450,4 @@ fn or_else(y: &Expr, frame: &Frame<'_>, b: Builder) -> Result<Builder, Memory>
     let second = truth(part)?;
     let done = land(end, second)?;
     Ok(done)
-}
-
-/// A link with others behind it. Where it leads if it doesn't hold isn't known yet.
-#[cycle(emit)]
-fn middle(link: &Link, frame: &Frame<'_>, b: Builder) -> Result<Builder, Memory>
-    requires { Serves frame.now }
-    ensures { IfOk result (λ r. r ≡ with_items (middle_link_code 0
-        (value_items (scope_of frame.now) (4 * length b.code + 4) (expr_view link.now.operand))
-        (link_code link.now.op link.now.function link.now.swapped) []) b) }
-{
-    let both = beside(&link.operand, frame, b)?;
-    let waits = two(Op::PopAlt, Op::PushPri, both)?;
-    let tested = compared(link, waits)?;
-    let jumped = tested.put(Op::Jzer, 0)?;
-    let done = jumped.put(Op::PopPri, 0)?;
-    Ok(done)
-}
-
-/// The last link.
-#[cycle(emit)]
-fn last(link: &Link, frame: &Frame<'_>, b: Builder) -> Result<Builder, Memory>
-    requires { Serves frame.now }
-    ensures { IfOk result (λ r. r ≡ with_items (last_link_code
-        (value_items (scope_of frame.now) (4 * length b.code + 4) (expr_view link.now.operand))
-        (link_code link.now.op link.now.function link.now.swapped)) b) }
-{
-    let both = beside(&link.operand, frame, b)?;
-    let waits = both.put(Op::PopAlt, 0)?;
-    let done = compared(link, waits)?;
-    Ok(done)
-}
-
-/// The links of a chain, behind its first operand, and what stands behind several of them.
-#[cycle(emit)]
-fn chain(links: &List<Link>, frame: &Frame<'_>, b: Builder) -> Result<Builder, Memory>
-    requires { Serves frame.now }
-    ensures { IfOk result (λ r. r ≡ with_items
-        (chain_items (scope_of frame.now) (4 * length b.code) (links_view links.now)) b) }
-{
-    let items = links.as_slice();
-    if items.is_empty() {
-        return Ok(b);
-    }
-    let mut holes = List::new(frame.alloc);
-    let mut grown = b;
-    let end = items.len() - 1;
-    for i in 0..end {
-        let next = middle(&items[i], frame, grown)?;
-        let hole = cell_before_last(&next)?;
-        holes.push(hole)?;
-        grown = next;
-    }
-    let linked = last(&items[end], frame, grown)?;
-    ended(holes.as_slice(), linked)
-}
-
-/// An argument: what it is comes to PRI, and is pushed.
-#[cycle(emit)]
-fn argument(a: &Arg, frame: &Frame<'_>, b: Builder) -> Result<Builder, Memory>
-    requires { Serves frame.now }
-    ensures { IfOk result (λ r. r ≡ with_items
-        (arg_items (scope_of frame.now) (4 * length b.code) (arg_view a.now)) b) }
-{
-    match a {
-        Arg::Value(e) => value(e, frame, b)?.put(Op::PushPri, 0),
-        Arg::Ref(p) => place(p, frame, b)?.put(Op::PushPri, 0),
-        Arg::Whole(a) => {
-            let (whole, _) = array(a, frame, b)?;
-            whole.put(Op::PushPri, 0)
-        }
-        Arg::Temp(e) => temporary(value(e, frame, b)?),
-    }
-}
-
-/// Arguments, from the last to the first.
-#[cycle(emit)]
-fn arguments(args: &List<Arg>, frame: &Frame<'_>, b: Builder) -> Result<Builder, Memory>
-    requires { Serves frame.now }
-    ensures { IfOk result (λ r. r ≡ with_items
-        (args_items (scope_of frame.now) (4 * length b.code) (args_view args.now)) b) }
-{
-    let items = args.as_slice();
-    let mut grown = b;
-    for passed in 0..items.len() {
-        let at = items.len() - 1 - passed;
-        let next = argument(&items[at], frame, grown)?;
-        grown = next;
-    }
-    Ok(grown)
-}
-
-/// A call: its arguments, and what stands behind them.
-#[cycle(emit)]
-fn called(f: u32, args: &List<Arg>, frame: &Frame<'_>, b: Builder) -> Result<Builder, Memory>
-    requires { Serves frame.now }
-    ensures { IfOk result (λ r. let all = args_view args.now in
-        r ≡ with_items (call_code f (need.count_of all) (temporaries_in all)
-        (args_items (scope_of frame.now) (4 * length b.code) all)) b) }
-{
-    let count = count_of(args.len())?;
-    let cells = temporaries(args.as_slice())?;
-    let pushed = arguments(args, frame, b)?;
-    let done = counted(f, count, pushed)?;
-    let cleared = give_back(cells, done)?;
-    Ok(cleared)
-}
-
-/// A call of a native.
-#[cycle(emit)]
-fn native_called(n: u32, args: &List<Arg>, frame: &Frame<'_>, b: Builder) -> Result<Builder, Memory>
-    requires { Serves frame.now }
-    ensures { IfOk result (λ r. let all = args_view args.now in
-        r ≡ with_items (native_code n (need.count_of all) (temporaries_in all)
-        (args_items (scope_of frame.now) (4 * length b.code) all)) b) }
-{
-    let count = count_of(args.len())?;
-    let cells = temporaries(args.as_slice())?;
-    let pushed = arguments(args, frame, b)?;
-    let done = native(n, count, pushed)?;
-    let cleared = give_back(cells, done)?;
-    Ok(cleared)
 }

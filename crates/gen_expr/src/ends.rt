@@ -1,8 +1,11 @@
 ghost use Rattle.std.specs.Prelude.{◌≡◌, ◌*◌, ◌++◌, [], ◌∷◌, pos, IfOk, Some};
 ghost use Rattle.gen_sim.specs.SimpleCode.{alone, taking};
-ghost use Rattle.gen_sim.specs.IndexCode.{bounds_code};
+ghost use Rattle.gen_sim.specs.BaseCode.{base_item};
+ghost use Rattle.gen_sim.specs.IndexCode.{bounds_code, row_code};
 ghost use Rattle.gen_expr.specs.Built.{with_items};
+ghost use Rattle.gen_expr.specs.BaseView.{perhaps_base};
 
+use super::base::{Base, set_base};
 use super::builder::Builder;
 use super::operators::two;
 use super::put::cell_of;
@@ -43,59 +46,46 @@ pub fn bounds(size: Option<u64>, b: Builder) -> Result<Builder, Memory>
     }
 }
 
-/// The address of an element, of the array's in PRI behind the index.
+/// Behind an index: its test, and the array's address to ALT.
 #[tactic(auto, using(crate::proofs::GrowLaws::then_grow))]
-pub fn element(size: Option<u64>, b: Builder) -> Result<Builder, Memory>
-    ensures { IfOk result (λ r. r ≡ with_items
-        (bounds_code size ++ (alone Op.PopAlt ∷ alone Op.Idxaddr ∷ [])) b) }
+pub fn element(size: Option<u64>, base: Option<Base>, b: Builder) -> Result<Builder, Memory>
+    ensures { IfOk result (λ r.
+        r ≡ with_items (bounds_code size ++ base_item (perhaps_base base) ∷ []) b) }
 {
     let b = bounds(size, b)?;
-    let b = two(Op::PopAlt, Op::Idxaddr, b)?;
+    let b = set_base(base, b)?;
     Ok(b)
 }
 
 /// ALIGN turns the order of the bytes.
 #[tactic(auto, using(crate::proofs::GrowLaws::then_grow))]
-fn aligned(b: Builder) -> Result<Builder, Memory>
-    ensures { IfOk result (λ r. r ≡ with_items
-        (taking Op.AlignPri (pos 1) ∷ alone Op.PopAlt ∷ alone Op.Add ∷ []) b) }
+fn align(base: Option<Base>, b: Builder) -> Result<Builder, Memory>
+    ensures { IfOk result (λ r.
+        r ≡ with_items (taking Op.AlignPri (pos 1) ∷ base_item (perhaps_base base) ∷ []) b) }
 {
     let b = b.put(Op::AlignPri, 1)?;
-    let b = two(Op::PopAlt, Op::Add, b)?;
+    let b = set_base(base, b)?;
     Ok(b)
 }
 
-/// The address of a packed character, of which there are so many.
+/// Behind the index of a packed character, of which there are so many.
 #[tactic(auto, using(crate::proofs::GrowLaws::then_grow))]
-pub fn character(count: Option<u64>, b: Builder) -> Result<Builder, Memory>
+pub fn character(count: Option<u64>, base: Option<Base>, b: Builder) -> Result<Builder, Memory>
     ensures { IfOk result (λ r. r ≡ with_items (bounds_code count ++
-        (taking Op.AlignPri (pos 1) ∷ alone Op.PopAlt ∷ alone Op.Add ∷ [])) b) }
+        (taking Op.AlignPri (pos 1) ∷ base_item (perhaps_base base) ∷ [])) b) }
 {
     let b = bounds(count, b)?;
-    let b = aligned(b)?;
+    let b = align(base, b)?;
     Ok(b)
 }
 
-/// The offset of a row counts from the cell where it stands.
+/// The address of a row: its offset counts from the cell where it stands.
 #[tactic(auto, using(crate::proofs::GrowLaws::then_grow))]
-fn led(b: Builder) -> Result<Builder, Memory>
-    ensures { IfOk result (λ r. r ≡ with_items (alone Op.PopAlt ∷ alone Op.Idxaddr ∷
-        alone Op.MoveAlt ∷ alone Op.LoadI ∷ alone Op.Add ∷ []) b) }
+pub fn row(b: Builder) -> Result<Builder, Memory>
+    ensures { IfOk result (λ r. r ≡ with_items row_code b) }
 {
-    let b = two(Op::PopAlt, Op::Idxaddr, b)?;
-    let b = two(Op::MoveAlt, Op::LoadI, b)?;
-    let b = b.put(Op::Add, 0)?;
-    Ok(b)
-}
-
-/// The address of a row.
-#[tactic(auto, using(crate::proofs::GrowLaws::then_grow))]
-pub fn row(size: Option<u64>, b: Builder) -> Result<Builder, Memory>
-    ensures { IfOk result (λ r. r ≡ with_items (bounds_code size ++ (alone Op.PopAlt ∷
-        alone Op.Idxaddr ∷ alone Op.MoveAlt ∷ alone Op.LoadI ∷ alone Op.Add ∷ [])) b) }
-{
-    let b = bounds(size, b)?;
-    let b = led(b)?;
+    let b = two(Op::Idxaddr, Op::MoveAlt, b)?;
+    let b = two(Op::LoadI, Op::Add, b)?;
     Ok(b)
 }
 

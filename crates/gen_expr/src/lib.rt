@@ -3,9 +3,11 @@
 
 mod access;
 mod arguments;
+mod base;
 mod builder;
 mod calls;
 mod chain;
+mod conditions;
 mod counts;
 mod direct;
 mod effects;
@@ -15,12 +17,16 @@ mod ends;
 pub mod frame;
 pub mod jumps;
 pub mod operators;
+mod push;
 pub mod put;
 mod reach;
 mod right;
 mod steps;
 mod target;
+mod update;
 
 pub use builder::Builder;
+pub use conditions::{Test, condition};
 pub use effects::effect;
-pub use emitter::expression;
+pub use emitter::{expression, push_expression};
+pub use right::folded;

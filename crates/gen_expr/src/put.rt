@@ -1,8 +1,10 @@
 ghost use Rattle.std.specs.Prelude.{◌≡◌, ◌*◌, [], ◌∷◌, pos, length, IfOk};
 ghost use Rattle.gen_sim.specs.Items.{CallOf};
+ghost use Rattle.gen_sim.specs.SimpleCode.{const_code, alt_code};
 ghost use Rattle.gen_expr.specs.Built.{with_items};
 
 use super::builder::Builder;
+use amx_ops::Op;
 use pawn_base::Memory;
 
 /// A number as a cell. Where it is too large, no memory holds what it counts.
@@ -13,6 +15,28 @@ pub fn cell_of(n: u64) -> Result<i32, Memory>
         Ok(n as i32)
     } else {
         Err(Memory)
+    }
+}
+
+/// A cell that is known, to PRI.
+pub fn constant(v: i32, b: Builder) -> Result<Builder, Memory>
+    ensures { IfOk result (λ r. r ≡ with_items (const_code v) b) }
+{
+    if v == 0 {
+        b.put(Op::ZeroPri, 0)
+    } else {
+        b.put(Op::ConstPri, v)
+    }
+}
+
+/// A cell that is known, to ALT.
+pub fn constant_alt(v: i32, b: Builder) -> Result<Builder, Memory>
+    ensures { IfOk result (λ r. r ≡ with_items (alt_code v) b) }
+{
+    if v == 0 {
+        b.put(Op::ZeroAlt, 0)
+    } else {
+        b.put(Op::ConstAlt, v)
     }
 }
 

@@ -10,7 +10,7 @@ use pawn_meaning::Shape;
 
 /// How far an array reaches, where there is one: its sizes, or those behind a first one that isn't
 /// known.
-#[derive(Clone, Copy)]
+#[derive(Clone, Copy, Debug)]
 pub enum Reach {
     Nothing,
     Known(Shape),

@@ -1,20 +1,25 @@
-ghost use Rattle.std.specs.Prelude.{◌≡◌, false, ◌∷◌, IfOk};
+ghost use Rattle.std.specs.Prelude.{◌≡◌, false, ◌∷◌, ◌++◌, IfOk, []};
 ghost use Rattle.pawn_meaning.specs.View.{expr_view};
 ghost use Rattle.pawn_meaning.specs.Fold as folding;
-ghost use Rattle.gen_sim.specs.SimpleCode.{taking};
+ghost use Rattle.gen_sim.specs.SimpleCode.{taking, alt_code, alone, const_code};
+ghost use Rattle.gen_sim.specs.DirectCode.{direct_load};
 ghost use Rattle.gen_sim.specs.OperandCode.{right_of, read_place, loaded_code, known_code};
+ghost use Rattle.gen_sim.specs.ChainCode.{loaded_compare, compare_by};
 ghost use Rattle.gen_expr.specs.Built.{with_items};
 ghost use Rattle.gen_expr.specs.DirectView.{direct_view, perhaps_direct};
+ghost use Rattle.gen_sim.specs.ChangeCode.{leaves_alt};
 ghost use Rattle.gen_expr.specs.RightView.{right_view};
+ghost use Rattle.gen_expr.specs.TargetCode.{change_part};
 ghost use Rattle.gen_expr.specs.Standing.{scope_of, Serves};
 
 use super::builder::Builder;
 use super::direct::{Direct, direct_of};
 use super::frame::Frame;
-use super::operators::two;
+use super::operators::{compare, two};
+use super::put::{constant, constant_alt};
 use amx_ops::Op;
 use pawn_base::Memory;
-use pawn_cells::{Cell, Operator};
+use pawn_cells::{Cell, Comparison, Operator};
 use pawn_meaning::{Expr, fold};
 
 /// How a right operand comes, while the left one is in PRI.
@@ -100,9 +105,9 @@ fn operate_loaded(o: Operator, b: Builder) -> Result<Builder, Memory>
 /// An operator whose right operand goes to ALT as it is.
 #[tactic(auto, using(crate::proofs::GrowLaws::then_grow))]
 fn operate_constant(o: Operator, v: i32, b: Builder) -> Result<Builder, Memory>
-    ensures { IfOk result (λ r. r ≡ with_items (taking Op.ConstAlt v ∷ loaded_code o) b) }
+    ensures { IfOk result (λ r. r ≡ with_items (alt_code v ++ loaded_code o) b) }
 {
-    let b = b.put(Op::ConstAlt, v)?;
+    let b = constant_alt(v, b)?;
     let b = operate_loaded(o, b)?;
     Ok(b)
 }
@@ -136,5 +141,83 @@ pub fn operate_placed(o: Operator, d: Direct, b: Builder) -> Result<Builder, Mem
 {
     let b = d.load_alt(b)?;
     let b = operate_loaded(o, b)?;
+    Ok(b)
+}
+
+/// A comparison, with the left operand in PRI and the right one in ALT.
+fn compare_loaded(o: Comparison, b: Builder) -> Result<Builder, Memory>
+    ensures { IfOk result (λ r. r ≡ with_items (alone (loaded_compare o) ∷ []) b) }
+{
+    match o {
+        Comparison::Less => b.put(Op::Sless, 0),
+        Comparison::LessEqual => b.put(Op::Sleq, 0),
+        Comparison::Greater => b.put(Op::Sgrtr, 0),
+        Comparison::GreaterEqual => b.put(Op::Sgeq, 0),
+    }
+}
+
+/// A comparison, by how its right operand was brought.
+pub fn compare_by(how: Right, o: Comparison, b: Builder) -> Result<Builder, Memory>
+    ensures { IfOk result (λ r. r ≡ with_items (alone (compare_by (right_view how) o) ∷ []) b) }
+{
+    match how {
+        Right::Known(_) | Right::Placed(_) => compare_loaded(o, b),
+        Right::Waiting => compare(o, b),
+    }
+}
+
+/// Whether an operator's instruction with a known operand leaves ALT as it is.
+pub fn leaves_alt(o: Operator) -> bool
+    ensures { result ≡ leaves_alt o }
+{
+    match o {
+        Operator::Multiply
+        | Operator::Add
+        | Operator::Subtract
+        | Operator::ShiftLeft
+        | Operator::ShiftUnsigned
+        | Operator::Equal => true,
+        Operator::Divide
+        | Operator::Remainder
+        | Operator::ShiftRight
+        | Operator::And
+        | Operator::Xor
+        | Operator::Or
+        | Operator::NotEqual => false,
+    }
+}
+
+impl Right {
+    /// An operator on the value in PRI, by a right operand that is known, at a direct place, or in
+    /// ALT.
+    pub fn change(self, o: Operator, b: Builder) -> Result<Builder, Memory>
+        ensures { IfOk result (λ r. r ≡ with_items (change_part o (right_view self)) b) }
+    {
+        match self {
+            Right::Known(v) => operate_known(o, v, b),
+            Right::Placed(d) => operate_placed(o, d, b),
+            Right::Waiting => operate_loaded(o, b),
+        }
+    }
+}
+
+/// The address in PRI goes to ALT, and a known value to PRI.
+#[tactic(auto, using(crate::proofs::GrowLaws::then_grow))]
+pub fn move_constant(v: i32, b: Builder) -> Result<Builder, Memory>
+    ensures { IfOk result (λ r. r ≡ with_items (alone Op.MoveAlt ∷ const_code v) b) }
+{
+    let b = b.put(Op::MoveAlt, 0)?;
+    let b = constant(v, b)?;
+    Ok(b)
+}
+
+/// The address in PRI goes to ALT, and a direct place's cell to PRI.
+#[tactic(auto, using(crate::proofs::GrowLaws::then_grow))]
+pub fn move_placed(d: Direct, b: Builder) -> Result<Builder, Memory>
+    ensures { IfOk result (λ r.
+        r ≡ with_items (alone Op.MoveAlt ∷ direct_load (direct_view d)) b) }
+{
+    let b = b.put(Op::MoveAlt, 0)?;
+    let b = d.load(b)?;
     Ok(b)
 }

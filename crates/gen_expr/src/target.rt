@@ -1,15 +1,18 @@
 ghost use Rattle.std.specs.Prelude.{◌≡◌, ℤ, IfOk};
 ghost use Rattle.pawn_meaning.specs.View.{scalar_view};
-ghost use Rattle.gen_sim.specs.SimpleCode.{operator_code};
 ghost use Rattle.gen_expr.specs.Built.{with_items};
 ghost use Rattle.gen_expr.specs.DirectView.{perhaps_direct};
-ghost use Rattle.gen_expr.specs.TargetCode.{read_part, write_part, update_part, step_part};
-ghost use Rattle.gen_expr.specs.TargetCode.{effect_part};
+ghost use Rattle.gen_expr.specs.RightView.{right_view};
+ghost use Rattle.gen_expr.specs.TargetCode.{write_part, update_part, step_part};
+ghost use Rattle.gen_expr.specs.TargetCode.{effect_part, effect_there_part};
 
-use super::access::{load, stored, updated};
+use super::access::{store, stored};
 use super::builder::Builder;
 use super::direct::Direct;
+use super::right::Right;
 use super::steps::stepped;
+use super::update::{update_direct, update_there};
+use amx_ops::Op;
 use pawn_base::Memory;
 use pawn_cells::Operator;
 use pawn_meaning::Scalar;
@@ -22,40 +25,40 @@ pub struct Target {
     pub direct: Option<Direct>,
 }
 
-/// What stands at the place goes to PRI.
-pub fn read(place: &Scalar, at: Target) -> Result<Builder, Memory>
-    ensures { IfOk result (λ r. r ≡ with_items
-        (read_part (perhaps_direct at.direct) (scalar_view place.now)) at.code) }
-{
-    let Target { code, direct } = at;
-    match direct {
-        None => load(place, code),
-        Some(d) => d.load(code),
-    }
+/// Code behind which a value is stored, or makes a new one, with how the value comes.
+#[derive(Debug, Drop)]
+pub struct Valued {
+    pub code: Builder,
+    pub direct: Option<Direct>,
+    pub how: Right,
 }
 
 /// The value in PRI is stored.
-pub fn write(place: &Scalar, at: Target) -> Result<Builder, Memory>
+pub fn write(place: &Scalar, at: Valued) -> Result<Builder, Memory>
     ensures { IfOk result (λ r. r ≡ with_items
-        (write_part (perhaps_direct at.direct) (scalar_view place.now)) at.code) }
+        (write_part (perhaps_direct at.direct) (right_view at.how) (scalar_view place.now))
+        at.code) }
 {
-    let Target { code, direct } = at;
+    let Valued { code, direct, how } = at;
     match direct {
-        None => stored(place, code),
+        None => match how {
+            Right::Known(_) | Right::Placed(_) => store(place, code),
+            Right::Waiting => stored(place, code),
+        },
         Some(d) => d.store(code),
     }
 }
 
-/// An operator makes a new value of what is there and the operand in PRI, and it is stored.
-pub fn update(place: &Scalar, o: Operator, at: Target) -> Result<Builder, Memory>
+/// An operator makes a new value of what is there and the operand, and it is stored.
+pub fn update(place: &Scalar, o: Operator, at: Valued) -> Result<Builder, Memory>
     ensures { IfOk result (λ r. r ≡ with_items
-        (update_part (perhaps_direct at.direct) (scalar_view place.now) (operator_code o))
+        (update_part (perhaps_direct at.direct) (right_view at.how) (scalar_view place.now) o)
         at.code) }
 {
-    let Target { code, direct } = at;
+    let Valued { code, direct, how } = at;
     match direct {
-        None => updated(place, o, code),
-        Some(d) => d.update(o, code),
+        None => update_there(place, o, how, code),
+        Some(d) => update_direct(place, d, o, how, code),
     }
 }
 
@@ -71,14 +74,31 @@ pub fn step(place: &Scalar, delta: i32, prefix: bool, at: Target) -> Result<Buil
     }
 }
 
+/// A step at the address in PRI, whose value isn't used.
+fn step_there(place: &Scalar, delta: i32, b: Builder) -> Result<Builder, Memory>
+    ensures { IfOk result (λ r.
+        r ≡ with_items (effect_there_part (scalar_view place.now) delta) b) }
+{
+    match place {
+        Scalar::Char(..) => stepped(place, delta, true, b),
+        Scalar::Global(_) | Scalar::Slot(_) | Scalar::Through(_) | Scalar::Element(..) => {
+            if delta < 0 {
+                b.put(Op::DecI, 0)
+            } else {
+                b.put(Op::IncI, 0)
+            }
+        }
+    }
+}
+
 /// A step whose value isn't used.
-pub fn step_unused(place: &Scalar, delta: i32, prefix: bool, at: Target) -> Result<Builder, Memory>
+pub fn step_unused(place: &Scalar, delta: i32, at: Target) -> Result<Builder, Memory>
     ensures { IfOk result (λ r. r ≡ with_items
-        (effect_part (perhaps_direct at.direct) (scalar_view place.now) delta prefix) at.code) }
+        (effect_part (perhaps_direct at.direct) (scalar_view place.now) delta) at.code) }
 {
     let Target { code, direct } = at;
     match direct {
-        None => stepped(place, delta, prefix, code),
+        None => step_there(place, delta, code),
         Some(d) => d.step_unused(delta, code),
     }
 }

@@ -13,7 +13,7 @@ returns-in_ok-target-in-Step t c =
     let s = scope_of c.args.frame.now in
     let p = scalar_view c.in-Step.p in
     let f : FitsSigned w32 c.in-Step.delta = search rules in
-    rw c.in-Step.is (then_effect (direct_of s p) _ p c.in-Step.delta c.in-Step.prefix c.args.b _ _
+    rw c.in-Step.is (then_effect (direct_of s p) _ p c.in-Step.delta c.args.b _ _
     (place_items s (4 * length c.args.b.code) p)
     c.in_ok-target-in-Step.ensures.direct c.in_ok-target-in-Step.ensures.code
     (rw (to_z-of_z w32 c.in-Step.delta f) at c.step_unused.ensures))
