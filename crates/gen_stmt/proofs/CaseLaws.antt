@@ -4,7 +4,7 @@ use Rattle.std.proofs.Common.{drop, get_or, length, add-one, refl, sym, ap, subs
 use Rattle.std.proofs.Common.{append_assoc, append-nil, length-append}
 use Rattle.std.proofs.Math.Seq.{drop-cons}
 use Rattle.std.proofs.lemmas.List.{drop_all}
-use Rattle.pawn_meaning.specs.Program.{Stmt, Cases, no_cases, then_case}
+use Rattle.pawn_meaning.specs.Program.{Stmt, no_cases, then_case}
 use Rattle.pawn_meaning.specs.View.{stmt_view, cases_view}
 use Rattle.pawn_meaning.specs.declared.node.Case.{Case}
 use Rattle.pawn_meaning.specs.Weight.{values_in}

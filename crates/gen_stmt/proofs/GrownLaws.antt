@@ -1,7 +1,7 @@
 -- What is appended to drafts, one behind another.
 use Rattle.std.proofs.Common.{◌≡◌, ◌+◌, ◌*◌, ◌≤◌, ℕ, pos, List, [], ◌∷◌, ◌++◌, length, refl, sym}
 use Rattle.std.proofs.Common.{ap, subst, ◌∙◌, arith, length-append}
-use Rattle.amx_ops.specs.declared.op.Op.TheVariants as op
+use Rattle.amx_ops.specs.declared.op.Op.{Op}
 use Rattle.gen_sim.specs.Items.{Item, item_cells, past}
 use Rattle.gen_sim.specs.JumpCode.{jump_to}
 use Rattle.gen_sim.specs.Here.{Exits}
@@ -9,7 +9,7 @@ use Rattle.gen_expr.specs.Built.{Built, with_items}
 use Rattle.gen_expr.specs.Filled.{filled}
 use Rattle.gen_expr.proofs.GrowLaws.{then_grow, none_grow, next_at}
 use Rattle.gen_expr.proofs.PartLaws.{keeps_cells}
-use Rattle.gen_expr.proofs.JumpLaws.{jump_filled}
+use Rattle.gen_expr.proofs.JumpLaws.{Wide, wide_cells, wide_filled}
 use Rattle.gen_stmt.specs.declared.draft.Draft.{Draft}
 use Rattle.gen_stmt.specs.declared.draft.Exit.{Exit}
 use Rattle.gen_stmt.specs.declared.draft.Hole.{Hole}
@@ -87,18 +87,18 @@ part_grown o m r first rest f g =
     (then_grown o m r first (λ exits. rest exits (4 * length m.code.code)) f g)
 
 -- a jump to an exit
-pub hole_grown : (o r : Draft) (m : Built) (at : ℕ) (e : Exit)
-    → m ≡ with_items (jump_to op.Jump 0 ∷ []) o.code → at + 1 ≡ length m.code
+pub hole_grown : (k : Op) → Wide k → (o r : Draft) (m : Built) (at : ℕ) (e : Exit)
+    → m ≡ with_items (jump_to k 0 ∷ []) o.code → at + 1 ≡ length m.code
     → r ≡ record { code = m; holes = o.holes ++ record { at = at; exit = e } ∷ [] }
-    → Grown o r (λ exits. jump_to op.Jump (exit_at exits e) ∷ [])
-hole_grown o r m at e em ea er =
-    let zero_jump : List Item = jump_to op.Jump 0 ∷ [] in
+    → Grown o r (λ exits. jump_to k (exit_at exits e) ∷ [])
+hole_grown k wide o r m at e em ea er =
+    let zero_jump : List Item = jump_to k 0 ∷ [] in
     let hole : Hole = record { at = at; exit = e } in
     let cells : length m.code ≡ length o.code.code + 2 =
-    ap (λ (z : Built). length z.code) em ∙ length-append o.code.code (item_cells zero_jump) in
+    wide_cells k wide o.code m (pos 0) em in
     let d : Draft = record { code = m; holes = o.holes ++ hole ∷ [] } in
     let led_is : IsDraft o → (exits : Exits)
-    → led exits d ≡ with_items (jump_to op.Jump (exit_at exits e) ∷ []) (led exits o) =
+    → led exits d ≡ with_items (jump_to k (exit_at exits e) ∷ []) (led exits o) =
     λ h exits.
     let before : Built = led exits o in
     let place : at ≡ length before.code + 1 =
@@ -109,9 +109,9 @@ hole_grown o r m at e em ea er =
     ∙ ap (λ (z : Built). filled at (exit_by (pos exits.broke) (pos exits.continued) e) z)
     (led_before (pos exits.broke) (pos exits.continued) o.holes zero_jump o.code h)
     ∙ ap (λ v. filled at v (with_items zero_jump before)) (exit_is exits e)
-    ∙ ap (λ k. filled k (pos (exit_at exits e)) (with_items zero_jump before)) place
-    ∙ jump_filled before (with_items zero_jump before) [] (pos (exit_at exits e)) refl in
-    let g : Grown o d (λ exits. jump_to op.Jump (exit_at exits e) ∷ []) = record {
+    ∙ ap (λ n. filled n (pos (exit_at exits e)) (with_items zero_jump before)) place
+    ∙ wide_filled k wide before (with_items zero_jump before) [] (pos (exit_at exits e)) refl in
+    let g : Grown o d (λ exits. jump_to k (exit_at exits e) ∷ []) = record {
       long = omega (arith, cells);
       inside = λ h. in_both (length m.code) o.holes (hole ∷ [])
           (in_more (length o.code.code) (length m.code) o.holes (omega (arith, cells)) h)
@@ -121,4 +121,4 @@ hole_grown o r m at e em ea er =
           λ other within others. others_both other o.holes (hole ∷ []) others
           ((λ x. omega (arith, x, within, ea, cells)), tt);
     } in
-    subst (λ (z : Draft). Grown o z (λ exits. jump_to op.Jump (exit_at exits e) ∷ [])) (sym er) g
+    subst (λ (z : Draft). Grown o z (λ exits. jump_to k (exit_at exits e) ∷ [])) (sym er) g

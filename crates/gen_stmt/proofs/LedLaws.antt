@@ -8,6 +8,7 @@ use Rattle.gen_sim.specs.Items.{Item, item_cells, waits_from}
 use Rattle.gen_sim.specs.Here.{Exits}
 use Rattle.gen_expr.specs.Built.{Built, with_items}
 use Rattle.gen_expr.specs.Filled.{filled}
+use Rattle.gen_expr.proofs.PartLaws.{keeps_cells}
 use Rattle.gen_stmt.specs.declared.draft.Exit.{Exit}
 use Rattle.gen_stmt.specs.declared.draft.Exit.TheVariants as exit
 use Rattle.gen_stmt.specs.declared.draft.Hole.{Hole}
@@ -93,6 +94,22 @@ led_append broke continued (hole ∷ holes) more b =
 pub in_more : (n k : ℕ) (holes : List Hole) → n ≤ k → AreIn n holes → AreIn k holes
 in_more n k [] le all = tt
 in_more n k (hole ∷ holes) le all = (omega (arith, all.0), in_more n k holes le all.1)
+
+-- where a jump was led, and more was appended
+pub landed_in : (y l : Built) (n hole : ℕ) (to : ℤ) (holes : List Hole) → l ≡ filled hole to y
+    → length l.code ≤ n → AreIn (length y.code) holes → AreIn n holes
+landed_in y l n hole to holes el le all =
+    let same : length l.code ≡ length y.code =
+    ap (λ (z : Built). length z.code) el ∙ filled_cells hole to y in
+    in_more (length y.code) n holes (omega (arith, same, le)) all
+
+-- and where others were led
+pub led_in : (broke continued : ℤ) (jumps holes : List Hole) (b r : Built)
+    → r ≡ all_led broke continued jumps b → AreIn (length b.code) holes
+    → AreIn (length r.code) holes
+led_in broke continued jumps holes b r e all =
+    subst (λ n. AreIn n holes)
+    (sym (ap (λ (z : Built). length z.code) e ∙ led_cells broke continued jumps b)) all
 
 pub in_both : (n : ℕ) (holes more : List Hole) → AreIn n holes → AreIn n more
     → AreIn n (holes ++ more)

@@ -1,13 +1,15 @@
 pub mod ArmLaws
+pub mod BranchLaws
 pub mod CaseLaws
 pub mod CellLaws
-pub mod ChoiceLaws
 pub mod CountLaws
 pub mod EndedLaws
 pub mod FindLaws
 pub mod GrownLaws
+pub mod KindLaws
 pub mod LeaveLaws
 pub mod LedLaws
+pub mod LeavesLaws
 pub mod LeftLaws
 pub mod LoopLaws
 pub mod MakeLaws

@@ -1,5 +1,5 @@
 -- The last step of a function may want memory, and so may the whole.
-use Rattle.std.proofs.Common.{◌≡◌, ◌+◌, ◌*◌, ℕ, List, ◌++◌, length, Result, Ok, Err, IfOk}
+use Rattle.std.proofs.Common.{◌≡◌, ◌*◌, ℕ, List, ◌++◌, length, Result, Ok, Err, IfOk}
 use Rattle.gen_sim.specs.Items.{Item, past}
 use Rattle.gen_sim.specs.Here.{Exits}
 use Rattle.gen_expr.specs.Built.{with_items}

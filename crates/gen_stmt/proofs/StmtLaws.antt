@@ -1,31 +1,32 @@
 -- The code of each sort of statement, by what its parts appended.
-use Rattle.std.proofs.Common.{◌≡◌, ◌+◌, ◌*◌, ◌≤◌, ℕ, ℤ, pos, List, [], ◌∷◌, ◌++◌, drop, length, map}
-use Rattle.std.proofs.Common.{refl, sym, ap, subst, ◌∙◌, Result, Ok, Err, IfOk}
+use Rattle.std.proofs.Common.{◌≡◌, ◌+◌, ◌*◌, ◌≤◌, ℕ, ℤ, pos, Bool, List, [], ◌∷◌, ◌++◌, true, drop, length}
+use Rattle.std.proofs.Common.{map, refl, sym, ap, subst, ◌∙◌, Result, Ok, Err, IfOk}
 use Rattle.pawn_meaning.specs.Program.{Expr, Stmt, Stmts, Perhaps}
 use Rattle.pawn_meaning.specs.View.{slot_view}
 use Rattle.pawn_meaning.specs.ValidStmts.{slots_made_by}
 use Rattle.amx_ops.specs.declared.op.Op.TheVariants as op
 use Rattle.gen_sim.specs.Items.{Item, past}
 use Rattle.gen_sim.specs.SimpleCode.{alone, taking}
-use Rattle.gen_sim.specs.JumpCode.{jump_to, other_at, choice_code}
+use Rattle.gen_sim.specs.JumpCode.{jump_to, other_at}
 use Rattle.gen_sim.specs.Here.{Exits}
 use Rattle.gen_sim.specs.FlowCode.{leave_code}
 use Rattle.gen_laws.specs.ExprCode.{value_items}
-use Rattle.gen_laws.specs.ClosedCode.{closed_if, closed_loop, closed_until}
-use Rattle.gen_laws.specs.StmtCode.{condition_items, step_items, stmt_items, stmts_items, for_items}
+use Rattle.gen_laws.specs.GoesOn.{list_leaves, at_end_of, dropped_by}
+use Rattle.gen_laws.specs.ClosedCode.{closed_until}
+use Rattle.gen_laws.specs.StmtCode.{step_items, stmt_items}
+use Rattle.gen_laws.specs.StmtCode.{stmts_items, for_items}
+use Rattle.gen_laws.specs.BranchItems.{jump_items, perhaps_jumps}
 use Rattle.pawn_meaning.specs.Program as plain
 use Rattle.gen_expr.specs.Built.{Built, with_items}
 use Rattle.gen_expr.specs.Filled.{filled}
 use Rattle.gen_expr.proofs.GrowLaws.{both_grow, then_grow, none_grow}
-use Rattle.gen_expr.proofs.PartLaws.{behind as then_rest}
 use Rattle.gen_stmt.specs.declared.draft.Draft.{Draft}
 use Rattle.gen_stmt.specs.declared.draft.Hole.{Hole}
 use Rattle.gen_stmt.specs.Led.{all_led, AreOthers}
 use Rattle.gen_stmt.specs.Grown.{IsDraft, Grown}
-use Rattle.gen_stmt.specs.Looped.{nowhere, repeat_code}
+use Rattle.gen_stmt.specs.Looped.{nowhere}
 use Rattle.gen_stmt.proofs.GrownLaws.{code_grown, grown_as, then_grown, part_grown}
-use Rattle.gen_stmt.proofs.ChoiceLaws.{choice_grown}
-use Rattle.gen_stmt.proofs.LoopLaws.{begun, loop_closed, until_closed}
+use Rattle.gen_stmt.proofs.LoopLaws.{begun, loop_done, until_closed}
 use Rattle.gen_stmt.specs.Keeps.{scope_in}
 use Rattle.gen_stmt.specs.declared.locals.Mark.{Mark}
 use Rattle.gen_stmt.specs.declared.place.Place.{Place}
@@ -36,67 +37,27 @@ use Rattle.gen_stmt.proofs.StandLaws.{dropped_more, begun_here}
 -- ---- blocks
 
 pub block_done : {E : Type 0} (place : Place) (since cells : ℕ) (old new : List ℕ) (mark : Mark)
-    (stmts : Stmts) (b m : Draft) (r : Result Draft E)
+    (stmts : Stmts) (never : Bool) (b m : Draft) (r : Result Draft E) → never ≡ list_leaves stmts
     → Grown b m (λ exits. stmts_items (here_in place old since exits)
     (4 * length b.code.code) stmts)
     → mark ≡ record { made = length old; cells = cells } → new ≡ old ++ slots_made_by stmts
     → IfOk r (λ x. Grown m x (λ exits. leave_code (map slot_view place.slots.now)
-    (drop mark.made new)))
+    (at_end_of never (drop mark.made new))))
     → IfOk r (λ x. Grown b x (λ exits. stmt_items (here_in place old since exits)
     (4 * length b.code.code) (plain.Block stmts)))
-block_done place since cells old new mark stmts b m (Ok x) f em en g =
+block_done place since cells old new mark stmts never b m (Ok x) is f em en g =
     let slots = map slot_view place.slots.now in
     let dropped : drop mark.made new ≡ slots_made_by stmts =
     ap (λ l. drop mark.made l) en ∙ dropped_more mark cells old (slots_made_by stmts) em in
     then_grown b m x (λ exits. stmts_items (here_in place old since exits)
-    (4 * length b.code.code) stmts) (λ exits. leave_code slots (slots_made_by stmts)) f
-    (grown_as m x (λ exits. leave_code slots (drop mark.made new))
-    (λ exits. leave_code slots (slots_made_by stmts))
-    (λ h exits. ap (λ l. leave_code slots l) dropped) g)
-block_done place since cells old new mark stmts b m (Err fault) f em en g = g
-
--- ---- `if`
-
-pub if_done : {E : Type 0} (b c t y : Draft) (r : Result Draft E) (condition : List Item)
-    (first second : Exits → ℕ → List Item) (end : ℕ)
-    → Grown b c (λ exits. condition)
-    → Grown c t (λ exits. let p = 4 * length c.code.code in
-    jump_to op.Jzer (other_at p (first exits (p + 8)))
-    ∷ (first exits (p + 8) ++ jump_to op.Jump 0 ∷ []))
-    → (IsDraft c → (at : ℕ) → at + 1 ≡ length t.code.code → AreOthers at t.holes)
-    → end + 1 ≡ length t.code.code
-    → Grown t y (λ exits. second exits (4 * length t.code.code))
-    → IfOk r (λ x. x ≡ record {
-      code = filled end (pos (4 * length y.code.code)) y.code;
-      holes = y.holes;
-    })
-    → IfOk r (λ x. Grown b x (λ exits. closed_if (4 * length b.code.code) condition (first exits)
-    (second exits)))
-if_done b c t y (Ok x) condition first second end gc gt free ee gy er =
-    part_grown b c x (λ exits. condition)
-    (λ exits p. choice_code p (first exits (p + 8))
-    (second exits (other_at p (first exits (p + 8))))) gc
-    (choice_grown c t y x (λ exits. first exits (4 * length c.code.code + 8)) second end gt ee
-    (λ h. free h end ee) gy er)
-if_done b c t y (Err fault) condition first second end gc gt free ee gy er = er
+    (4 * length b.code.code) stmts) (λ exits. leave_code slots (dropped_by stmts)) f
+    (grown_as m x (λ exits. leave_code slots (at_end_of never (drop mark.made new)))
+    (λ exits. leave_code slots (dropped_by stmts))
+    (λ h exits. ap (λ l. leave_code slots (at_end_of never l)) dropped
+    ∙ ap (λ k. leave_code slots (at_end_of k (slots_made_by stmts))) is) g)
+block_done place since cells old new mark stmts never b m (Err fault) is f em en g = g
 
 -- ---- loops
-
-pub loop_done : (b t j y r : Built) (x : Draft) (test : List Item) (body : Exits → ℕ → List Item)
-    (step : ℕ → List Item) (top more : ℤ) (hole : ℕ)
-    → top ≡ pos (4 * length b.code) → t ≡ with_items test b
-    → j ≡ with_items (jump_to op.Jzer 0 ∷ []) t → hole + 1 ≡ length j.code
-    → Grown (begun j) x (λ exits. body exits (4 * length j.code))
-    → more ≡ pos (4 * length x.code.code)
-    → y ≡ with_items (step (4 * length x.code.code)) x.code → r ≡ closed_by hole top more x.holes y
-    → r ≡ with_items (closed_loop (4 * length b.code) test
-    (λ exits. body exits (past (4 * length b.code) test + 8)) step) b
-loop_done b t j y r x test body step top more hole et ec ej eo gx em ey er =
-    let z : Built = with_items (taking op.Jump top ∷ []) y in
-    then_rest b t r test (λ q. repeat_code q (pos (4 * length b.code)) body step) ec
-    (loop_closed t j y z _ r x body step top more (pos (4 * length z.code)) hole ej eo gx em ey refl
-    refl refl er
-    ∙ ap (λ v. with_items (repeat_code (4 * length t.code) v body step) t) et)
 
 pub until_done : (b j y r : Built) (x : Draft) (body : Exits → ℕ → List Item) (test : ℕ → List Item)
     (top more : ℤ)
@@ -163,41 +124,46 @@ body_done place made since b o d s eo es g =
     (subst (λ (z : Draft). Grown z d
     (λ exits. stmt_items (here_in place made since exits) (4 * length z.code.code) s)) eo g)
 
-pub while_done : (place : Place) (made : List ℕ) (b : Draft) (t j y r : Built) (x : Draft)
-    (c : Expr) (s : Stmt) (top more : ℤ) (hole : ℕ)
-    → top ≡ pos (4 * length b.code.code)
-    → t ≡ with_items (value_items (scope_in place made) (4 * length b.code.code) c) b.code
-    → j ≡ with_items (jump_to op.Jzer 0 ∷ []) t → hole + 1 ≡ length j.code
+pub while_done : (place : Place) (made : List ℕ) (b : Draft) (j l r : Built) (t x : Draft)
+    (c : Expr) (s : Stmt) (start more : ℤ) (hole : ℕ)
+    → j ≡ with_items (jump_to op.Jump 0 ∷ []) b.code → hole + 1 ≡ length j.code
+    → start ≡ pos (4 * length j.code)
     → Grown (begun j) x (λ exits. stmt_items (within_in place made exits) (4 * length j.code) s)
     → more ≡ pos (4 * length x.code.code)
-    → y ≡ x.code → r ≡ closed_by hole top more x.holes y
+    → l ≡ filled hole (pos (4 * length x.code.code)) x.code
+    → Grown (begun l) t (λ exits. jump_items (scope_in place made) true exits.broke
+    (4 * length l.code) c)
+    → r ≡ closed_by t start more x.holes
     → Grown b (record { code = r; holes = b.holes })
     (λ exits. stmt_items (within_in place made exits) (4 * length b.code.code) (plain.While c s))
-while_done place made b t j y r x c s top more hole et ec ej eo gx em ey er =
+while_done place made b j l r t x c s start more hole ej eo es gx em el gt er =
     let scope = scope_in place made in
     code_grown b r (stmt_items (within_in place made nowhere) (4 * length b.code.code)
     (plain.While c s))
-    (loop_done b.code t j y r x (value_items scope (4 * length b.code.code) c)
-    (λ exits q. stmt_items (within_in place made exits) q s) (λ q. []) top more hole
-    et ec ej eo gx em (ey ∙ none_grow x.code) er)
+    (loop_done b.code j x.code l r t x
+    (λ exits q. stmt_items (within_in place made exits) q s) (λ q. [])
+    (λ to q. jump_items scope true to q c) start more hole ej eo es gx em (none_grow x.code) el gt
+    er)
 
-pub for_loop_done : (place : Place) (made : List ℕ) (b : Draft) (t j y r : Built) (x : Draft)
-    (c next : Perhaps) (s : Stmt) (top more : ℤ) (hole : ℕ)
-    → top ≡ pos (4 * length b.code.code)
-    → t ≡ with_items (condition_items (scope_in place made) (4 * length b.code.code) c) b.code
-    → j ≡ with_items (jump_to op.Jzer 0 ∷ []) t → hole + 1 ≡ length j.code
+pub for_loop_done : (place : Place) (made : List ℕ) (b : Draft) (j y l r : Built) (t x : Draft)
+    (c next : Perhaps) (s : Stmt) (start more : ℤ) (hole : ℕ)
+    → j ≡ with_items (jump_to op.Jump 0 ∷ []) b.code → hole + 1 ≡ length j.code
+    → start ≡ pos (4 * length j.code)
     → Grown (begun j) x (λ exits. stmt_items (within_in place made exits) (4 * length j.code) s)
     → more ≡ pos (4 * length x.code.code)
     → y ≡ with_items (step_items (scope_in place made) (4 * length x.code.code) next) x.code
-    → r ≡ closed_by hole top more x.holes y
+    → l ≡ filled hole (pos (4 * length y.code)) y
+    → Grown (begun l) t (λ exits. perhaps_jumps (scope_in place made) true exits.broke
+    (4 * length l.code) c)
+    → r ≡ closed_by t start more x.holes
     → Grown b (record { code = r; holes = b.holes })
     (λ exits. for_items (within_in place made exits) (4 * length b.code.code) c next s)
-for_loop_done place made b t j y r x c next s top more hole et ec ej eo gx em ey er =
+for_loop_done place made b j y l r t x c next s start more hole ej eo es gx em ey el gt er =
     let scope = scope_in place made in
     code_grown b r (for_items (within_in place made nowhere) (4 * length b.code.code) c next s)
-    (loop_done b.code t j y r x (condition_items scope (4 * length b.code.code) c)
-    (λ exits q. stmt_items (within_in place made exits) q s)
-    (λ q. step_items scope q next) top more hole et ec ej eo gx em ey er)
+    (loop_done b.code j y l r t x
+    (λ exits q. stmt_items (within_in place made exits) q s) (λ q. step_items scope q next)
+    (λ to q. perhaps_jumps scope true to q c) start more hole ej eo es gx em ey el gt er)
 
 pub until_loop_done : (place : Place) (made : List ℕ) (b : Draft) (j y r : Built) (x : Draft)
     (c : Expr) (s : Stmt) (top more : ℤ)

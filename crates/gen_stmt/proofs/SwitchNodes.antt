@@ -1,5 +1,5 @@
 -- A switch, by what its parts appended.
-use Rattle.std.proofs.Common.{◌≡◌, ◌+◌, ◌*◌, ℕ, ℤ, List, [], ◌∷◌, ◌++◌, length, refl, ap, arith}
+use Rattle.std.proofs.Common.{◌≡◌, ◌*◌, ℕ, ℤ, List, [], ◌∷◌, ◌++◌, length, refl, ap, arith}
 use Rattle.std.proofs.Common.{length-append, Result, Ok, Err, IfOk}
 use Rattle.pawn_meaning.specs.Program.{Cases, no_cases, then_case, Else}
 use Rattle.gen_sim.specs.Items.{Item, past}

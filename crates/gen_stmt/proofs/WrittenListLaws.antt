@@ -1,5 +1,5 @@
 -- Elements of a list that is written, or that has one more.
-use Rattle.std.proofs.Common.{◌≡◌, ◌+◌, ◌⊎◌, inl, inr, ℕ, zero, suc, List, [], ◌∷◌, ◌++◌, None}
+use Rattle.std.proofs.Common.{◌≡◌, ◌⊎◌, inl, inr, ℕ, zero, suc, List, [], ◌∷◌, ◌++◌, None}
 use Rattle.std.proofs.Common.{Some, length, slice_get, slice_set, refl, sym, ap, arith}
 use Rattle.std.specs.Prelude.{Any}
 use Rattle.gen_sim.specs.Fits.{AreOnce}

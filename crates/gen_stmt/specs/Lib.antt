@@ -1,6 +1,7 @@
 pub mod Cased
 pub mod Closed
 pub mod Ended
+pub mod Firsts
 pub mod Grown
 pub mod Keeps
 pub mod Led

@@ -1,23 +1,15 @@
--- Loops by their parts, each by its address, and a body by its exits too.
-use Rattle.std.specs.Prelude.{◌+◌, ℕ, ℤ, List, [], ◌∷◌, ◌++◌, true}
+-- A loop with a test behind its body by its parts, each by its address, and the body by its exits
+-- too.
+use Rattle.std.specs.Prelude.{◌+◌, ℕ, List, [], ◌∷◌, ◌++◌, true}
 use Rattle.amx_ops.specs.declared.op.Op.TheVariants as op
 use Rattle.gen_sim.specs.Items.{Item, past}
-use Rattle.gen_sim.specs.SimpleCode.{alone, taking}
+use Rattle.gen_sim.specs.SimpleCode.{alone}
 use Rattle.gen_sim.specs.JumpCode.{jump_to}
 use Rattle.gen_sim.specs.Here.{Exits}
 
 -- exits of a loop whose end isn't known yet
 abbrev pub nowhere : Exits
 nowhere = record { looped = true; broke = 0; continued = 0 }
-
--- behind a test that ends at an address: what is repeated, and the jump back to the top
-abbrev pub repeat_code : ℕ → (top : ℤ) → (Exits → ℕ → List Item) → (ℕ → List Item) → List Item
-repeat_code p top body step =
-    let next = past (p + 8) (body nowhere (p + 8)) in
-    let more = step next in
-    let all =
-    body (record { looped = true; broke = past next more + 8; continued = next }) (p + 8) in
-    jump_to op.Jzer (past (past (p + 8) all) more + 8) ∷ (all ++ (more ++ taking op.Jump top ∷ []))
 
 -- a body from an address on, and a test behind it
 abbrev pub until_tail : ℕ → (Exits → ℕ → List Item) → (ℕ → List Item) → List Item

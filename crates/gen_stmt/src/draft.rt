@@ -3,14 +3,18 @@ ghost use Rattle.amx_ops.specs.Table.{operand_of};
 ghost use Rattle.amx_ops.specs.Instructions.{IsProper};
 ghost use Rattle.gen_sim.specs.SimpleCode.{taking};
 ghost use Rattle.gen_sim.specs.JumpCode.{jump_to};
+ghost use Rattle.gen_sim.specs.TestCode.{test_op};
+ghost use Rattle.gen_expr.specs.TestView.{test_view};
 ghost use Rattle.gen_expr.specs.Built.{with_items};
 ghost use Rattle.gen_expr.specs.Filled.{filled};
-ghost use Rattle.gen_stmt.specs.Led.{exit_at};
+ghost use Rattle.gen_stmt.specs.Led.{exit_at, all_led, AreIn};
 ghost use Rattle.gen_stmt.specs.Grown.{Grown};
 
+use super::exits::lead_out;
 use amx_ops::Op;
-use gen_expr::Builder;
-use gen_expr::jumps::{land, last_cell, turn};
+use gen_expr::jumps::{land, last_cell};
+use gen_expr::put::cell_of;
+use gen_expr::{Builder, Test};
 use pawn_base::{List, Memory};
 use std::alloc::Global;
 
@@ -60,6 +64,19 @@ impl Draft {
         Ok(Draft { code, holes })
     }
 
+    /// Appends a jump to an exit, which is taken where a test holds.
+    pub fn jump_out_where(self, test: Test, exit: Exit) -> Result<Draft, Memory>
+        ensures { IfOk result (λ r.
+            Grown self r (λ exits. jump_to (test_op (test_view test)) (exit_at exits exit) ∷ [])) }
+    {
+        let Draft { code, holes } = self;
+        let mut holes = holes;
+        let code = test.jump(0, code)?;
+        let at = last_cell(&code)?;
+        holes.push(Hole { at, exit })?;
+        Ok(Draft { code, holes })
+    }
+
     /// Appends a jump to an exit.
     pub fn jump_out(self, exit: Exit) -> Result<Draft, Memory>
         ensures { IfOk result (λ r.
@@ -73,18 +90,17 @@ impl Draft {
         Ok(Draft { code, holes })
     }
 
-    /// Behind the first of two parts: the jump whose operand is that cell leads to the second one,
-    /// which is appended next, and a jump over it leads nowhere yet.
-    pub fn turn(self, hole: u32) -> Result<Draft, Memory>
-        requires { hole < length self.code.code }
+    /// These jumps lead so many bytes behind what was appended.
+    pub fn land_all(self, ends: &[Hole], bytes: u32) -> Result<Draft, Memory>
+        requires { AreIn (length self.code.code) ends.now }
         ensures { IfOk result (λ r. r ≡ record {
-          code = with_items (jump_to Op.Jump 0 ∷ [])
-              (filled hole (pos (4 * length self.code.code + 8)) self.code);
+          code = all_led (pos (4 * length self.code.code + bytes)) (pos 0) ends.now self.code;
           holes = self.holes;
         }) }
     {
         let Draft { code, holes } = self;
-        let code = turn(hole, code)?;
+        let to = cell_of(4 * code.code().len() as u64 + u64::from(bytes))?;
+        let code = lead_out(ends, to, 0, code);
         Ok(Draft { code, holes })
     }
 

@@ -2,6 +2,7 @@ ghost use Rattle.std.specs.Prelude.{◌≡◌, ◌++◌, [], ◌∷◌, drop, ma
 ghost use Rattle.pawn_meaning.specs.View.{slot_view};
 ghost use Rattle.gen_sim.specs.JumpCode.{jump_to};
 ghost use Rattle.gen_sim.specs.FlowCode.{leave_code};
+ghost use Rattle.gen_laws.specs.GoesOn.{at_end_of};
 ghost use Rattle.gen_stmt.specs.Grown.{Grown};
 ghost use Rattle.gen_stmt.specs.Led.{exit_at};
 ghost use Rattle.gen_stmt.specs.Left.{left_code};
@@ -41,8 +42,30 @@ fn dropped_since(mark: Mark, place: &Place<'_>, locals: &Locals, b: Draft) -> Re
     Ok(done)
 }
 
-/// The locals leave the stack that were made since a block began, and aren't in force behind it.
+/// So they do at a block's end, where control comes there.
+fn dropped_at_end(
+    never: bool,
+    mark: Mark,
+    place: &Place<'_>,
+    locals: &Locals,
+    b: Draft,
+) -> Result<Draft, Memory>
+    requires stands { Stands place.now locals.now }
+    requires mark { IsMark (map slot_view place.now.slots.now) mark locals.now.made.items }
+    ensures { IfOk result (λ r. Grown b r (λ exits. leave_code (map slot_view place.now.slots.now)
+        (at_end_of never (drop mark.made locals.now.made.items)))) }
+{
+    if never {
+        return Ok(b);
+    }
+    dropped_since(mark, place, locals, b)
+}
+
+/// The locals aren't in force any more that were made since a block began; they leave the stack,
+/// unless control never comes to the block's end.
+#[inline(never)]
 pub fn leave_block(
+    never: bool,
     mark: Mark,
     place: &Place<'_>,
     locals: &mut Locals,
@@ -53,14 +76,16 @@ pub fn leave_block(
     ensures made { IfOk result (λ _. locals.new.made.items ≡ take mark.made locals.old.made.items) }
     ensures stands { IfOk result (λ _. Stands place.now locals.new) }
     ensures code { IfOk result (λ r. Grown b r (λ exits.
-        leave_code (map slot_view place.now.slots.now) (drop mark.made locals.old.made.items))) }
+        leave_code (map slot_view place.now.slots.now)
+        (at_end_of never (drop mark.made locals.old.made.items)))) }
 {
-    let done = dropped_since(mark, place, locals, b)?;
+    let done = dropped_at_end(never, mark, place, locals, b)?;
     locals.leave(mark);
     Ok(done)
 }
 
 /// The loop around is left, and the locals that were made since its body began.
+#[inline(never)]
 pub fn leave_loop(
     exit: Exit,
     since: Mark,

@@ -2,10 +2,12 @@
 #![tactic(auto)]
 
 mod cases;
+mod conditions;
 mod count;
 pub mod draft;
 mod entries;
 pub mod exits;
+pub mod goes_on;
 mod left;
 pub mod locals;
 mod loops;

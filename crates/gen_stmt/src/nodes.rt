@@ -1,26 +1,31 @@
-ghost use Rattle.std.specs.Prelude.{◌≡◌, ◌+◌, ◌*◌, ◌++◌, [], ◌∷◌, pos, neg_ℤ, length, IfOk};
+ghost use Rattle.std.specs.Prelude.{◌≡◌, ◌+◌, ◌*◌, ◌++◌, [], ◌∷◌, pos, neg_ℤ, length, true};
+ghost use Rattle.std.specs.Prelude.{false, IfOk};
 ghost use Rattle.pawn_cells.specs.Cells.{cell_of as bits_as_cell};
 ghost use Rattle.pawn_meaning.specs.View.{expr_view, perhaps_view};
 ghost use Rattle.gen_sim.specs.SimpleCode.{alone, taking};
 ghost use Rattle.gen_sim.specs.PlaceItems.{object_code};
 ghost use Rattle.gen_laws.specs.ExprCode.{value_items, effect_items};
-ghost use Rattle.gen_sim.specs.FlowCode.{leave_code, local_code, assert_code};
+ghost use Rattle.gen_sim.specs.FlowCode.{leave_code, assert_code};
+ghost use Rattle.gen_sim.specs.PushCode.{value_push, pushed_by};
 ghost use Rattle.gen_laws.specs.MadeCode.{local_array_code};
 ghost use Rattle.gen_laws.specs.StmtCode.{condition_items, step_items};
+ghost use Rattle.gen_laws.specs.BranchItems.{jump_items, perhaps_jumps};
 ghost use Rattle.gen_expr.specs.Built.{with_items};
 ghost use Rattle.gen_stmt.specs.Grown.{Grown};
+ghost use Rattle.gen_stmt.specs.Ended.{Ended};
 ghost use Rattle.gen_stmt.specs.Keeps.{scope_in};
 ghost use Rattle.gen_stmt.specs.Standing.{Stands};
 
-use super::draft::Draft;
+use super::conditions::{self, jump_where, open};
+use super::draft::{Draft, Hole};
 use super::left::dropped;
 use super::locals::Locals;
 use super::place::{At, Place, own_cells};
 use amx_ops::Op;
 use gen_expr::frame::object;
 use gen_expr::put::cell_of;
-use gen_expr::{Builder, expression};
-use pawn_base::Memory;
+use gen_expr::{Builder, expression, push_expression};
+use pawn_base::{List, Memory};
 use pawn_meaning::Expr;
 
 /// The value of an expression, to PRI.
@@ -56,6 +61,50 @@ pub fn condition(
     }
 }
 
+/// A condition of a statement, beside its jumps, which are taken where it doesn't hold and lead
+/// nowhere yet.
+pub fn leave_unless(
+    e: &Expr,
+    place: &Place<'_>,
+    locals: &Locals,
+    b: Draft,
+) -> Result<(Draft, List<Hole>), Memory>
+    requires { Stands place.now locals.now }
+    ensures { IfOk result (λ r. Ended b r.0 r.1 (λ to exits. jump_items
+        (scope_in place.now locals.now.made.items) false to (4 * length b.code.code)
+        (expr_view e.now))) }
+{
+    let frame = locals.frame(place);
+    open(e, false, &frame, b)
+}
+
+/// A loop's condition, whose jumps are taken where it holds.
+pub fn jump_if(e: &Expr, place: &Place<'_>, locals: &Locals, code: Builder) -> Result<Draft, Memory>
+    requires { Stands place.now locals.now }
+    ensures { IfOk result (λ r. Grown (record { code = code; holes = [] }) r (λ exits. jump_items
+        (scope_in place.now locals.now.made.items) true exits.broke (4 * length code.code)
+        (expr_view e.now))) }
+{
+    let frame = locals.frame(place);
+    jump_where(e, true, &frame, Draft::new(place.alloc, code))
+}
+
+/// The same, where it may be absent.
+pub fn perhaps_jump(
+    e: &Option<Expr>,
+    place: &Place<'_>,
+    locals: &Locals,
+    code: Builder,
+) -> Result<Draft, Memory>
+    requires { Stands place.now locals.now }
+    ensures { IfOk result (λ r. Grown (record { code = code; holes = [] }) r (λ exits. perhaps_jumps
+        (scope_in place.now locals.now.made.items) true exits.broke (4 * length code.code)
+        (perhaps_view e.now))) }
+{
+    let frame = locals.frame(place);
+    conditions::perhaps_jump(e, &frame, Draft::new(place.alloc, code))
+}
+
 /// An expression whose value isn't used.
 fn unused(e: &Expr, place: &Place<'_>, locals: &Locals, code: Builder) -> Result<Builder, Memory>
     requires { Stands place.now locals.now }
@@ -85,6 +134,7 @@ pub fn step(
 }
 
 /// An expression in a draft, whose value isn't used.
+#[inline(never)]
 pub fn effect(e: &Expr, place: &Place<'_>, locals: &Locals, b: Draft) -> Result<Draft, Memory>
     requires { Stands place.now locals.now }
     ensures { IfOk result (λ r. Grown b r (λ exits. effect_items
@@ -96,6 +146,7 @@ pub fn effect(e: &Expr, place: &Place<'_>, locals: &Locals, b: Draft) -> Result<
 }
 
 /// The value of an expression in a draft.
+#[inline(never)]
 pub fn value(e: &Expr, place: &Place<'_>, locals: &Locals, b: Draft) -> Result<Draft, Memory>
     requires { Stands place.now locals.now }
     ensures { IfOk result (λ r. Grown b r (λ exits. value_items
@@ -106,19 +157,31 @@ pub fn value(e: &Expr, place: &Place<'_>, locals: &Locals, b: Draft) -> Result<D
     Ok(Draft { code, holes })
 }
 
+/// The value of an expression is pushed.
+fn push(e: &Expr, place: &Place<'_>, locals: &Locals, code: Builder) -> Result<Builder, Memory>
+    requires { Stands place.now locals.now }
+    ensures { IfOk result (λ r. let scope = scope_in place.now locals.now.made.items in
+        r ≡ with_items (pushed_by (value_push scope (expr_view e.now))
+        (value_items scope (4 * length code.code) (expr_view e.now))) code) }
+{
+    let frame = locals.frame(place);
+    push_expression(e, &frame, code)
+}
+
 /// A local with its value, which is pushed.
+#[inline(never)]
 pub fn local(s: u32, e: &Expr, at: &At<'_>, locals: &mut Locals, b: Draft) -> Result<Draft, Memory>
     requires { Stands at.now.place locals.old }
     ensures made { IfOk result (λ _. locals.new.made.items ≡ locals.old.made.items ++ s ∷ []) }
     ensures stands { IfOk result (λ _. Stands at.now.place locals.new) }
-    ensures code { IfOk result (λ r. Grown b r (λ exits. local_code (value_items
-        (scope_in at.now.place locals.old.made.items) (4 * length b.code.code)
-        (expr_view e.now)))) }
+    ensures code { IfOk result (λ r. let scope = scope_in at.now.place locals.old.made.items in
+        Grown b r (λ exits. pushed_by (value_push scope (expr_view e.now))
+        (value_items scope (4 * length b.code.code) (expr_view e.now)))) }
 {
-    let valued = value(e, &at.place, locals, b)?;
-    let pushed = valued.put(Op::PushPri, 0)?;
+    let Draft { code, holes } = b;
+    let code = push(e, &at.place, locals, code)?;
     locals.make(s, &at.place)?;
-    Ok(pushed)
+    Ok(Draft { code, holes })
 }
 
 /// The bytes of so many cells, with a minus sign.
@@ -173,6 +236,7 @@ fn array_made(
 }
 
 /// A local array.
+#[inline(never)]
 pub fn local_array(
     s: u32,
     o: u32,
@@ -193,6 +257,7 @@ pub fn local_array(
 }
 
 /// The body is left with a value: all its locals leave the stack, and RETN takes the frame.
+#[inline(never)]
 pub fn returned(e: &Expr, place: &Place<'_>, locals: &Locals, b: Draft) -> Result<Draft, Memory>
     requires { Stands place.now locals.now }
     ensures { IfOk result (λ r. let scope = scope_in place.now locals.now.made.items in
@@ -207,6 +272,7 @@ pub fn returned(e: &Expr, place: &Place<'_>, locals: &Locals, b: Draft) -> Resul
 }
 
 /// A value and a tag's number, with which the machine halts.
+#[inline(never)]
 pub fn halted(
     e: &Expr,
     tag: u32,
@@ -243,6 +309,7 @@ fn asserted(b: Builder) -> Result<Builder, Memory>
 }
 
 /// An assertion.
+#[inline(never)]
 pub fn assertion(e: &Expr, place: &Place<'_>, locals: &Locals, b: Draft) -> Result<Draft, Memory>
     requires { Stands place.now locals.now }
     ensures { IfOk result (λ r. Grown b r (λ exits. assert_code (4 * length b.code.code)

@@ -24,6 +24,7 @@ use pawn_base::Memory;
 use pawn_meaning::Expr;
 
 /// An automaton goes to a state where a condition holds.
+#[inline(never)]
 pub fn state(
     a: u32,
     state: u32,

@@ -1,5 +1,5 @@
-use Rattle.std.proofs.Common.{◌≡◌, ◌≤◌, ◌+◌, ◌*◌, pos, [], ◌∷◌, length, w32, to_z, of_z, FitsSigned}
-use Rattle.std.proofs.Common.{ap, ◌∙◌, arith, rules}
+use Rattle.std.proofs.Common.{◌≤◌, [], ◌∷◌, length, w32, to_z, of_z, FitsSigned}
+use Rattle.std.proofs.Common.{arith, rules}
 use Rattle.std.proofs.lemmas.Int.{to_z-of_z}
 use Rattle.amx_ops.specs.declared.op.Op.TheVariants as op
 use Rattle.gen_sim.specs.SimpleCode.{taking}

@@ -1,4 +1,4 @@
-use Rattle.std.proofs.Common.{◌<◌, ℤ, pos, length, get_or, w32, to_z, of_z, FitsSigned, arith}
+use Rattle.std.proofs.Common.{◌<◌, ℤ, pos, length, get_or, w32, FitsSigned, arith}
 use Rattle.std.proofs.Common.{rules}
 use Rattle.std.proofs.lemmas.Int.{to_z-of_z}
 use Rattle.gen_stmt.proofs.WriteLaws.{same_at, next_case}

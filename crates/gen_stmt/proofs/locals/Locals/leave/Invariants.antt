@@ -1,4 +1,4 @@
-use Rattle.std.proofs.Common.{◌≡◌, ◌-◌, ℕ, List, length, take}
+use Rattle.std.proofs.Common.{◌≡◌, ℕ, List, length, take}
 use Rattle.pawn_meaning.specs.Program.{Slot}
 use Rattle.gen_stmt.specs.Keeps.{AreOffsets}
 use Rattle.gen_stmt.proofs.locals.Locals.leave.Given as goal
