@@ -1,7 +1,8 @@
 -- A body, by its parts.
-use Rattle.std.proofs.Common.{◌≡◌, ◌*◌, ℕ, List, [], length, ap, ◌∙◌}
+use Rattle.std.proofs.Common.{◌≡◌, ◌*◌, ℕ, Bool, List, [], length, ap, ◌∙◌}
 use Rattle.pawn_meaning.specs.Program.{Slot, Body, Program}
 use Rattle.gen_sim.specs.Here.{Here}
+use Rattle.gen_laws.specs.GoesOn.{never_goes_on}
 use Rattle.gen_laws.specs.StmtCode.{stmt_items}
 use Rattle.gen_laws.specs.BodyCode.{no_exits, body_here, end_code, body_items}
 use Rattle.gen_expr.specs.Built.{Built, with_items}
@@ -16,15 +17,16 @@ here_of program slots n = record {
 }
 
 pub body_made : (program : Program) (params slots : List Slot) (n : ℕ) (body : Body)
-    (b done r : Built) → slots ≡ body.slots → n ≡ length params
+    (never : Bool) (b done r : Built) → never ≡ never_goes_on body.stmt → slots ≡ body.slots
+    → n ≡ length params
     → done ≡ with_items (stmt_items (here_of program slots n) (4 * length b.code) body.stmt) b
-    → r ≡ with_items end_code done
+    → r ≡ with_items (end_code never) done
     → r ≡ with_items (body_items program params (4 * length b.code) body) b
-body_made program params slots n body b done r same count first last =
+body_made program params slots n body never b done r is same count first last =
     then_grow b done r (stmt_items (body_here program params body) (4 * length b.code) body.stmt)
-    end_code
+    (end_code (never_goes_on body.stmt))
     (first ∙ ap (λ l. with_items (stmt_items (here_of program l n) (4 * length b.code) body.stmt) b)
     same
     ∙ ap (λ k. with_items (stmt_items (here_of program body.slots k) (4 * length b.code) body.stmt)
     b) count)
-    last
+    (last ∙ ap (λ k. with_items (end_code k) done) is)

@@ -2,7 +2,7 @@ ghost use Rattle.std.specs.Prelude.{◌≡◌, ◌*◌, [], length, map, IfOk};
 ghost use Rattle.pawn_meaning.specs.View.{body_view, program_view, slot_view, stmt_view};
 ghost use Rattle.gen_sim.specs.Pieces.{total, objects_from};
 ghost use Rattle.gen_laws.specs.StmtCode.{stmt_items};
-ghost use Rattle.gen_laws.specs.BodyCode.{body_items, single_items};
+ghost use Rattle.gen_laws.specs.BodyCode.{end_code, body_items, single_items};
 ghost use Rattle.gen_laws.specs.RouteCode.{bodies_items, body_begin};
 ghost use Rattle.gen_expr.specs.Built.{with_items};
 ghost use Rattle.gen_module.specs.Starts.{Finds};
@@ -17,6 +17,7 @@ use gen_expr::operators::two;
 use gen_expr::put::{address, count_of};
 use gen_stmt::draft::Draft;
 use gen_stmt::exits::lead_out;
+use gen_stmt::goes_on::never_goes_on;
 use gen_stmt::locals::Locals;
 use gen_stmt::place::{At, Place};
 use gen_stmt::statement::statement;
@@ -43,7 +44,18 @@ fn body_statement(s: &Stmt, place: &Place<'_>, code: Builder) -> Result<Builder,
     Ok(lead_out(holes.as_slice(), 0, 0, code))
 }
 
-/// A body: its statement, and behind it the value 0 and RETN.
+/// The end of a body: its value is 0, where control comes there.
+fn end(never: bool, b: Builder) -> Result<Builder, Memory>
+    ensures { IfOk result (λ r. r ≡ with_items (end_code never) b) }
+{
+    if never {
+        b.put(Op::Retn, 0)
+    } else {
+        two(Op::ZeroPri, Op::Retn, b)
+    }
+}
+
+/// A body: its statement, and its end.
 pub(crate) fn body(
     body: &Body,
     params: &[Slot],
@@ -63,7 +75,7 @@ pub(crate) fn body(
         automata: source.places.cells,
     };
     let done = body_statement(&body.stmt, &place, b)?;
-    let ended = two(Op::ZeroPri, Op::Retn, done)?;
+    let ended = end(never_goes_on(&body.stmt), done)?;
     Ok(ended)
 }
 
