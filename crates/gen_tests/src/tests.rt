@@ -3,6 +3,8 @@ mod call_rows;
 mod data;
 mod frames;
 mod generated_nodes;
+mod indexes;
 mod lists;
 mod places;
+mod pushes;
 mod shapes;

@@ -25,7 +25,7 @@ fn operators(rt: HostRuntime) -> Result<(), Fail> {
 fn choices(rt: HostRuntime) -> Result<(), Fail> {
     let alloc = rt.alloc();
     let both = Expr::And(one(alloc)?, one(alloc)?);
-    assert_eq!(rt; taken(alloc, both)?, (12, 0));
+    assert_eq!(rt; taken(alloc, both)?, (11, 0));
     let either = Expr::Or(one(alloc)?, one(alloc)?);
     assert_eq!(rt; taken(alloc, either)?, (12, 0));
     let choice = Expr::Cond(one(alloc)?, one(alloc)?, one(alloc)?);

@@ -33,9 +33,9 @@ fn arguments(alloc: Global) -> Result<List<Arg>, Fail> {
 fn chains(rt: HostRuntime) -> Result<(), Fail> {
     let alloc = rt.alloc();
     assert_eq!(rt; taken(alloc, chain(alloc, 0, None)?)?, (2, 0));
-    assert_eq!(rt; taken(alloc, chain(alloc, 1, None)?)?, (7, 0));
-    assert_eq!(rt; taken(alloc, chain(alloc, 2, None)?)?, (21, 0));
-    assert_eq!(rt; taken(alloc, chain(alloc, 3, None)?)?, (30, 0));
+    assert_eq!(rt; taken(alloc, chain(alloc, 1, None)?)?, (5, 0));
+    assert_eq!(rt; taken(alloc, chain(alloc, 2, None)?)?, (19, 0));
+    assert_eq!(rt; taken(alloc, chain(alloc, 3, None)?)?, (28, 0));
     assert_eq!(rt; taken(alloc, chain(alloc, 2, Some(0))?)?, (31, 2));
     Ok(())
 }
@@ -44,8 +44,8 @@ fn chains(rt: HostRuntime) -> Result<(), Fail> {
 fn calls(rt: HostRuntime) -> Result<(), Fail> {
     let alloc = rt.alloc();
     assert_eq!(rt; taken(alloc, Expr::Call(0, List::new(alloc)))?, (4, 1));
-    assert_eq!(rt; taken(alloc, Expr::Call(0, arguments(alloc)?))?, (21, 1));
+    assert_eq!(rt; taken(alloc, Expr::Call(0, arguments(alloc)?))?, (18, 1));
     assert_eq!(rt; taken(alloc, Expr::Native(0, List::new(alloc)))?, (6, 0));
-    assert_eq!(rt; taken(alloc, Expr::Native(0, arguments(alloc)?))?, (23, 0));
+    assert_eq!(rt; taken(alloc, Expr::Native(0, arguments(alloc)?))?, (20, 0));
     Ok(())
 }

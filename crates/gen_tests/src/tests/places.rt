@@ -24,15 +24,15 @@ fn cells(rt: HostRuntime) -> Result<(), Fail> {
 fn elements(rt: HostRuntime) -> Result<(), Fail> {
     let alloc = rt.alloc();
     let of_object = element(alloc, Array::Object(0))?;
-    assert_eq!(rt; taken(alloc, of_object)?, (8, 0));
+    assert_eq!(rt; taken(alloc, of_object)?, (5, 0));
     let within_bounds = element(alloc, Array::ParamArray(2, true))?;
-    assert_eq!(rt; taken(alloc, within_bounds)?, (10, 0));
+    assert_eq!(rt; taken(alloc, within_bounds)?, (7, 0));
     let grid = Box::new(alloc, Array::ParamArray(3, true))?;
     let of_row = element(alloc, Array::Row(grid, one(alloc)?))?;
-    assert_eq!(rt; taken(alloc, of_row)?, (20, 0));
+    assert_eq!(rt; taken(alloc, of_row)?, (17, 0));
     let line = Box::new(alloc, Array::ParamArray(2, true))?;
     let of_rest = element(alloc, Array::From(line, one(alloc)?))?;
-    assert_eq!(rt; taken(alloc, of_rest)?, (15, 0));
+    assert_eq!(rt; taken(alloc, of_rest)?, (12, 0));
     Ok(())
 }
 
@@ -41,6 +41,6 @@ fn characters(rt: HostRuntime) -> Result<(), Fail> {
     let alloc = rt.alloc();
     let object = Box::new(alloc, Array::Object(0))?;
     let character = Expr::Read(Scalar::Char(object, one(alloc)?));
-    assert_eq!(rt; taken(alloc, character)?, (11, 0));
+    assert_eq!(rt; taken(alloc, character)?, (9, 0));
     Ok(())
 }

@@ -7,12 +7,12 @@ use std::process::Abort;
 use std::test::Fail;
 
 /// The number of an instruction.
-fn n(op: Op) -> i32 {
+pub(crate) fn n(op: Op) -> i32 {
     i32::from(op.number())
 }
 
 /// A constant.
-fn constant(alloc: Global, v: i32) -> Result<Box<Expr>, Fail> {
+pub(crate) fn constant(alloc: Global, v: i32) -> Result<Box<Expr>, Fail> {
     Ok(Box::new(alloc, Expr::Const(v))?)
 }
 
@@ -97,9 +97,8 @@ fn other_operands(rt: HostRuntime) -> Result<(), Fail> {
     let sum = Box::new(alloc, with_constant(alloc, Operator::Add, 1)?)?;
     let less = Expr::Binary(Operator::Subtract, one(alloc)?, sum);
     let wanted = [
-        n(Op::LoadSPri),
+        n(Op::PushS),
         12,
-        n(Op::PushPri),
         n(Op::LoadSPri),
         12,
         n(Op::AddC),
@@ -121,9 +120,9 @@ fn folded_expressions(rt: HostRuntime) -> Result<(), Fail> {
     assert!(rt; is_code(alloc, sum, &[n(Op::ConstPri), 7])?);
     let quotient = constants(alloc, Operator::Divide, 1, 0)?;
     let both = Expr::And(constant(alloc, 0)?, quotient);
-    assert!(rt; is_code(alloc, both, &[n(Op::ConstPri), 0])?);
+    assert!(rt; is_code(alloc, both, &[n(Op::ZeroPri)])?);
     let open = Expr::Binary(Operator::Divide, constant(alloc, 1)?, constant(alloc, 0)?);
-    let wanted = [n(Op::ConstPri), 1, n(Op::ConstAlt), 0, n(Op::Sdiv)];
+    let wanted = [n(Op::ConstPri), 1, n(Op::ZeroAlt), n(Op::Sdiv)];
     assert!(rt; is_code(alloc, open, &wanted)?);
     let product = constants(alloc, Operator::Multiply, 2, 3)?;
     let more = Expr::Binary(Operator::Add, one(alloc)?, product);
