@@ -7,7 +7,7 @@ use Rattle.command_parts.specs.declared.status.Status.{Status}
 use Rattle.command_parts.specs.declared.status.Status.TheVariants as status
 use Rattle.command_parts.specs.declared.stop.Stop.{Stop}
 use Rattle.command_parts.specs.declared.stop.Stop.TheVariants.{FileFault}
-use Rattle.command_parts.specs.Told.{Writes, TellsStop, status_told}
+use Rattle.command_parts.specs.Told.{Says, Writes, TellsStop, status_told, steadily}
 use Rattle.command_parts.proofs.FaultCountLaws.{told_other}
 use Rattle.host_many.specs.Own.{Guest}
 use Rattle.host_many.specs.Serves.{HasMachines, machine_of, served_text}
@@ -88,10 +88,11 @@ module _ {S : Type 0} {writes : Writes S} {name : List ℕ} {held after : Option
       record { kept = kept; does = inl (record { stop = stop; comes = comes; tells = tells }) }
 
   pub serves_ready : (ready : ReadyPlan) → IsReadyPlan held name ready → after ≡ held
-      → TellsEvents ready.host ready.events writes old new answer
+      → TellsEvents ready.host ready.events writes.says old new answer
       → ServesPlan writes name held after old new answer
   serves_ready ready it kept tells =
-      let P : List Turn → Type 0 = λ turns. TellsEvents ready.host turns writes old new answer in
+      let P : List Turn → Type 0 =
+      λ turns. TellsEvents ready.host turns writes.says old new answer in
       record {
         kept = kept;
         does = inr (record {
@@ -103,18 +104,25 @@ module _ {S : Type 0} {writes : Writes S} {name : List ℕ} {held after : Option
         });
       }
 
-pub events_no_fault : {S : Type 0} {guests : List Guest} {events : List Turn} {writes : Writes S}
-    {old new : S} {answer : Status} → TellsEvents guests events writes old new answer
+pub events_no_fault : {S : Type 0} {guests : List Guest} {events : List Turn} {says : Says S}
+    {old new : S} {answer : Status} → TellsEvents guests events says old new answer
     → answer ≢ status.FileFault
 events_no_fault it = λ e. told_other status.Ok it.told (λ f. absurd (cc f)) (sym it.is ∙ e)
 
 -- the lines of all events were written, or a front of them
-pub tells_events : {S : Type 0} {writes : Writes S} {guests : List Guest} {events lent : List Turn}
+pub tells_events : {S : Type 0} {says : Says S} {guests : List Guest} {events lent : List Turn}
     {old new : S} (served : Served) (answer : Status) → lent ≡ events
-    → writes old new (served_text guests lent) (told_of served)
+    → says old new (served_text guests lent) (told_of served)
     → answer ≡ status_told status.Ok (told_of served)
-    → TellsEvents guests events writes old new answer
-tells_events {S} {writes} {guests} {events} {lent} {old} {new} served answer same written is =
+    → TellsEvents guests events says old new answer
+tells_events {S} {says} {guests} {events} {lent} {old} {new} served answer same written is =
     let P : List Turn → Type 0 =
-    λ turns. writes old new (served_text guests turns) (told_of served) in
+    λ turns. says old new (served_text guests turns) (told_of served) in
     record { told = told_of served; written = subst P same written; is = is }
+
+-- beside a count of faults that stays as it is
+pub events_steadily : {S : Type 0} {says : Says S} {guests : List Guest} {events : List Turn}
+    {old new : S} {answer : Status} {m n : ℕ} → n ≡ m
+    → TellsEvents guests events says old new answer
+    → TellsEvents guests events (steadily says) (old, m) (new, n) answer
+events_steadily same it = record { told = it.told; written = (it.written, same); is = it.is }

@@ -5,7 +5,7 @@ use Rattle.command_parts.specs.declared.status.Status.{Status}
 use Rattle.command_parts.specs.declared.status.Status.TheVariants as status
 use Rattle.command_parts.specs.declared.stop.Stop.{Stop}
 use Rattle.command_parts.specs.declared.stop.Stop.TheVariants.{BadPlan, NoMemory}
-use Rattle.command_parts.specs.Told.{Told, Writes, TellsStop, status_told}
+use Rattle.command_parts.specs.Told.{Told, Says, Writes, TellsStop, status_told}
 use Rattle.command_parts.specs.Unread.{IsRead, Unread}
 use Rattle.host_many.specs.Own.{Guest}
 use Rattle.host_many.specs.Serves.{served_text}
@@ -48,10 +48,10 @@ pub record StopsBefore {S : Type 0} (writes : Writes S) (name : List ℕ) (held 
 -- ---- the events
 
 -- the lines that the machines print over the events were written, or a front of them
-pub record TellsEvents {S : Type 0} (guests : List Guest) (events : List Turn) (writes : Writes S)
+pub record TellsEvents {S : Type 0} (guests : List Guest) (events : List Turn) (says : Says S)
     (old new : S) (answer : Status) : Type 0 where
   pub told : Told
-  pub written : writes old new (served_text guests events) told
+  pub written : says old new (served_text guests events) told
   pub is : answer ≡ status_told status.Ok told
 
 -- the plan is good, each of its machines was made, and its events are done
@@ -61,7 +61,7 @@ pub record DoesEvents {S : Type 0} (writes : Writes S) (name : List ℕ) (held :
   pub good : IsPlanNamed held name plan
   pub guests : List Guest
   pub made : AreMachines held plan.machines guests
-  pub tells : TellsEvents guests plan.events writes old new answer
+  pub tells : TellsEvents guests plan.events writes.says old new answer
 
 -- ---- the whole command
 

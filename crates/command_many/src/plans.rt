@@ -2,6 +2,7 @@ ghost use Rattle.std.specs.Prelude.{◌≡◌, Err, length};
 ghost use Rattle.pawn_outside.specs.OnlyRead.{OnlyRead};
 ghost use Rattle.pawn_outside.specs.Said.{Said};
 ghost use Rattle.command_parts.specs.Calls.{CommandCalls};
+ghost use Rattle.command_parts.specs.Told.{with_faults};
 ghost use Rattle.host_many.specs.Serves.{HasMachines};
 ghost use Rattle.command_many.specs.Many.{IsPlanOf, IsReady, ServesPlan, TellsEvents};
 
@@ -25,8 +26,9 @@ struct ReadyPlan {
 
 /// Reads a plan, makes its machines, does its events, and writes the lines of the machines.
 pub fn many<F: Files, S: Sink>(alloc: Global, plan: &str, files: &mut F, out: &mut S) -> Status
-    ensures answer { ServesPlan (Said S.taken S.faults S.has_room) plan.now (F.held files.old)
-        (F.held files.new) out.old out.new result }
+    ensures answer { ServesPlan (with_faults (Said S.taken S.faults S.has_room)) plan.now
+        (F.held files.old) (F.held files.new) (out.old, F.faults files.old)
+        (out.new, F.faults files.new) result }
     ensures calls { CommandCalls F.faults F.never_fails files.old files.new result }
 {
     match make_ready(alloc, plan, files) {

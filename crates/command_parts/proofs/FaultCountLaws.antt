@@ -14,7 +14,7 @@ use Rattle.command_parts.specs.declared.stop.Stop.TheVariants.{BadScript, NoEntr
 use Rattle.command_parts.specs.declared.stop.Stop.TheVariants.{NoMemory, BadPlan}
 use Rattle.command_parts.specs.Stop.{status_of}
 use Rattle.command_parts.specs.Calls.{Calls, CommandCalls}
-use Rattle.command_parts.specs.Told.{Told, Writes, status_told, TellsStop}
+use Rattle.command_parts.specs.Told.{Told, Says, status_told, TellsLine}
 
 -- the status of a fault of files comes from no other stop
 fault_of : (stop : Stop) → status_of stop ≡ status.FileFault → stop ≡ FileFault
@@ -76,7 +76,8 @@ module _ {F : Type 0} {held : F → Option Held} {faults : F → ℕ} {never_fai
   only_calls it = record { steady = it.steady; cause = it.cause; unfailing = it.unfailing }
 
 module _ {F : Type 0} {faults : F → ℕ} {never_fails : F → Type 0} {old new : F} where
-  no_fault : {T E : Type 0} {t : T} {fault : E}
+  -- a call that was good counts none
+  pub no_fault : {T E : Type 0} {t : T} {fault : E}
       → Calls faults never_fails old new (Ok t ≡ Err fault) → faults new ≡ faults old
   no_fault it = it.steady (λ e. absurd (cc e))
 
@@ -104,10 +105,10 @@ module _ {F : Type 0} {faults : F → ℕ} {never_fails : F → Type 0} {old new
     unfailing = λ whole. ((it.unfailing whole).0, never);
   }
 
-  module _ {T S : Type 0} {result : Result T Stop} {writes : Writes S} {before behind : S}
+  module _ {T S : Type 0} {result : Result T Stop} {says : Says S} {before behind : S}
       (stop : Stop) (answer : Status)
       (it : Calls faults never_fails old new (result ≡ Err FileFault)) (is : result ≡ Err stop)
-      (tells : TellsStop stop writes before behind answer) where
+      (tells : TellsLine stop says before behind answer) where
     told_fault : answer ≡ status.FileFault → stop ≡ FileFault
     told_fault e = fault_only stop tells.told (sym tells.is ∙ e)
 
@@ -157,8 +158,8 @@ calls_nothing files never = record {
 }
 
 -- nor does a stop that is no fault of theirs tell one
-pub stop_no_fault : {S : Type 0} {writes : Writes S} {old new : S} (stop : Stop) (answer : Status)
-    → stop ≢ FileFault → TellsStop stop writes old new answer
+pub stop_no_fault : {S : Type 0} {says : Says S} {old new : S} (stop : Stop) (answer : Status)
+    → stop ≢ FileFault → TellsLine stop says old new answer
     → answer ≢ status.FileFault
 stop_no_fault stop answer ne tells = λ e. ne (fault_only stop tells.told (sym tells.is ∙ e))
 

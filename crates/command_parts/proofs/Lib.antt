@@ -2,5 +2,6 @@ pub mod FaultCountLaws
 mod NumberLaws
 pub mod ReadCallLaws
 pub mod ReadLaws
+pub mod ToldLaws
 pub mod ValidLaws
 mod WordLaws

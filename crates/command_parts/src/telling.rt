@@ -1,6 +1,6 @@
 ghost use Rattle.std.specs.Prelude.{◌≡◌};
 ghost use Rattle.pawn_outside.specs.Said.{Said};
-ghost use Rattle.command_parts.specs.Told.{status_told, TellsStop};
+ghost use Rattle.command_parts.specs.Told.{status_told, TellsLine};
 
 use super::status::Status;
 use super::stop::Stop;
@@ -18,7 +18,7 @@ pub fn told(status: Status, said: Result<(), SinkFault>) -> Status
 
 /// Writes the line of a stop, and answers its status.
 pub fn tell_stop<S: Sink>(stop: Stop, out: &mut S) -> Status
-    ensures { TellsStop stop (Said S.taken S.faults S.has_room) out.old out.new result }
+    ensures { TellsLine stop (Said S.taken S.faults S.has_room) out.old out.new result }
 {
     told(stop.status(), stop.say(out))
 }

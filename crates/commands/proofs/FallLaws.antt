@@ -15,7 +15,7 @@ use Rattle.command_parts.specs.declared.stop.Stop.TheVariants as cause
 use Rattle.command_parts.specs.Put.{NotPut}
 use Rattle.command_parts.specs.Put as puts
 use Rattle.command_parts.specs.Stop.{status_of}
-use Rattle.command_parts.specs.Told.{Told, Writes, TellsStop, status_told}
+use Rattle.command_parts.specs.Told.{Told, Says, Writes, TellsStop, status_told}
 use Rattle.commands.specs.Finishes.{Finishes, cut_off, ended, asleep, Keeps, kept, unkept, run_text}
 use Rattle.commands.specs.Finishes.{status_of_end, status_of_stop}
 use Rattle.commands.specs.Good as good
@@ -67,7 +67,7 @@ told_has stop (Err fault) = tt
 -- a stop is told by none of the others
 not_told : {S : Type 0} {writes : Writes S} {old new : S} {answer : Status} (stop : Cause)
     → TellsStop stop writes old new answer → has_stop answer
-not_told stop tells = subst has_stop (sym tells.is) (told_has stop tells.told)
+not_told stop tells = subst has_stop (sym tells.line.is) (told_has stop tells.line.told)
 
 pub stop_not_ok : {S : Type 0} {writes : Writes S} {old new : S} (stop : Cause)
     → TellsStop stop writes old new status.Ok → ⊥
@@ -89,7 +89,7 @@ free_by stop (Err fault) good.no_memory none = none.sink refl
 pub not_free : {S : Type 0} {writes : Writes S} {held after : Option Held} {old new : S}
     {answer : Status} → IsStopped writes IsFree held after old new answer → IsUnfailing answer → ⊥
 not_free it none =
-    free_by it.stop it.tells.told it.comes (subst IsUnfailing it.tells.is none)
+    free_by it.stop it.tells.line.told it.comes (subst IsUnfailing it.tells.line.is none)
 
 not_put_free : {held after : Option Held} {name : List ℕ} {stop : Cause}
     → NotPut held after name stop → IsFree stop
@@ -128,8 +128,9 @@ by_kept {S} {writes} {held} {after} {image} {digest} {stop} {c} {mid} {new} {byt
 by_kept is saved e (unkept cause answer none tells) =
     absurd (subst has_stop e (not_told cause tells))
 
-fell_by : {S : Type 0} {tells writes : Writes S} {held after : Option Held} {image digest : List ℕ}
-    {stop : Stop End} {c : Config} {old new : S} {answer : Status} → answer ≡ status.Asleep
+fell_by : {S : Type 0} {tells : Says S} {writes : Writes S} {held after : Option Held}
+    {image digest : List ℕ} {stop : Stop End} {c : Config} {old new : S} {answer : Status}
+    → answer ≡ status.Asleep
     → Finishes tells writes held after image digest stop c old new answer
     → Fell held after image digest stop c
 fell_by e (cut_off fault wrote same) = absurd (cc e)
@@ -137,20 +138,21 @@ fell_by {S} {tells} {writes} {held} {after} {image} {digest} {stop} e (ended oth
     absurd (awake stop other e)
 fell_by e (asleep mid bytes answer is wrote saved keeps) = by_kept is saved e keeps
 
-pub fell : {S : Type 0} {tells writes : Writes S} {held after : Option Held} {image digest : List ℕ}
-    {stop : Stop End} {c : Config} {old new : S}
+pub fell : {S : Type 0} {tells : Says S} {writes : Writes S} {held after : Option Held}
+    {image digest : List ℕ} {stop : Stop End} {c : Config} {old new : S}
     → Finishes tells writes held after image digest stop c old new status.Asleep
     → Fell held after image digest stop c
 fell it = fell_by refl it
 
 -- a text is written whole, and the status is that of the stop
-pub record WroteAll {S : Type 0} (writes : Writes S) (stop : Stop End) (c : Config) (old new : S)
+pub record WroteAll {S : Type 0} (says : Says S) (stop : Stop End) (c : Config) (old new : S)
     (answer : Status) : Type 0 where
-  pub text : writes old new (run_text c stop) (Ok tt)
+  pub text : says old new (run_text c stop) (Ok tt)
   pub answer_is : answer ≡ status_of_stop stop
 
-whole_kept : {S : Type 0} {tells writes : Writes S} {held after : Option Held} {image : List ℕ}
-    {stop : Stop End} {c : Config} {old mid new : S} {bytes : List ℕ} {answer : Status}
+whole_kept : {S : Type 0} {tells : Says S} {writes : Writes S} {held after : Option Held}
+    {image : List ℕ} {stop : Stop End} {c : Config} {old mid new : S} {bytes : List ℕ}
+    {answer : Status}
     → stop ≡ Asleep → tells old mid (run_text c stop) (Ok tt)
     → Keeps writes held after image bytes mid new answer → IsUnfailing answer
     → WroteAll tells stop c old new answer
@@ -159,9 +161,10 @@ whole_kept {S} {tells} {writes} {held} {after} {image} {stop} {c} {old} is wrote
     let P : S → Type 0 = λ s. tells old s (run_text c stop) (Ok tt) in
     record { text = subst P (sym same) wrote; answer_is = sym (ap status_of_stop is) }
 whole_kept is wrote (unkept cause answer other tells) none =
-    absurd (free_by cause tells.told (not_put_free other) (subst IsUnfailing tells.is none))
+    absurd (free_by cause tells.line.told (not_put_free other)
+    (subst IsUnfailing tells.line.is none))
 
-pub wrote_all : {S : Type 0} {tells writes : Writes S} {held after : Option Held}
+pub wrote_all : {S : Type 0} {tells : Says S} {writes : Writes S} {held after : Option Held}
     {image digest : List ℕ} {stop : Stop End} {c : Config} {old new : S} {answer : Status}
     → Finishes tells writes held after image digest stop c old new answer → IsUnfailing answer
     → WroteAll tells stop c old new answer

@@ -22,7 +22,7 @@ use Rattle.command_parts.specs.declared.stop.Stop.TheVariants.{NoMemory}
 use Rattle.command_parts.specs.Stop.{line_of}
 use Rattle.command_parts.specs.ValidFile.{IsValidFileOf, IsValidFile}
 use Rattle.command_parts.specs.Put.{NotPut}
-use Rattle.command_parts.specs.Told.{Writes, TellsStop}
+use Rattle.command_parts.specs.Told.{Says, Writes, TellsLine, TellsStop}
 use Rattle.command_parts.proofs.FaultCountLaws.{stop_no_fault, told_other}
 use Rattle.commands.specs.Finishes.{run_text, status_of_end, status_of_stop}
 use Rattle.commands.specs.declared.goes.Prepared.{Prepared}
@@ -77,9 +77,9 @@ status_no_fault Steps = λ e. absurd (cc e)
 status_no_fault Asleep = λ e. absurd (cc e)
 status_no_fault (Over_by e) = end_no_fault e
 
-module _ {S : Type 0} {writes : Writes S} {old new : S} where
+module _ {S : Type 0} {says : Says S} {old new : S} where
   pub run_no_fault : (amx : Amx) (script : Script) (words : GoWords) (answer : Status)
-      → RunsFile writes amx script words old new answer
+      → RunsFile says amx script words old new answer
       → answer ≢ status.FileFault
   run_no_fault amx script words answer (stopped stop none tells) =
       stop_no_fault stop answer (ready_no_fault none) tells
@@ -89,23 +89,24 @@ module _ {S : Type 0} {writes : Writes S} {old new : S} where
   -- of bytes that are a valid file
   pub reads_none : (bytes lent : List ℕ) (script : Script) (words : GoWords) (stop : Stop)
       (answer : Status) → lent ≡ bytes → IsValidFileOf lent (Err stop)
-      → TellsStop stop writes old new answer → (amx : Amx) → IsValidFile bytes amx
-      → RunsFile writes amx script words old new answer
+      → TellsLine stop says old new answer → (amx : Amx) → IsValidFile bytes amx
+      → RunsFile says amx script words old new answer
   reads_none bytes lent script words stop answer same none tells amx valid =
       let P : List ℕ → Type 0 = λ b. IsValidFileOf b (Err stop) in
-      let Q : Stop → Type 0 = λ s. TellsStop s writes old new answer in
+      let Q : Stop → Type 0 = λ s. TellsLine s says old new answer in
       stopped NoMemory wants_memory (subst Q (only_memory amx valid stop (subst P same none)) tells)
 
   pub reads_same : (bytes lent : List ℕ) (script : Script) (words : GoWords) (read : Amx)
       (answer : Status) → lent ≡ bytes → IsValidFileOf lent (Ok read)
-      → RunsFile writes read script words old new answer → (amx : Amx)
+      → RunsFile says read script words old new answer → (amx : Amx)
       → IsValidFile bytes amx
-      → RunsFile writes amx script words old new answer
+      → RunsFile says amx script words old new answer
   reads_same bytes lent script words read answer same valid_read runs amx valid =
       let P : List ℕ → Type 0 = λ b. IsValidFileOf b (Ok read) in
-      let Q : Amx → Type 0 = λ a. RunsFile writes a script words old new answer in
+      let Q : Amx → Type 0 = λ a. RunsFile says a script words old new answer in
       subst Q (same_file amx valid read (subst P same valid_read)) runs
 
+module _ {S : Type 0} {writes : Writes S} {old new : S} where
   -- ---- the put
 
   pub makes_none : (words : GoWords) (it : Prepared) (held after : Option Held) (name : List ℕ)
@@ -120,7 +121,7 @@ module _ {S : Type 0} {writes : Writes S} {old new : S} where
       (answer : Status) → name ≡ words.amx
       → lent ≡ it.compiled.bytes → after ≡ with_put held name lent
       → ((amx : Amx) → IsValidFile it.compiled.bytes amx
-      → RunsFile (behind (warning_lines it.compiled.warnings) writes) amx it.script words old
+      → RunsFile (behind (warning_lines it.compiled.warnings) writes.says) amx it.script words old
       new answer)
       → Makes writes words it held after old new answer
   makes_put words it held after name lent answer e same kept runs =
@@ -138,12 +139,13 @@ module _ {S : Type 0} {writes : Writes S} {old new : S} where
   goes_nowhere words held after stop answer none kept tells =
       inl (record { stop = stop; comes = none; kept = kept; tells = tells })
 
-  pub goes_good : (words : GoWords) (held mid after : Option Held) (it : Prepared) (answer : Status)
-      → IsGood held words it → IsScript it.script
-      → mid ≡ held → Makes writes words it mid after old new answer
+  pub goes_good : (words : GoWords) (held mid after : Option Held) (begun : S) (it : Prepared)
+      (answer : Status) → IsGood held words it → IsScript it.script
+      → mid ≡ held → begun ≡ old → Makes writes words it mid after begun new answer
       → Goes writes words held after old new answer
-  goes_good words held mid after it answer good keeps same makes =
-      let P : Option Held → Type 0 = λ h. Makes writes words it h after old new answer in
+  goes_good words held mid after begun it answer good keeps same from makes =
+      let P : Option Held → Type 0 = λ h. Makes writes words it h after begun new answer in
+      let Q : S → Type 0 = λ s. Makes writes words it held after s new answer in
       let has = good.made.has in
       inr (record {
         prepared = it;
@@ -151,7 +153,7 @@ module _ {S : Type 0} {writes : Writes S} {old new : S} where
         meant =
             λ f main served. meant good.made.program has.amx has.agrees f main words.steps
             words.sleeps it.script keeps served;
-        puts = (subst P same makes) has.amx (made_valid has);
+        puts = (subst Q from (subst P same makes)) has.amx (made_valid has);
       })
 
 -- ---- behind the warnings

@@ -12,7 +12,7 @@ use Rattle.command_parts.specs.declared.status.Status.{Status}
 use Rattle.command_parts.specs.declared.stop.Stop.{Stop}
 use Rattle.command_parts.specs.declared.stop.Stop.TheVariants.{NoMemory}
 use Rattle.command_parts.specs.ScriptFile.{IsScriptOf}
-use Rattle.command_parts.specs.Told.{Writes, TellsStop}
+use Rattle.command_parts.specs.Told.{Says, Writes, TellsLine}
 use Rattle.commands.specs.Runs.{IsStopped}
 use Rattle.command_parts.specs.declared.command.GoWords.{GoWords}
 use Rattle.commands.specs.PutFile.{Unput}
@@ -48,15 +48,15 @@ only_memory amx script stop main served (no_native cause there (unregistered num
 only_memory amx script stop main served (no_native cause there no_memory) = refl
 only_memory amx script stop main served wants_memory = refl
 
-module _ {S : Type 0} (writes : Writes S) (old new : S) (answer : Status) where
+module _ {S : Type 0} (says : Says S) (old new : S) (answer : Status) where
   runs : (amx : Amx) (script : Script) (words : GoWords) → address_of amx Main ≡ Some amx.entry
       → AreServed amx script
-      → RunsFile writes amx script words old new answer
-      → TellsStop NoMemory writes old new answer
-      ⊎ TellsRun writes amx script words old new answer
+      → RunsFile says amx script words old new answer
+      → TellsLine NoMemory says old new answer
+      ⊎ TellsRun says amx script words old new answer
   runs amx script words main served (ran there has tells) = inr tells
   runs amx script words main served (stopped stop none tells) =
-      let P : Stop → Type 0 = λ s. TellsStop s writes old new answer in
+      let P : Stop → Type 0 = λ s. TellsLine s says old new answer in
       inl (subst P (only_memory amx script stop main served none) tells)
 
 module _ {S : Type 0} (writes : Writes S) (old new : S) (answer : Status) (map : Held)
@@ -91,8 +91,8 @@ module _ {S : Type 0} (writes : Writes S) (old new : S) (answer : Status) (map :
         it = it;
         comes = inr (
           is.kept,
-          runs (behind (warning_lines it.prepared.compiled.warnings) writes) old new answer has.amx
-              it.prepared.script words
+          runs (behind (warning_lines it.prepared.compiled.warnings) writes.says) old new answer
+              has.amx it.prepared.script words
               (main_address made.program has.amx has.agrees source.main entry) served is.runs,
         );
       }

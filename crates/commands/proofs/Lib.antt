@@ -27,5 +27,6 @@ pub mod ServedNativeLaws
 pub mod SourceGoLaws
 pub mod SourceStopLaws
 pub mod StartLaws
+pub mod SteadyLaws
 pub mod UsageLaws
 pub mod UsedLaws

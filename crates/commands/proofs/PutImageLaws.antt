@@ -1,5 +1,5 @@
 -- An image that a command put is taken by the next `resume`.
-use Rattle.std.proofs.Common.{◌≡◌, ◌∙◌, ◌+◌, ◌-◌, ◌*◌, ◌/◌, ◌≤◌, inl, inr, ℕ, ℤ, List, []}
+use Rattle.std.proofs.Common.{◌≡◌, ◌∙◌, ◌+◌, ◌*◌, ◌/◌, ◌≤◌, inl, inr, ℕ, ℤ, List, []}
 use Rattle.std.proofs.Common.{Option, None, Some, Ok, Err, length, take, drop, replicate}
 use Rattle.std.proofs.Common.{option_and_then, refl, pos, sym, ap, subst, arith, length-append}
 use Rattle.std.proofs.Common.{length-drop}
@@ -14,7 +14,7 @@ use Rattle.host_script.specs.declared.event.End.{End}
 use Rattle.amx_ops.specs.declared.amx.Amx.{Amx}
 use Rattle.amx_ops.specs.Keeps.{IsRunnable}
 use Rattle.amx_ops.specs.Moves.{Config}
-use Rattle.amx_ops.specs.Runs.{Stop, Asleep, Traced}
+use Rattle.amx_ops.specs.Runs.{Stop, Traced}
 use Rattle.amx_ops.specs.State.{State}
 use Rattle.amx_ops.specs.States.{IsState, IsRestorable}
 use Rattle.amx_ops.specs.Trace.{address_of, loaded, start_at, begun, trace_by}

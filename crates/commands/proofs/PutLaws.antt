@@ -29,20 +29,22 @@ module _ {S : Type 0} {writes : Writes S} {old new : S} where
 
   -- a file that was made, as it was lent
   pub puts_lent : (it bytes : List ℕ) (its warnings : List Warning) (held mid after : Option Held)
-      (name meant : List ℕ) (answer : Status) → bytes ≡ it → warnings ≡ its → name ≡ meant
-      → mid ≡ held
-      → PutsFile writes bytes (put_text warnings bytes) name mid after old new answer
+      (begun : S) (name meant : List ℕ) (answer : Status) → bytes ≡ it → warnings ≡ its
+      → name ≡ meant → mid ≡ held → begun ≡ old
+      → PutsFile writes bytes (put_text warnings bytes) name mid after begun new answer
       → PutsFile writes it (put_text its it) meant held after old new answer
-  puts_lent it bytes its warnings held mid after name meant answer b w n same puts =
+  puts_lent it bytes its warnings held mid after begun name meant answer b w n same from puts =
       let P : List ℕ → Type 0 =
-      λ b. PutsFile writes b (put_text warnings b) name mid after old new answer in
+      λ b. PutsFile writes b (put_text warnings b) name mid after begun new answer in
       let Q : List Warning → Type 0 =
-      λ w. PutsFile writes it (put_text w it) name mid after old new answer in
+      λ w. PutsFile writes it (put_text w it) name mid after begun new answer in
       let R : List ℕ → Type 0 =
-      λ n. PutsFile writes it (put_text its it) n mid after old new answer in
+      λ n. PutsFile writes it (put_text its it) n mid after begun new answer in
       let T : Option Held → Type 0 =
-      λ h. PutsFile writes it (put_text its it) meant h after old new answer in
-      subst T same (subst R n (subst Q w (subst P b puts)))
+      λ h. PutsFile writes it (put_text its it) meant h after begun new answer in
+      let U : S → Type 0 =
+      λ s. PutsFile writes it (put_text its it) meant held after s new answer in
+      subst U from (subst T same (subst R n (subst Q w (subst P b puts))))
 
   pub compiles_good : (words : CompileWords) (held after : Option Held) (src : List ℕ)
       (encoding : Encoding) (it : Compiled) (answer : Status)

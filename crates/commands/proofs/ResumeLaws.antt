@@ -128,25 +128,25 @@ module _ {S : Type 0} {writes : Writes S} {old new : S} where
       (answer : Status) → IsRunnable program.file → HasAll program m position ready
       → IsRestored program.file m → image ≡ words.image
       → (let made = segment_of ready.script (place_of ready) words.steps in
-      Finishes (with_used words.count made.steps writes) writes held after image ready.digest
+      Finishes (with_used words.count made.steps writes.says) writes held after image ready.digest
       made.stop made.config old new answer)
       → ResumesState writes program words m.state position held after old new answer
   goes_on program words m position ready image held after answer runs has restored named it =
       let P : Segmented Config End → Type 0 =
-      λ made. Finishes (with_used words.count made.steps writes) writes held after words.image
+      λ made. Finishes (with_used words.count made.steps writes.says) writes held after words.image
       program.digest made.stop made.config old new answer in
       let Q : List ℕ → Type 0 = λ i.
       (let made = segment_of program.script (place_of ready) words.steps in
-      Finishes (with_used words.count made.steps writes) writes held after i program.digest
+      Finishes (with_used words.count made.steps writes.says) writes held after i program.digest
       made.stop made.config old new answer) in
       let R : Script → Type 0 = λ script.
       (let made = segment_of script (place_of ready) words.steps in
-      Finishes (with_used words.count made.steps writes) writes held after image ready.digest
+      Finishes (with_used words.count made.steps writes.says) writes held after image ready.digest
       made.stop made.config old new answer) in
       let D : List ℕ → Type 0 = λ digest.
       (let made = segment_of program.script (place_of ready) words.steps in
-      Finishes (with_used words.count made.steps writes) writes held after image digest made.stop
-      made.config old new answer) in
+      Finishes (with_used words.count made.steps writes.says) writes held after image digest
+      made.stop made.config old new answer) in
       inr (record {
         runnable = runs;
         served = has.served;
@@ -172,21 +172,23 @@ module _ {S : Type 0} {writes : Writes S} {old new : S} where
       }))
 
   pub reads : (program : Program) (words : ResumeWords) (name bytes lent : List ℕ)
-      (held mid after : Option Held) (answer : Status)
+      (held mid after : Option Held) (begun : S) (answer : Status)
       → name ≡ words.image → Tells held name (Some bytes) × (length bytes ≤ IMAGE_LIMIT)
-      → lent ≡ bytes → mid ≡ held
-      → ResumesImage writes program words lent mid after old new answer
+      → lent ≡ bytes → mid ≡ held → begun ≡ old
+      → ResumesImage writes program words lent mid after begun new answer
       → ResumesProgram writes program words held after old new answer
-  reads program words name bytes lent held mid after answer named tells e same it =
+  reads program words name bytes lent held mid after begun answer named tells e same from it =
       let P : List ℕ → Type 0 = λ n. Tells held n (Some bytes) in
-      let Q : List ℕ → Type 0 = λ b. ResumesImage writes program words b mid after old new answer in
+      let Q : List ℕ → Type 0 =
+      λ b. ResumesImage writes program words b mid after begun new answer in
       let R : Option Held → Type 0 =
-      λ h. ResumesImage writes program words bytes h after old new answer in
+      λ h. ResumesImage writes program words bytes h after begun new answer in
+      let T : S → Type 0 = λ s. ResumesImage writes program words bytes held after s new answer in
       inr (record {
         bytes = bytes;
         tells = subst P named tells.0;
         within = tells.1;
-        is = subst R same (subst Q e it);
+        is = subst T from (subst R same (subst Q e it));
       })
 
   pub stops_reading : (program : Program) (words : ResumeWords) (name : List ℕ)
@@ -208,19 +210,20 @@ module _ {S : Type 0} {writes : Writes S} {old new : S} where
       let Q : List ℕ → Type 0 = λ n. NoProgram held amx n stop in
       inl (record { stop = stop; comes = subst P a (subst Q b none); kept = kept; tells = tells })
 
-  pub resumes_good : (words : ResumeWords) (held mid after : Option Held) (amx script : List ℕ)
-      (program : Program) (answer : Status)
+  pub resumes_good : (words : ResumeWords) (held mid after : Option Held) (begun : S)
+      (amx script : List ℕ) (program : Program) (answer : Status)
       → amx ≡ words.amx → script ≡ words.script → IsProgram held amx script program
-      → mid ≡ held
-      → ResumesProgram writes program words mid after old new answer
+      → mid ≡ held → begun ≡ old
+      → ResumesProgram writes program words mid after begun new answer
       → Resumes writes words held after old new answer
-  resumes_good words held mid after amx script program answer a b good same resumes =
+  resumes_good words held mid after begun amx script program answer a b good same from resumes =
       let P : List ℕ → Type 0 = λ n. IsProgram held n words.script program in
       let Q : List ℕ → Type 0 = λ n. IsProgram held amx n program in
       let R : Option Held → Type 0 =
-      λ h. ResumesProgram writes program words h after old new answer in
+      λ h. ResumesProgram writes program words h after begun new answer in
+      let T : S → Type 0 = λ s. ResumesProgram writes program words held after s new answer in
       inr (record {
         program = program;
         good = subst P a (subst Q b good);
-        resumes = subst R same resumes;
+        resumes = subst T from (subst R same resumes);
       })

@@ -32,19 +32,21 @@ module _ {S : Type 0} {writes : Writes S} {old new : S} where
       let Q : List ℕ → Type 0 = λ n. NoProgram held amx n stop in
       inl (record { stop = stop; comes = subst P a (subst Q b none); kept = kept; tells = tells })
 
-  pub runs_good : (words : RunWords) (held mid after : Option Held) (amx script : List ℕ)
-      (program : Program) (answer : Status) → amx ≡ words.amx
-      → script ≡ words.script → IsProgram held amx script program → mid ≡ held
-      → RunsProgram writes program words mid after old new answer
+  pub runs_good : (words : RunWords) (held mid after : Option Held) (begun : S)
+      (amx script : List ℕ) (program : Program) (answer : Status) → amx ≡ words.amx
+      → script ≡ words.script → IsProgram held amx script program → mid ≡ held → begun ≡ old
+      → RunsProgram writes program words mid after begun new answer
       → Runs writes words held after old new answer
-  runs_good words held mid after amx script program answer a b good same runs =
+  runs_good words held mid after begun amx script program answer a b good same from runs =
       let P : List ℕ → Type 0 = λ n. IsProgram held n words.script program in
       let Q : List ℕ → Type 0 = λ n. IsProgram held amx n program in
-      let R : Option Held → Type 0 = λ h. RunsProgram writes program words h after old new answer in
+      let R : Option Held → Type 0 =
+      λ h. RunsProgram writes program words h after begun new answer in
+      let T : S → Type 0 = λ s. RunsProgram writes program words held after s new answer in
       inr (record {
         program = program;
         good = subst P a (subst Q b good);
-        runs = subst R same runs;
+        runs = subst T from (subst R same runs);
       })
 
   pub stops_at_entry : (program : Program) (words : RunWords) (held : Option Held) (stop : Stop)

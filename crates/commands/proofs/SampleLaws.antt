@@ -14,7 +14,7 @@ use Rattle.command_parts.specs.declared.status.Status.TheVariants as status
 use Rattle.command_parts.specs.declared.stop.Stop.{Stop}
 use Rattle.command_parts.specs.declared.stop.Stop.TheVariants.{NoMemory}
 use Rattle.command_parts.specs.Put.{NotPut}
-use Rattle.command_parts.specs.Told.{Writes, TellsStop}
+use Rattle.command_parts.specs.Told.{Says, Writes, TellsLine, TellsStop}
 use Rattle.command_parts.specs.ValidFile.{IsValidFile, IsValidFileOf}
 use Rattle.command_parts.proofs.FaultCountLaws.{stop_no_fault, told_other}
 use Rattle.commands.specs.Counted.{TellsCounted}
@@ -28,10 +28,10 @@ use Rattle.commands.proofs.FileReadyLaws.{file_of, ready_no_fault}
 use Rattle.commands.proofs.GoFileLaws.{status_no_fault}
 use Rattle.commands.proofs.MadeLaws.{made_valid, only_memory, same_file}
 
-module _ {S : Type 0} {writes : Writes S} {old new : S} where
+module _ {S : Type 0} {says : Says S} {old new : S} where
   -- ---- its run
 
-  pub sample_no_fault : (amx : Amx) (answer : Status) → RunsSample writes amx old new answer
+  pub sample_no_fault : (amx : Amx) (answer : Status) → RunsSample says amx old new answer
       → answer ≢ status.FileFault
   sample_no_fault amx answer (stopped stop none tells) =
       stop_no_fault stop answer (ready_no_fault none) tells
@@ -39,46 +39,47 @@ module _ {S : Type 0} {writes : Writes S} {old new : S} where
       λ e. told_other _ tells.told (status_no_fault _) (sym tells.is ∙ e)
 
   pub not_ready : (amx : Amx) (script : Script) (stop : Stop) (answer : Status) → script ≡ plain
-      → NotReady amx script stop → TellsStop stop writes old new answer
-      → RunsSample writes amx old new answer
+      → NotReady amx script stop → TellsLine stop says old new answer
+      → RunsSample says amx old new answer
   not_ready amx script stop answer e none tells =
       stopped stop (subst (λ (s : Script). NotReady amx s stop) e none) tells
 
   pub no_script : (amx : Amx) (stop : Stop) (answer : Status) → stop ≡ NoMemory
-      → TellsStop stop writes old new answer → RunsSample writes amx old new answer
+      → TellsLine stop says old new answer → RunsSample says amx old new answer
   no_script amx stop answer e tells =
       stopped stop (subst (NotReady amx plain) (sym e) wants_memory) tells
 
   pub runs_ready : (amx : Amx) (script : Script) (ready : ReadyFile) (cells : ℕ) (answer : Status)
       → script ≡ plain → IsReadyFile amx script ready → cells ≡ length amx.code
-      → TellsCounted writes cells (trace_of ready.machine.amx script DEFAULT_STEPS 0) old new answer
-      → RunsSample writes amx old new answer
+      → TellsCounted says cells (trace_of ready.machine.amx script DEFAULT_STEPS 0) old new answer
+      → RunsSample says amx old new answer
   runs_ready amx script ready cells answer e is same tells =
       let P : ℕ → Type 0 =
-      λ n. TellsCounted writes n (trace_of ready.machine.amx script DEFAULT_STEPS 0) old new
+      λ n. TellsCounted says n (trace_of ready.machine.amx script DEFAULT_STEPS 0) old new
       answer in
       let Q : Script → Type 0 =
-      λ s. TellsCounted writes (length amx.code) (trace_of ready.machine.amx s DEFAULT_STEPS 0) old
+      λ s. TellsCounted says (length amx.code) (trace_of ready.machine.amx s DEFAULT_STEPS 0) old
       new answer in
       let R : Amx → Type 0 =
-      λ a. TellsCounted writes (length amx.code) (trace_of a plain DEFAULT_STEPS 0) old new
+      λ a. TellsCounted says (length amx.code) (trace_of a plain DEFAULT_STEPS 0) old new
       answer in
       ran is.main (subst R (file_of amx script ready is) (subst Q e (subst P same tells)))
 
   -- ---- of bytes that are a valid file
 
   pub sample_unread : (bytes : List ℕ) (stop : Stop) (answer : Status)
-      → IsValidFileOf bytes (Err stop) → TellsStop stop writes old new answer
-      → (amx : Amx) → IsValidFile bytes amx → RunsSample writes amx old new answer
+      → IsValidFileOf bytes (Err stop) → TellsLine stop says old new answer
+      → (amx : Amx) → IsValidFile bytes amx → RunsSample says amx old new answer
   sample_unread bytes stop answer none tells amx valid =
       no_script amx stop answer (only_memory amx valid stop none) tells
 
   pub sample_read : (bytes : List ℕ) (read : Amx) (answer : Status)
-      → IsValidFileOf bytes (Ok read) → RunsSample writes read old new answer
-      → (amx : Amx) → IsValidFile bytes amx → RunsSample writes amx old new answer
+      → IsValidFileOf bytes (Ok read) → RunsSample says read old new answer
+      → (amx : Amx) → IsValidFile bytes amx → RunsSample says amx old new answer
   sample_read bytes read answer is runs amx valid =
-      subst (λ (a : Amx). RunsSample writes a old new answer) (same_file amx valid read is) runs
+      subst (λ (a : Amx). RunsSample says a old new answer) (same_file amx valid read is) runs
 
+module _ {S : Type 0} {writes : Writes S} {old new : S} where
   -- ---- the put
 
   pub sample_unput : (name bytes : List ℕ) (held after : Option Held) (stop : Stop)
@@ -89,11 +90,11 @@ module _ {S : Type 0} {writes : Writes S} {old new : S} where
 
   pub sample_put : (name bytes lent : List ℕ) (held after : Option Held) (answer : Status)
       → lent ≡ bytes → after ≡ with_put held name lent
-      → ((amx : Amx) → IsValidFile lent amx → RunsSample writes amx old new answer)
+      → ((amx : Amx) → IsValidFile lent amx → RunsSample writes.says amx old new answer)
       → MakesSample writes name bytes held after old new answer
   sample_put name bytes lent held after answer same kept runs =
       let P : List ℕ → Type 0 =
-      λ b. (amx : Amx) → IsValidFile b amx → RunsSample writes amx old new answer in
+      λ b. (amx : Amx) → IsValidFile b amx → RunsSample writes.says amx old new answer in
       λ amx valid. inr (record {
         kept = kept ∙ ap (λ b. with_put held name b) same;
         runs = subst P same runs amx valid;

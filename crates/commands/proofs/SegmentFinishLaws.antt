@@ -8,7 +8,7 @@ use Rattle.amx_image.specs.declared.version.Version.TheVariants.{Live}
 use Rattle.amx_image.specs.Image.{IsImage}
 use Rattle.command_parts.specs.declared.status.Status.{Status}
 use Rattle.command_parts.specs.declared.status.Status.TheVariants as status
-use Rattle.command_parts.specs.Told.{Told, Writes, status_told}
+use Rattle.command_parts.specs.Told.{Told, Says, Writes, status_told}
 use Rattle.commands.specs.Finishes.{Finishes, cut_off, ended, asleep, Keeps, run_text}
 use Rattle.commands.specs.Finishes.{status_of_stop}
 use Rattle.commands.specs.Played.{TellsTrace}
@@ -26,7 +26,7 @@ pub ended_awake : (told : Told) → status_told status.Ended told ≢ status.Asl
 ended_awake (Ok done) = λ e. absurd (cc e)
 ended_awake (Err fault) = λ e. absurd (cc e)
 
-module _ {S : Type 0} (tells : Writes S) (t : Traced Config End) where
+module _ {S : Type 0} (tells : Says S) (t : Traced Config End) where
   -- it stopped asleep
   pub stops_asleep : {old new : S} → TellsTrace t tells old new status.Asleep → t.stop ≡ Asleep
   stops_asleep it = asleep_by it.told t.stop it.is
@@ -43,7 +43,7 @@ module _ {S : Type 0} (tells : Writes S) (t : Traced Config End) where
         → tells old new (run_text t.config t.stop) (Ok tt)
     wrote_asleep it = whole_by it.told it.is it.written
 
-module _ {S : Type 0} (tells writes : Writes S) (held after : Option Held)
+module _ {S : Type 0} (tells : Says S) (writes : Writes S) (held after : Option Held)
     (image digest : List ℕ) (t : Traced Config End) where
   abbrev IsFinish : S → S → Status → Type 0
   IsFinish old new answer =

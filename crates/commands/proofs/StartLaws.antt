@@ -63,18 +63,18 @@ module _ {S : Type 0} (writes : Writes S) (held : Option Held) (image : List ℕ
 
   abbrev IsFinish : Option Held → Traced Config End → Status → Type 0
   IsFinish after t answer =
-      Finishes (with_used count t.steps writes) writes held after image program.digest t.stop
+      Finishes (with_used count t.steps writes.says) writes held after image program.digest t.stop
       t.config old new answer
 
   -- it ends in error 3, where nothing was shown
   pub ends_at_once : (answer : Status) → start_at program.file address [] idle ≡ None
-      → TellsTrace (traced_by None) (with_used count 0 writes) old new answer
+      → TellsTrace (traced_by None) (with_used count 0 writes.says) old new answer
       → IsFinish held (program_trace program address bound) answer
   ends_at_once answer e tells =
       let other : answer ≢ status.Asleep = λ f. ended_awake tells.told (sym tells.is ∙ f) in
       subst (λ o. IsFinish held (traced_by o) answer) (sym e)
-      (ends (with_used count 0 writes) writes held held image program.digest (traced_by None) answer
-      tells other refl)
+      (ends (with_used count 0 writes.says) writes held held image program.digest (traced_by None)
+      answer tells other refl)
 
   -- or as its segment does
   abbrev made : State → Segmented Config End
@@ -143,18 +143,18 @@ pub finishes_there : {S : Type 0} (writes : Writes S) (program : Program) (ready
     →
     (let made = segment_of program.script (record { machine = m; position = ready.at })
     words.steps in
-    Finishes (with_used words.count made.steps writes) writes held after image program.digest
+    Finishes (with_used words.count made.steps writes.says) writes held after image program.digest
     made.stop made.config old new answer)
     → RunsEntry writes program words held after old new answer
 finishes_there writes program ready words number can prepared there m begins image named held after
     old new answer it =
     let P : Segmented Config End → Type 0 =
-    λ made. Finishes (with_used words.count made.steps writes) writes held after words.image
+    λ made. Finishes (with_used words.count made.steps writes.says) writes held after words.image
     program.digest made.stop made.config old new answer in
     let Q : List ℕ → Type 0 = λ i.
     (let made = segment_of program.script (record { machine = m; position = ready.at })
     words.steps in
-    Finishes (with_used words.count made.steps writes) writes held after i program.digest
+    Finishes (with_used words.count made.steps writes.says) writes held after i program.digest
     made.stop made.config old new answer) in
     let same =
     segment_is program ready words.entry number prepared there m begins words.steps in
@@ -196,7 +196,7 @@ module _ (program : Program) (ready : ReadySegment) (words : RunWords) (number :
       given code (e ∙ fails.1) is said
 
   pub finishes_at_once : {S : Type 0} (writes : Writes S) (held : Option Held) (old new : S)
-      (answer : Status) → TellsTrace none (with_used words.count 0 writes) old new answer
+      (answer : Status) → TellsTrace none (with_used words.count 0 writes.says) old new answer
       → RunsEntry writes program words held held old new answer
   finishes_at_once writes held old new answer tells = record {
     runnable = can.runnable;

@@ -13,7 +13,7 @@ use Rattle.host_run.specs.declared.end.SessionEnd.{SessionEnd}
 use Rattle.host_run.specs.declared.end.SessionEnd.TheVariants as session
 use Rattle.command_parts.specs.declared.status.Status.{Status}
 use Rattle.command_parts.specs.declared.status.Status.TheVariants as status
-use Rattle.command_parts.specs.Told.{Writes}
+use Rattle.command_parts.specs.Told.{Says}
 use Rattle.commands.specs.Played.{TellsTrace, trace_of}
 
 -- the lines of both counts
@@ -22,17 +22,17 @@ counts_text cells steps =
     codes "cells " ++ (decimal cells ++ (codes "\nused " ++ (decimal steps ++ codes "\n")))
 
 -- what is written in front of a text
-abbrev pub before : {S : Type 0} → List ℕ → Writes S → Writes S
-before back writes = λ old new text told. writes old new (text ++ back) told
+abbrev pub before : {S : Type 0} → List ℕ → Says S → Says S
+before back says = λ old new text told. says old new (text ++ back) told
 
 -- the trace of a file from its main under the plain script, in one segment
 abbrev pub sample_trace : Amx → ℕ → Traced Config End
 sample_trace amx steps = trace_of amx plain steps 0
 
 -- its text was written with the counts behind it, or a front of that
-abbrev pub TellsCounted : {S : Type 0} → Writes S → ℕ → Traced Config End → S → S → Status → Type 0
-TellsCounted writes cells t old new answer =
-    TellsTrace t (before (counts_text cells t.steps) writes) old new answer
+abbrev pub TellsCounted : {S : Type 0} → Says S → ℕ → Traced Config End → S → S → Status → Type 0
+TellsCounted says cells t old new answer =
+    TellsTrace t (before (counts_text cells t.steps) says) old new answer
 
 -- ---- what the calls answer
 
@@ -46,9 +46,9 @@ HasCount steps count session.Steps = count ≡ steps
 HasCount steps count session.SinkFault = Unit {0}
 
 -- a trace was run, and its text written but for the line of a bound that is used up
-pub record RunsTrace {S : Type 0} (writes : Writes S) (t : Traced Config End) (old new : S)
+pub record RunsTrace {S : Type 0} (says : Says S) (t : Traced Config End) (old new : S)
     (count : ℕ) (end : SessionEnd) : Type 0 where
-  pub written : writes old new (told_text t) (told end)
+  pub written : says old new (told_text t) (told end)
   pub stop : StopsAs t.stop end
   pub steps : HasCount t.steps count end
 

@@ -14,7 +14,7 @@ use Rattle.command_parts.specs.declared.status.Status.{Status}
 use Rattle.command_parts.specs.declared.status.Status.TheVariants as status
 use Rattle.command_parts.specs.declared.stop.Stop.{Stop as Cause}
 use Rattle.command_parts.specs.Put.{NotPut}
-use Rattle.command_parts.specs.Told.{Writes, TellsStop}
+use Rattle.command_parts.specs.Told.{Says, Writes, TellsStop}
 
 -- the line of an end; a sleep has had its own
 abbrev pub stop_line : Stop End → List ℕ
@@ -50,7 +50,7 @@ pub data Keeps {S : Type 0} (writes : Writes S) (held after : Option Held) (imag
 
 -- the sink fails in the text, and no file is put; or the text is written, and only at a sleep is
 -- the image put behind it; `tells` is how the text is written, `writes` the line of a stop
-pub data Finishes {S : Type 0} (tells writes : Writes S) (held after : Option Held)
+pub data Finishes {S : Type 0} (tells : Says S) (writes : Writes S) (held after : Option Held)
     (image digest : List ℕ) (stop : Stop End) (c : Config)
     (old new : S) : Status → Type 0 where
   cut_off : (fault : SinkFault) → tells old new (run_text c stop) (Err fault) → after ≡ held

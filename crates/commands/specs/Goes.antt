@@ -8,7 +8,7 @@ use Rattle.command_parts.specs.declared.stop.Stop.{Stop}
 use Rattle.command_parts.specs.ValidFile.{IsValidFile}
 use Rattle.pawn_front.specs.declared.compiled.Compiled.{Compiled}
 use Rattle.pawn_front.specs.Compiled.{IsCompiled}
-use Rattle.command_parts.specs.Told.{Writes}
+use Rattle.command_parts.specs.Told.{Says, Writes}
 use Rattle.commands.specs.Runs.{IsStopped}
 use Rattle.commands.specs.PutFile.{Unput}
 use Rattle.commands.specs.Lines.{warning_lines}
@@ -38,15 +38,15 @@ pub data NotGood (held : Option Held) (words : GoWords) (stop : Stop) : Type 0 w
 -- ---- the file that is put
 
 -- what is written behind a text
-abbrev pub behind : {S : Type 0} → List ℕ → Writes S → Writes S
-behind front writes = λ old new text told. writes old new (front ++ text) told
+abbrev pub behind : {S : Type 0} → List ℕ → Says S → Says S
+behind front says = λ old new text told. says old new (front ++ text) told
 
 -- it is put, the warnings are told, and what was put is run
 pub record RunsPut {S : Type 0} (writes : Writes S) (words : GoWords) (amx : Amx) (it : Prepared)
     (held after : Option Held) (old new : S) (answer : Status) : Type 0 where
   pub kept : after ≡ with_put held words.amx it.compiled.bytes
-  pub runs : RunsFile (behind (warning_lines it.compiled.warnings) writes) amx it.script words old
-      new answer
+  pub runs : RunsFile (behind (warning_lines it.compiled.warnings) writes.says) amx it.script words
+      old new answer
 
 -- it isn't put, or it is put and run
 abbrev pub MayPut : {S : Type 0} → Writes S → GoWords → Amx → Prepared → Option Held → Option Held

@@ -8,7 +8,7 @@ use Rattle.pawn_front.specs.Means.{Means}
 use Rattle.gen_agrees.specs.Agrees.{Serves}
 use Rattle.command_parts.specs.declared.status.Status.{Status}
 use Rattle.command_parts.specs.declared.stop.Stop.TheVariants.{NoMemory}
-use Rattle.command_parts.specs.Told.{Writes, TellsStop}
+use Rattle.command_parts.specs.Told.{Writes, TellsLine}
 use Rattle.commands.specs.PutFile.{Unput}
 use Rattle.commands.specs.Lines.{warning_lines}
 use Rattle.commands.specs.Runs.{IsStopped}
@@ -34,9 +34,9 @@ pub record IsGone {S : Type 0} (writes : Writes S) (words : GoWords) (held after
   pub it : GoesGood writes words held after old new answer
   pub comes : Unput writes words.amx held after old new answer
       ⊎ ((after ≡ with_put held words.amx it.prepared.compiled.bytes)
-      × (TellsStop NoMemory (behind (warning_lines it.prepared.compiled.warnings) writes) old
+      × (TellsLine NoMemory (behind (warning_lines it.prepared.compiled.warnings) writes.says) old
       new answer
-      ⊎ TellsRun (behind (warning_lines it.prepared.compiled.warnings) writes)
+      ⊎ TellsRun (behind (warning_lines it.prepared.compiled.warnings) writes.says)
       it.good.made.has.amx it.prepared.script words old new answer))
 
 -- over files that tell what they hold

@@ -7,7 +7,7 @@ use Rattle.amx_image.specs.declared.fault.TheConstants as register
 use Rattle.amx_image.specs.Faults.{number_of}
 use Rattle.command_parts.specs.declared.status.Status.{Status}
 use Rattle.command_parts.specs.declared.status.Status.TheVariants as status
-use Rattle.command_parts.specs.Told.{Told, Writes, status_told}
+use Rattle.command_parts.specs.Told.{Told, Says, status_told}
 
 -- a register by its number, behind a blank
 abbrev pub register_named : ℕ → List ℕ
@@ -31,8 +31,8 @@ abbrev pub image_line : ImageFault → List ℕ
 image_line f = codes "bad image " ++ (decimal (number_of f) ++ (register_text f ++ codes "\n"))
 
 -- it was written, or a front of it
-pub record TellsImage {S : Type 0} (f : ImageFault) (writes : Writes S) (old new : S)
+pub record TellsImage {S : Type 0} (f : ImageFault) (says : Says S) (old new : S)
     (answer : Status) : Type 0 where
   pub told : Told
-  pub written : writes old new (image_line f) told
+  pub written : says old new (image_line f) told
   pub is : answer ≡ status_told status.BadImage told

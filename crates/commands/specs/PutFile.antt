@@ -19,7 +19,7 @@ pub record IsPutTold {S : Type 0} (writes : Writes S) (bytes text name : List �
     (held after : Option Held) (old new : S) (answer : Status) : Type 0 where
   pub kept : after ≡ with_put held name bytes
   pub told : Told
-  pub written : writes old new text told
+  pub written : writes.says old new text told
   pub is : answer ≡ status_told status.Ok told
 
 -- either of both

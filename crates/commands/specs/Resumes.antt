@@ -41,7 +41,7 @@ pub record GoesOn {S : Type 0} (writes : Writes S) (program : Program) (words : 
   pub runnable : IsRunnable program.file
   pub served : IsServed program
   pub finishes : let made = segment_from program s position words.steps in
-      Finishes (with_used words.count made.steps writes) writes held after words.image
+      Finishes (with_used words.count made.steps writes.says) writes held after words.image
       program.digest made.stop made.config old new answer
 
 -- it goes on, or a native isn't served
@@ -62,7 +62,7 @@ pub record RefusesImage {S : Type 0} (writes : Writes S) (program : Program) (by
   pub is_first : first_fault program.file (cell_count program.file) program.digest bytes
       ≡ Some fault
   pub kept : after ≡ held
-  pub tells : TellsImage fault writes old new answer
+  pub tells : TellsImage fault writes.says old new answer
 
 -- or of this one, from which it goes on
 pub record ResumesThere {S : Type 0} (writes : Writes S) (program : Program) (words : ResumeWords)

@@ -41,7 +41,7 @@ pub record RunsEntry {S : Type 0} (writes : Writes S) (program : Program) (words
   pub entry : address_named program.file words.entry ≡ Some address
   pub served : IsServed program
   pub finishes : let trace = program_trace program address words.steps in
-      Finishes (with_used words.count trace.steps writes) writes held after words.image
+      Finishes (with_used words.count trace.steps writes.says) writes held after words.image
       program.digest trace.stop trace.config old new answer
 
 -- it runs, or something keeps it from its start

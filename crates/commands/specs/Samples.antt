@@ -14,7 +14,7 @@ use Rattle.command_parts.specs.declared.options.TheConstants.{DEFAULT_STEPS}
 use Rattle.command_parts.specs.declared.status.Status.{Status}
 use Rattle.command_parts.specs.declared.stop.Stop.{Stop}
 use Rattle.command_parts.specs.ValidFile.{IsValidFile}
-use Rattle.command_parts.specs.Told.{Writes, TellsStop}
+use Rattle.command_parts.specs.Told.{Says, Writes, TellsLine}
 use Rattle.commands.specs.Counted.{TellsCounted, sample_trace}
 use Rattle.commands.specs.Made.{NoSource}
 use Rattle.commands.specs.Meant.{IsMeant}
@@ -41,19 +41,19 @@ NoSample functions stop = NoSource (Some (sample_files functions)) sample_name s
 -- ---- the file that is put
 
 -- it is run from its main: what keeps it from its start is told, or its trace with its counts
-pub data RunsSample {S : Type 0} (writes : Writes S) (amx : Amx) (old new : S)
+pub data RunsSample {S : Type 0} (says : Says S) (amx : Amx) (old new : S)
     (answer : Status) : Type 0 where
-  stopped : (stop : Stop) → NotReady amx plain stop → TellsStop stop writes old new answer
-      → RunsSample writes amx old new answer
+  stopped : (stop : Stop) → NotReady amx plain stop → TellsLine stop says old new answer
+      → RunsSample says amx old new answer
   ran : address_of amx Main ≡ Some amx.entry
-      → TellsCounted writes (length amx.code) (sample_trace amx DEFAULT_STEPS) old new answer
-      → RunsSample writes amx old new answer
+      → TellsCounted says (length amx.code) (sample_trace amx DEFAULT_STEPS) old new answer
+      → RunsSample says amx old new answer
 
 -- it is put, and what was put is run
 pub record PutsSample {S : Type 0} (writes : Writes S) (name bytes : List ℕ) (amx : Amx)
     (held after : Option Held) (old new : S) (answer : Status) : Type 0 where
   pub kept : after ≡ with_put held name bytes
-  pub runs : RunsSample writes amx old new answer
+  pub runs : RunsSample writes.says amx old new answer
 
 -- it isn't put, or it is put and run
 abbrev pub MayPutSample : {S : Type 0} → Writes S → List ℕ → List ℕ → Amx → Option Held

@@ -32,7 +32,7 @@ pub record TellsUsed {S : Type 0} (writes : Writes S) (src : List ℕ) (held aft
   pub is : IsUsed held src it
   pub kept : after ≡ held
   pub told : Told
-  pub written : writes old new (used_text it) told
+  pub written : writes.says old new (used_text it) told
   pub ends : answer ≡ status_told status.Ok told
 
 -- or the source has no program

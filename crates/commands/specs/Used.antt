@@ -1,7 +1,7 @@
 -- The line of how many steps a command did, behind those of its trace, where it is asked for.
 use Rattle.std.specs.Prelude.{◌++◌, ℕ, List, [], Bool, true, false, codes}
 use Rattle.std.specs.Fmt.{decimal}
-use Rattle.command_parts.specs.Told.{Writes}
+use Rattle.command_parts.specs.Told.{Says}
 use Rattle.commands.specs.Counted.{before}
 
 -- so many steps
@@ -14,6 +14,6 @@ used_text false steps = []
 used_text true steps = used_line steps
 
 -- how the text of a run is written, with the line behind it
-abbrev pub with_used : {S : Type 0} → Bool → ℕ → Writes S → Writes S
-with_used false steps writes = writes
-with_used true steps writes = before (used_line steps) writes
+abbrev pub with_used : {S : Type 0} → Bool → ℕ → Says S → Says S
+with_used false steps says = says
+with_used true steps says = before (used_line steps) says

@@ -4,6 +4,7 @@ ghost use Rattle.pawn_outside.specs.Said.{Said};
 ghost use Rattle.amx_text.specs.Faults.{refusal_of};
 ghost use Rattle.command_parts.specs.declared.read.TheConstants.{SOURCE_LIMIT};
 ghost use Rattle.command_parts.specs.Calls.{CommandCalls};
+ghost use Rattle.command_parts.specs.Told.{with_faults};
 ghost use Rattle.command_parts.specs.Unread.{IsStopOf};
 ghost use Rattle.commands.specs.Assembles.{Assembles, IsTextMade, IsTextRead, stop_by};
 
@@ -23,8 +24,9 @@ pub fn assemble<F: Files, S: Sink>(
     files: &mut F,
     out: &mut S,
 ) -> Status
-    ensures answer { Assembles (Said S.taken S.faults S.has_room) words.now (F.held files.old)
-        (F.held files.new) out.old out.new result }
+    ensures answer { Assembles (with_faults (Said S.taken S.faults S.has_room)) words.now
+        (F.held files.old) (F.held files.new) (out.old, F.faults files.old)
+        (out.new, F.faults files.new) result }
     ensures calls { CommandCalls F.faults F.never_fails files.old files.new result }
 {
     match assembled_text(

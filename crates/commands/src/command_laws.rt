@@ -1,3 +1,4 @@
+ghost use Rattle.command_parts.specs.Told.{with_faults};
 ghost use Rattle.commands.specs.Done.{GoodIsResumed, GoodIsRun};
 ghost use Rattle.commands.specs.Good.{GoodFilesAreRead, GoodProgramsStart};
 ghost use Rattle.commands.specs.GoodCompile.{GoodIsCompiled};
@@ -44,38 +45,38 @@ pub fn good_sources_go()
 /// of a fault of the files or of want of memory.
 #[tactic(auto, using(crate::proofs::DoneLaws::good_is_run))]
 pub fn good_is_run<S: Sink>()
-    ensures { GoodIsRun (Said S.taken S.faults S.has_room) }
+    ensures { GoodIsRun (with_faults (Said S.taken S.faults S.has_room)) }
 {}
 
 /// The same of `resume` with an image.
 #[tactic(auto, using(crate::proofs::DoneLaws::good_is_resumed))]
 pub fn good_is_resumed<S: Sink>()
-    ensures { GoodIsResumed (Said S.taken S.faults S.has_room) }
+    ensures { GoodIsResumed (with_faults (Said S.taken S.faults S.has_room)) }
 {}
 
 /// Where files tell what they hold: an image that `run` or `resume` put is no faulty one for the
 /// next `resume`, which goes on from that sleep, but for a fault of the files or want of memory,
 /// and unless the sleep was the code's last instruction.
 pub fn put_is_resumed<S: Sink>()
-    ensures { PutIsResumed (Said S.taken S.faults S.has_room) }
+    ensures { PutIsResumed (with_faults (Said S.taken S.faults S.has_room)) }
 {}
 
 /// The same of `compile` with a source that has a program: the file isn't put, or is put.
 #[tactic(auto, using(crate::proofs::CompileLaws::good_is_compiled))]
 pub fn good_is_compiled<S: Sink>()
-    ensures { GoodIsCompiled (Said S.taken S.faults S.has_room) }
+    ensures { GoodIsCompiled (with_faults (Said S.taken S.faults S.has_room)) }
 {}
 
 /// The same of `go` with a source that has a program and a script that serves its natives: the file
 /// isn't put, or is put and run.
 #[tactic(auto, using(crate::proofs::GoodSourceLaws::good_is_gone))]
 pub fn good_is_gone<S: Sink>()
-    ensures { GoodIsGone (Said S.taken S.faults S.has_room) }
+    ensures { GoodIsGone (with_faults (Said S.taken S.faults S.has_room)) }
 {}
 
 /// The same of `assemble` with the listing of a valid file that can be written: the file isn't put,
 /// or is put.
 #[tactic(auto, using(crate::proofs::AssembleLaws::good_is_assembled))]
 pub fn good_is_assembled<S: Sink>()
-    ensures { GoodIsAssembled (Said S.taken S.faults S.has_room) }
+    ensures { GoodIsAssembled (with_faults (Said S.taken S.faults S.has_room)) }
 {}

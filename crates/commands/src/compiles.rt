@@ -1,6 +1,7 @@
 ghost use Rattle.std.specs.Prelude.{◌≡◌};
 ghost use Rattle.pawn_outside.specs.Said.{Said};
 ghost use Rattle.command_parts.specs.Calls.{CommandCalls};
+ghost use Rattle.command_parts.specs.Told.{with_faults};
 ghost use Rattle.commands.specs.Compiles.{Compiles, encoding_of};
 
 use super::put_file::put_file;
@@ -17,8 +18,9 @@ pub fn compile<F: Files, S: Sink>(
     files: &mut F,
     out: &mut S,
 ) -> Status
-    ensures answer { Compiles (Said S.taken S.faults S.has_room) words.now (F.held files.old)
-        (F.held files.new) out.old out.new result }
+    ensures answer { Compiles (with_faults (Said S.taken S.faults S.has_room)) words.now
+        (F.held files.old) (F.held files.new) (out.old, F.faults files.old)
+        (out.new, F.faults files.new) result }
     ensures calls { CommandCalls F.faults F.never_fails files.old files.new result }
 {
     match compiled_source(alloc, words.src.as_str(), encoding_of(words.compact), files) {

@@ -5,6 +5,7 @@ ghost use Rattle.pawn_outside.specs.OnlyRead.{OnlyRead};
 ghost use Rattle.pawn_outside.specs.Said.{Said};
 ghost use Rattle.command_parts.specs.ValidFile.{IsValidFile};
 ghost use Rattle.command_parts.specs.Calls.{CommandCalls};
+ghost use Rattle.command_parts.specs.Told.{with_faults};
 ghost use Rattle.commands.specs.Lines.{warning_lines};
 ghost use Rattle.commands.specs.Goes.{Goes, Makes, Prepares, behind};
 ghost use Rattle.commands.specs.RunsFile.{RunsFile};
@@ -30,8 +31,9 @@ struct Prepared {
 /// Compiles a source, reads a script, puts the source's file, and runs the bytes that were put,
 /// going on behind sleeps.
 pub fn go<F: Files, S: Sink>(alloc: Global, words: &GoWords, files: &mut F, out: &mut S) -> Status
-    ensures answer { Goes (Said S.taken S.faults S.has_room) words.now (F.held files.old)
-        (F.held files.new) out.old out.new result }
+    ensures answer { Goes (with_faults (Said S.taken S.faults S.has_room)) words.now
+        (F.held files.old) (F.held files.new) (out.old, F.faults files.old)
+        (out.new, F.faults files.new) result }
     ensures calls { CommandCalls F.faults F.never_fails files.old files.new result }
 {
     match prepare(alloc, words, files) {
@@ -61,8 +63,9 @@ fn make<F: Files, S: Sink>(
     out: &mut S,
 ) -> Status
     requires script { IsScript prepared.now.script }
-    ensures answer { Makes (Said S.taken S.faults S.has_room) words.now prepared.now
-        (F.held files.old) (F.held files.new) out.old out.new result }
+    ensures answer { Makes (with_faults (Said S.taken S.faults S.has_room)) words.now prepared.now
+        (F.held files.old) (F.held files.new) (out.old, F.faults files.old)
+        (out.new, F.faults files.new) result }
     ensures calls { CommandCalls F.faults F.never_fails files.old files.new result }
 {
     match put(

@@ -1,6 +1,7 @@
 ghost use Rattle.std.specs.Prelude.{◌++◌, length};
 ghost use Rattle.pawn_outside.specs.Said.{Said};
 ghost use Rattle.command_parts.specs.Calls.{CommandCalls};
+ghost use Rattle.command_parts.specs.Told.{with_faults};
 ghost use Rattle.commands.specs.Lines.{ok_line, warning_lines};
 ghost use Rattle.commands.specs.PutFile.{PutsFile};
 
@@ -18,8 +19,9 @@ pub fn put_file<F: Files, S: Sink>(
     out: &mut S,
 ) -> Status
     ensures answer { let text = warning_lines warnings.now ++ ok_line (length bytes.now) in
-        PutsFile (Said S.taken S.faults S.has_room) bytes.now text amx.now (F.held files.old)
-        (F.held files.new) out.old out.new result }
+        PutsFile (with_faults (Said S.taken S.faults S.has_room)) bytes.now text amx.now
+        (F.held files.old) (F.held files.new) (out.old, F.faults files.old)
+        (out.new, F.faults files.new) result }
     ensures calls { CommandCalls F.faults F.never_fails files.old files.new result }
 {
     match put(amx, bytes, files) {

@@ -6,6 +6,7 @@ ghost use Rattle.amx_machine.specs.Machine.{first};
 ghost use Rattle.pawn_outside.specs.Said.{Said};
 ghost use Rattle.host_run.specs.Segments.{segment_of};
 ghost use Rattle.command_parts.specs.Calls.{CommandCalls};
+ghost use Rattle.command_parts.specs.Told.{steadily, with_faults};
 ghost use Rattle.command_parts.specs.declared.program.Program.{Program};
 ghost use Rattle.commands.specs.Finishes.{Finishes, Keeps};
 ghost use Rattle.commands.specs.Prepared.{IsReadyFor};
@@ -85,9 +86,10 @@ pub fn run_on<F: Files, S: Sink>(
 ) -> Status
     requires { IsReadySegment ready }
     ensures answer { let made = segment_of ready.script (place_of ready) steps in
-        Finishes (with_used count made.steps (Said S.taken S.faults S.has_room))
-        (Said S.taken S.faults S.has_room) (F.held files.old) (F.held files.new) image.now
-        ready.digest made.stop made.config out.old out.new result }
+        Finishes (with_used count made.steps (steadily (Said S.taken S.faults S.has_room)))
+        (with_faults (Said S.taken S.faults S.has_room)) (F.held files.old) (F.held files.new)
+        image.now ready.digest made.stop made.config (out.old, F.faults files.old)
+        (out.new, F.faults files.new) result }
     ensures calls { CommandCalls F.faults F.never_fails files.old files.new result }
 {
     let ReadySegment {
@@ -110,8 +112,9 @@ pub fn run_on<F: Files, S: Sink>(
 
 /// Puts an image behind the line of a sleep.
 fn keep<F: Files, S: Sink>(image: &str, bytes: &[u8], files: &mut F, out: &mut S) -> Status
-    ensures answer { Keeps (Said S.taken S.faults S.has_room) (F.held files.old) (F.held files.new)
-        image.now bytes.now out.old out.new result }
+    ensures answer { Keeps (with_faults (Said S.taken S.faults S.has_room)) (F.held files.old)
+        (F.held files.new) image.now bytes.now (out.old, F.faults files.old)
+        (out.new, F.faults files.new) result }
     ensures calls { CommandCalls F.faults F.never_fails files.old files.new result }
 {
     match put(image, bytes, files) {

@@ -2,6 +2,7 @@ ghost use Rattle.host_script.specs.Ranges.{IsScript};
 ghost use Rattle.amx_format.specs.File.{IsFile};
 ghost use Rattle.pawn_outside.specs.Said.{Said};
 ghost use Rattle.command_parts.specs.Calls.{CommandCalls};
+ghost use Rattle.command_parts.specs.Told.{with_faults};
 ghost use Rattle.commands.specs.Resumes.{Resumes, ResumesProgram};
 
 use super::image::tell_image;
@@ -26,8 +27,9 @@ pub fn resume<F: Files, S: Sink>(
     files: &mut F,
     out: &mut S,
 ) -> Status
-    ensures answer { Resumes (Said S.taken S.faults S.has_room) words.now (F.held files.old)
-        (F.held files.new) out.old out.new result }
+    ensures answer { Resumes (with_faults (Said S.taken S.faults S.has_room)) words.now
+        (F.held files.old) (F.held files.new) (out.old, F.faults files.old)
+        (out.new, F.faults files.new) result }
     ensures calls { CommandCalls F.faults F.never_fails files.old files.new result }
 {
     match read_program(alloc, words.amx.as_str(), words.script.as_str(), files) {
@@ -51,8 +53,9 @@ fn resume_program<F: Files, S: Sink>(
 ) -> Status
     requires file { IsFile bytes program.file }
     requires script { IsScript program.script }
-    ensures answer { ResumesProgram (Said S.taken S.faults S.has_room) program words.now
-        (F.held files.old) (F.held files.new) out.old out.new result }
+    ensures answer { ResumesProgram (with_faults (Said S.taken S.faults S.has_room)) program
+        words.now (F.held files.old) (F.held files.new) (out.old, F.faults files.old)
+        (out.new, F.faults files.new) result }
     ensures calls { CommandCalls F.faults F.never_fails files.old files.new result }
 {
     // For the proof alone: a machine can run the file.

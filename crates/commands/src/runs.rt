@@ -4,6 +4,7 @@ ghost use Rattle.amx_format.specs.File.{IsFile};
 ghost use Rattle.pawn_outside.specs.Said.{Said};
 ghost use Rattle.amx_machine.specs.Machine.{first};
 ghost use Rattle.command_parts.specs.Calls.{CommandCalls};
+ghost use Rattle.command_parts.specs.Told.{with_faults};
 ghost use Rattle.host_run.specs.Entry.{IsEntryOf};
 ghost use Rattle.commands.specs.Prepared.{CanRun, IsPrepared, IsReadyFor};
 ghost use Rattle.commands.specs.ReadySegment.{program_of};
@@ -24,8 +25,9 @@ use std::alloc::Global;
 /// Reads a file and a script, starts a machine at an entry, writes its trace, and puts its image
 /// where it falls asleep.
 pub fn run<F: Files, S: Sink>(alloc: Global, words: &RunWords, files: &mut F, out: &mut S) -> Status
-    ensures answer { Runs (Said S.taken S.faults S.has_room) words.now (F.held files.old)
-        (F.held files.new) out.old out.new result }
+    ensures answer { Runs (with_faults (Said S.taken S.faults S.has_room)) words.now
+        (F.held files.old) (F.held files.new) (out.old, F.faults files.old)
+        (out.new, F.faults files.new) result }
     ensures calls { CommandCalls F.faults F.never_fails files.old files.new result }
 {
     match read_program(alloc, words.amx.as_str(), words.script.as_str(), files) {
@@ -48,8 +50,9 @@ fn run_program<F: Files, S: Sink>(
 ) -> Status
     requires file { IsFile bytes program.file }
     requires script { IsScript program.script }
-    ensures answer { RunsProgram (Said S.taken S.faults S.has_room) program words.now
-        (F.held files.old) (F.held files.new) out.old out.new result }
+    ensures answer { RunsProgram (with_faults (Said S.taken S.faults S.has_room)) program words.now
+        (F.held files.old) (F.held files.new) (out.old, F.faults files.old)
+        (out.new, F.faults files.new) result }
     ensures calls { CommandCalls F.faults F.never_fails files.old files.new result }
 {
     match entry_of(runnable(&program.file), words.entry.as_slice()) {
@@ -100,8 +103,9 @@ fn start<F: Files, S: Sink>(
     requires script { IsScript ready.script }
     requires prepared { IsPrepared (program_of ready) ready }
     requires there { IsEntryOf ready.machine.amx words.now.entry (Some entry) }
-    ensures answer { RunsEntry (Said S.taken S.faults S.has_room) (program_of ready) words.now
-        (F.held files.old) (F.held files.new) out.old out.new result }
+    ensures answer { RunsEntry (with_faults (Said S.taken S.faults S.has_room)) (program_of ready)
+        words.now (F.held files.old) (F.held files.new) (out.old, F.faults files.old)
+        (out.new, F.faults files.new) result }
     ensures calls { CommandCalls F.faults F.never_fails files.old files.new result }
 {
     let mut ready = ready;

@@ -6,6 +6,7 @@ ghost use Rattle.amx_ops.specs.declared.amx.Amx.{Amx};
 ghost use Rattle.amx_format.specs.File.{IsFile};
 ghost use Rattle.amx_format.specs.declared.encoding.Encoding.TheVariants.{Plain};
 ghost use Rattle.command_parts.specs.Calls.{CommandCalls};
+ghost use Rattle.command_parts.specs.Told.{with_faults};
 ghost use Rattle.command_parts.specs.ValidFile.{IsValidFile};
 ghost use Rattle.commands.specs.Made.{IsMade};
 ghost use Rattle.commands.specs.Samples.{MakesSample, RunsSample, Samples, sample_files};
@@ -34,8 +35,9 @@ pub fn sample<F: Files, S: Sink>(
     files: &mut F,
     out: &mut S,
 ) -> Status
-    ensures answer { Samples (Said S.taken S.faults S.has_room) words.now (F.held files.old)
-        (F.held files.new) out.old out.new result }
+    ensures answer { Samples (with_faults (Said S.taken S.faults S.has_room)) words.now
+        (F.held files.old) (F.held files.new) (out.old, F.faults files.old)
+        (out.new, F.faults files.new) result }
     ensures calls { CommandCalls F.faults F.never_fails files.old files.new result }
 {
     match compiled_sample(alloc, words.functions) {
@@ -72,8 +74,9 @@ fn make<F: Files, S: Sink>(
     files: &mut F,
     out: &mut S,
 ) -> Status
-    ensures answer { MakesSample (Said S.taken S.faults S.has_room) amx.now compiled.now.bytes
-        (F.held files.old) (F.held files.new) out.old out.new result }
+    ensures answer { MakesSample (with_faults (Said S.taken S.faults S.has_room)) amx.now
+        compiled.now.bytes (F.held files.old) (F.held files.new) (out.old, F.faults files.old)
+        (out.new, F.faults files.new) result }
     ensures calls { CommandCalls F.faults F.never_fails files.old files.new result }
 {
     let bytes = compiled.bytes.as_slice();

@@ -4,6 +4,7 @@ ghost use Rattle.pawn_outside.specs.Said.{Said};
 ghost use Rattle.pawn_meaning.specs.View.{program_view};
 ghost use Rattle.pawn_front.specs.Sourced.{IsUsable};
 ghost use Rattle.command_parts.specs.Calls.{CommandCalls};
+ghost use Rattle.command_parts.specs.Told.{with_faults};
 ghost use Rattle.commands.specs.Usages.{Measures, Usages, Uses, used_text};
 
 use super::lines::say_warnings;
@@ -25,8 +26,9 @@ pub struct Used {
 
 /// Tells the warnings of a source, and what room its program runs in without a lack of stack.
 pub fn usage<F: Files, S: Sink>(alloc: Global, src: &str, files: &mut F, out: &mut S) -> Status
-    ensures answer { Usages (Said S.taken S.faults S.has_room) src.now (F.held files.old)
-        (F.held files.new) out.old out.new result }
+    ensures answer { Usages (with_faults (Said S.taken S.faults S.has_room)) src.now
+        (F.held files.old) (F.held files.new) (out.old, F.faults files.old)
+        (out.new, F.faults files.new) result }
     ensures calls { CommandCalls F.faults F.never_fails files.old files.new result }
 {
     match used_source(alloc, src, files) {

@@ -1,6 +1,7 @@
 use Rattle.std.proofs.Common.{inl, inr, refl}
 use Rattle.command_parts.specs.declared.status.Status.TheVariants as status
-use Rattle.command_parts.proofs.FaultCountLaws.{calls_stopped, calls_done}
+use Rattle.command_parts.proofs.FaultCountLaws.{calls_stopped, calls_done, no_fault}
+use Rattle.command_parts.proofs.ToldLaws.{told_stop}
 use Rattle.commands.proofs.put_file.put_file.Goals as goal
 
 pub returns-in-Ok-clause-answer : goal.returns-in-Ok-clause-answer
@@ -8,7 +9,7 @@ returns-in-Ok-clause-answer g c =
     inr (record {
       kept = c.in-Ok.ensures.answer;
       told = c.say_put.result;
-      written = c.say_put.ensures;
+      written = (c.say_put.ensures, no_fault c.in-Ok.ensures.calls);
       is = c.told.ensures;
     })
 
@@ -22,7 +23,7 @@ returns-in-Err-clause-answer g c =
     inl (record {
       stop = c.in-Err.stop;
       comes = c.in-Err.ensures.answer;
-      tells = c.tell_stop.ensures;
+      tells = told_stop c.in-Err.ensures.calls refl c.tell_stop.ensures;
     })
 
 pub returns-in-Err-clause-calls : goal.returns-in-Err-clause-calls

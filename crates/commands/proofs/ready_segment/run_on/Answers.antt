@@ -1,19 +1,18 @@
-use Rattle.std.proofs.Common.{◌≡◌, ◌≢◌, ℕ, List, sym, subst, refl}
+use Rattle.std.proofs.Common.{◌≡◌, ℕ, List, sym, subst, refl}
 use Rattle.pawn_outside.specs.Said.{Said}
-use Rattle.host_script.specs.declared.event.End.{End}
-use Rattle.amx_ops.specs.Moves.{Config}
-use Rattle.amx_ops.specs.Runs.{Segmented, traced}
+use Rattle.amx_ops.specs.Runs.{traced}
 use Rattle.host_run.specs.Segments.{Place, segment_of}
 use Rattle.amx_image.specs.declared.version.Version.TheVariants.{Live}
 use Rattle.amx_image.specs.Image.{IsImage}
-use Rattle.command_parts.specs.declared.status.Status.{Status}
 use Rattle.command_parts.specs.declared.status.Status.TheVariants as status
+use Rattle.command_parts.specs.Told.{with_faults}
 use Rattle.command_parts.proofs.FaultCountLaws.{calls_nothing}
 use Rattle.commands.specs.Counted.{RunsTrace}
 use Rattle.commands.specs.ReadySegment.{place_of}
 use Rattle.commands.proofs.CountedLaws.{session_runs, stands}
 use Rattle.commands.proofs.SegmentFinishLaws.{ends, sleeps, stops_asleep}
 use Rattle.commands.proofs.SegmentReadyLaws.{mode_is, has_room, image_is}
+use Rattle.commands.proofs.SteadyLaws.{used_steadily}
 use Rattle.commands.proofs.ready_segment.run_on.Goals as goal
 
 -- a sleep is no fault of the sink
@@ -85,9 +84,11 @@ returns-in-Asleep-clause-answer g c =
     let tells = c.in-Asleep.ensures.tells (traced bound (segments bound)) c.args.out.now runs in
     let Q : List ℕ → Type 0 =
     λ bytes. IsImage Live new.machine.state new.position c.args.ready.digest bytes in
-    sleeps _ (Said g.S.Sink.taken g.S.Sink.faults g.S.Sink.has_room)
+    sleeps _ (with_faults (Said g.S.Sink.taken g.S.Sink.faults g.S.Sink.has_room))
     (g.F.Files.held c.args.files.now) (g.F.Files.held c.keep.new.files) c.args.image.now
-    c.args.ready.digest (traced bound (segments bound)) c.bytes.result.now c.keep.result tells
+    c.args.ready.digest (traced bound (segments bound)) c.bytes.result.now c.keep.result
+    (used_steadily (Said g.S.Sink.taken g.S.Sink.faults g.S.Sink.has_room) refl c.args.count
+    (segments bound).steps tells)
     (image_is c.args.ready.script place new bound count
     (stands segments _ _ bound place count given new
     (λ e. no_sink (c.in-Asleep.ensures.sink e)) it)
@@ -116,10 +117,12 @@ returns g c =
     c.session-used.ensures.answer c.session-used.ensures.text) in
     record {
       answer =
-          ends _ (Said g.S.Sink.taken g.S.Sink.faults g.S.Sink.has_room) held held
+          ends _ (with_faults (Said g.S.Sink.taken g.S.Sink.faults g.S.Sink.has_room)) held held
           c.args.image.now c.args.ready.digest (traced bound (segments bound))
           c.tell_run.result
-          (c.tell_run.ensures.tells (traced bound (segments bound)) c.args.out.now runs)
+          (used_steadily (Said g.S.Sink.taken g.S.Sink.faults g.S.Sink.has_room) refl
+          c.args.count (segments bound).steps
+          (c.tell_run.ensures.tells (traced bound (segments bound)) c.args.out.now runs))
           c.in_default.not-Asleep refl;
       calls = calls_nothing c.args.files.now c.tell_run.ensures.fault;
     }

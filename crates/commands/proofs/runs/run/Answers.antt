@@ -1,5 +1,6 @@
 use Rattle.std.proofs.Common.{refl}
 use Rattle.command_parts.proofs.FaultCountLaws.{only_calls, calls_then, calls_stopped}
+use Rattle.command_parts.proofs.ToldLaws.{told_stop, unchanged}
 use Rattle.commands.proofs.RunLaws.{stops_unread, runs_good}
 use Rattle.commands.proofs.runs.run.Goals as goal
 
@@ -8,9 +9,10 @@ run_program-requires-clause-file g c = c.in-Ok.ensures.answer.bytes
 
 pub returns-in-Ok-clause-answer : goal.returns-in-Ok-clause-answer
 returns-in-Ok-clause-answer g c =
-    runs_good c.args.words.now _ _ _ _ _ c.in-Ok.read.program c.run_program.result c.as_str.ensures
-    c.as_str-2.ensures c.in-Ok.ensures.answer.good
-    c.in-Ok.ensures.calls.same c.run_program.ensures.answer
+    runs_good c.args.words.now _ _ _ _ _ _ c.in-Ok.read.program c.run_program.result
+    c.as_str.ensures c.as_str-2.ensures c.in-Ok.ensures.answer.good
+    c.in-Ok.ensures.calls.same (unchanged c.args.out.now (only_calls c.in-Ok.ensures.calls))
+    c.run_program.ensures.answer
 
 pub returns-in-Ok-clause-calls : goal.returns-in-Ok-clause-calls
 returns-in-Ok-clause-calls g c =
@@ -20,7 +22,8 @@ pub returns-in-Err-clause-answer : goal.returns-in-Err-clause-answer
 returns-in-Err-clause-answer g c =
     stops_unread c.args.words.now _ _ _ _ c.in-Err.stop c.tell_stop.result c.as_str.ensures
     c.as_str-2.ensures c.in-Err.ensures.answer
-    c.in-Err.ensures.calls.same c.tell_stop.ensures
+    c.in-Err.ensures.calls.same
+    (told_stop (only_calls c.in-Err.ensures.calls) refl c.tell_stop.ensures)
 
 pub returns-in-Err-clause-calls : goal.returns-in-Err-clause-calls
 returns-in-Err-clause-calls g c =

@@ -1,6 +1,8 @@
-use Rattle.std.proofs.Common.{Some, inr, rules, w32, FitsSigned, sym, subst}
+use Rattle.std.proofs.Common.{Some, inr, rules, w32, FitsSigned, refl, sym, subst}
 use Rattle.std.proofs.lemmas.Int.{to_z-of_z}
 use Rattle.command_parts.proofs.FaultCountLaws.{calls_nothing, stop_no_fault}
+use Rattle.command_parts.proofs.ToldLaws.{told_other_stop}
+use Rattle.command_parts.specs.Told.{with_faults}
 use Rattle.pawn_outside.specs.Said.{Said}
 use Rattle.host_script.specs.Ranges.{IsScript}
 use Rattle.command_parts.specs.declared.program.Program.{Program}
@@ -41,9 +43,10 @@ start-requires-clause-there g c =
 pub returns-in-Ok-clause-answer : goal.returns-in-Ok-clause-answer
 returns-in-Ok-clause-answer g c =
     let P : Program → Type 0 =
-    λ it. RunsEntry (Said g.S.Sink.taken g.S.Sink.faults g.S.Sink.has_room) it c.args.words.now
-    (g.F.Files.held c.args.files.now) (g.F.Files.held c.start.new.files) c.args.out.now
-    c.start.new.out c.start.result in
+    λ it. RunsEntry (with_faults (Said g.S.Sink.taken g.S.Sink.faults g.S.Sink.has_room)) it
+    c.args.words.now (g.F.Files.held c.args.files.now) (g.F.Files.held c.start.new.files)
+    (c.args.out.now, g.F.Files.faults c.args.files.now)
+    (c.start.new.out, g.F.Files.faults c.start.new.files) c.start.result in
     inr (subst P (prepared_program c.args.program c.in-Ok.ready c.in-Ok.ensures)
     c.start.ensures.answer)
 
@@ -51,7 +54,8 @@ pub returns-in-Err-clause-answer : goal.returns-in-Err-clause-answer
 returns-in-Err-clause-answer g c =
     stops_at_native c.args.program c.args.words.now _ c.in-Some.entry c.in-Err.stop
     c.tell_stop.result (rw (c.runnable.ensures.value, c.as_slice.ensures) at c.in-Some.ensures)
-    c.in-Err.ensures c.tell_stop.ensures
+    c.in-Err.ensures
+    (told_other_stop (unserved_no_fault c.in-Err.ensures) refl c.tell_stop.ensures)
 
 pub returns-in-Err-clause-calls : goal.returns-in-Err-clause-calls
 returns-in-Err-clause-calls g c =
@@ -64,7 +68,9 @@ returns-in-None-clause-answer g c =
     stops_at_entry c.args.program c.args.words.now _ c.no_entry.result
     c.tell_stop-in-None.result
     (rw (c.runnable.ensures.value, c.as_slice.ensures) at c.in-None.ensures)
-    (rw c.as_slice-in-None.ensures at c.no_entry.ensures) c.tell_stop-in-None.ensures
+    (rw c.as_slice-in-None.ensures at c.no_entry.ensures)
+    (told_other_stop (entry_no_fault _ c.no_entry.result c.no_entry.ensures) refl
+    c.tell_stop-in-None.ensures)
 
 pub returns-in-None-clause-calls : goal.returns-in-None-clause-calls
 returns-in-None-clause-calls g c =

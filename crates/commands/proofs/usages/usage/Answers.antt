@@ -1,6 +1,7 @@
 use Rattle.std.proofs.Common.{inl, inr, refl}
 use Rattle.command_parts.specs.declared.status.Status.TheVariants as status
-use Rattle.command_parts.proofs.FaultCountLaws.{calls_done, calls_stopped, only_calls}
+use Rattle.command_parts.proofs.FaultCountLaws.{calls_done, calls_stopped, no_fault, only_calls}
+use Rattle.command_parts.proofs.ToldLaws.{told_stop}
 use Rattle.commands.proofs.usages.usage.Goals as goal
 
 pub returns-in-Ok-clause-answer : goal.returns-in-Ok-clause-answer
@@ -10,7 +11,7 @@ returns-in-Ok-clause-answer g c =
       is = c.in-Ok.ensures.answer;
       kept = c.in-Ok.ensures.calls.same;
       told = c.say_used.result;
-      written = c.say_used.ensures;
+      written = (c.say_used.ensures, no_fault (only_calls c.in-Ok.ensures.calls));
       ends = c.told.ensures;
     })
 
@@ -25,7 +26,7 @@ returns-in-Err-clause-answer g c =
       stop = c.in-Err.stop;
       comes = c.in-Err.ensures.answer;
       kept = c.in-Err.ensures.calls.same;
-      tells = c.tell_stop.ensures;
+      tells = told_stop (only_calls c.in-Err.ensures.calls) refl c.tell_stop.ensures;
     })
 
 pub returns-in-Err-clause-calls : goal.returns-in-Err-clause-calls
