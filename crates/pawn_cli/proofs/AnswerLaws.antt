@@ -12,7 +12,7 @@ use Rattle.command_parts.specs.declared.command_words.WordsFault.{WordsFault}
 use Rattle.command_parts.specs.declared.command_words.WordsFault.TheVariants as words
 use Rattle.command_parts.specs.Reading.{Reads}
 use Rattle.command_parts.specs.ValidFile.{IsValidRead}
-use Rattle.command_parts.specs.Told.{Told, Writes, TellsStop, status_told}
+use Rattle.command_parts.specs.Told.{Told, Says, Writes, TellsStop, status_told, steadily}
 use Rattle.pawn_cli.specs.Answers.{Answers, NoCommand, bad_words, no_memory, words_stop}
 use Rattle.pawn_cli.specs.ReadsFile.{ReadsFile}
 use Rattle.pawn_cli.specs.Texts.{TellsText}
@@ -45,9 +45,15 @@ module _ {S : Type 0} {writes : Writes S} {held : Option Held} {old new : S} whe
 
 -- ---- texts
 
-pub text_no_fault : {S : Type 0} {writes : Writes S} {text : ListOf ℕ} {old new : S}
-    {answer : Status} → TellsText text writes old new answer → answer ≢ status.FileFault
+pub text_no_fault : {S : Type 0} {says : Says S} {text : ListOf ℕ} {old new : S}
+    {answer : Status} → TellsText text says old new answer → answer ≢ status.FileFault
 text_no_fault it = λ e. told_other status.Ok it.told (λ f. absurd (cc f)) (sym it.is ∙ e)
+
+-- beside a count of faults that stays as it is
+pub text_steadily : {S : Type 0} {says : Says S} {text : ListOf ℕ} {old new : S}
+    {answer : Status} {m n : ℕ} → n ≡ m → TellsText text says old new answer
+    → TellsText text (steadily says) (old, m) (new, n) answer
+text_steadily same it = record { told = it.told; written = (it.written, same); is = it.is }
 
 -- ---- one file
 
@@ -61,10 +67,10 @@ module _ {S : Type 0} {writes : Writes S} {held after : Option Held} {old new : 
 
   pub reads_one : (amx : Amx) (text : ListOf ℕ) (told : Told) (answer : Status)
       → IsValidRead held name (Ok amx) → after ≡ held → text ≡ text_of amx
-      → writes old new text told → answer ≡ status_told status.Ok told
+      → writes.says old new text told → answer ≡ status_told status.Ok told
       → ReadsFile text_of writes name held after old new answer
   reads_one amx text told answer valid kept e written is =
-      let P : ListOf ℕ → Type 0 = λ t. writes old new t told in
+      let P : ListOf ℕ → Type 0 = λ t. writes.says old new t told in
       inr (record {
         amx = amx;
         valid = valid;

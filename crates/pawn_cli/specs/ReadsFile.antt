@@ -18,7 +18,7 @@ pub record TellsFile {S : Type 0} (text_of : Amx → List ℕ) (writes : Writes 
   pub valid : IsRead held name FILE_LIMIT (λ bytes. IsValidFile bytes amx)
   pub kept : after ≡ held
   pub told : Told
-  pub written : writes old new (text_of amx) told
+  pub written : writes.says old new (text_of amx) told
   pub is : answer ≡ status_told status.Ok told
 
 -- it isn't read or isn't valid, and the line of the stop is told; or it is

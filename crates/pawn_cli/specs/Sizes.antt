@@ -8,7 +8,7 @@ use Rattle.command_parts.specs.declared.read.TheConstants.{FILE_LIMIT}
 use Rattle.command_parts.specs.declared.status.Status.{Status}
 use Rattle.command_parts.specs.declared.stop.Stop.{Stop}
 use Rattle.command_parts.specs.declared.stop.Stop.TheVariants.{NoMemory}
-use Rattle.command_parts.specs.Told.{Writes, TellsStop}
+use Rattle.command_parts.specs.Told.{Says, Writes, TellsLine}
 use Rattle.command_parts.specs.Unread.{IsRead}
 use Rattle.command_parts.specs.ValidFile.{Broken, IsValidFile, NoFile}
 use Rattle.commands.specs.Runs.{IsStopped}
@@ -44,16 +44,16 @@ sizes_text it =
 -- ---- the command
 
 -- bytes are a valid file, and its sizes were written, or a front of them
-pub record TellsSizes {S : Type 0} (writes : Writes S) (bytes : List ℕ) (old new : S)
+pub record TellsSizes {S : Type 0} (says : Says S) (bytes : List ℕ) (old new : S)
     (answer : Status) : Type 0 where
   pub amx : Amx
   pub valid : IsValidFile bytes amx
-  pub tells : TellsText (sizes_text (sizes_of bytes amx)) writes old new answer
+  pub tells : TellsText (sizes_text (sizes_of bytes amx)) says old new answer
 
 -- it is read and is valid
 pub record Measures {S : Type 0} (writes : Writes S) (name : List ℕ) (held after : Option Held)
     (old new : S) (answer : Status) : Type 0 where
-  pub file : IsRead held name FILE_LIMIT (λ bytes. TellsSizes writes bytes old new answer)
+  pub file : IsRead held name FILE_LIMIT (λ bytes. TellsSizes writes.says bytes old new answer)
   pub kept : after ≡ held
 
 -- or the line of the stop is told
@@ -66,13 +66,13 @@ TellsSizesOf writes name held after old new answer =
 -- ---- what the calls answer
 
 -- bytes are no valid file, and the line of the stop is told
-pub record TellsBroken {S : Type 0} (writes : Writes S) (bytes : List ℕ) (old new : S)
+pub record TellsBroken {S : Type 0} (says : Says S) (bytes : List ℕ) (old new : S)
     (answer : Status) : Type 0 where
   pub stop : Stop
   pub broken : (stop ≡ NoMemory) ⊎ Broken bytes stop
-  pub tells : TellsStop stop writes old new answer
+  pub tells : TellsLine stop says old new answer
 
 -- of bytes that were read
-abbrev pub TellsBytes : {S : Type 0} → Writes S → List ℕ → S → S → Status → Type 0
-TellsBytes writes bytes old new answer =
-    TellsBroken writes bytes old new answer ⊎ TellsSizes writes bytes old new answer
+abbrev pub TellsBytes : {S : Type 0} → Says S → List ℕ → S → S → Status → Type 0
+TellsBytes says bytes old new answer =
+    TellsBroken says bytes old new answer ⊎ TellsSizes says bytes old new answer

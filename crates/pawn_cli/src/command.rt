@@ -3,6 +3,7 @@ ghost use Rattle.std.specs.String.{string_bytes};
 ghost use Rattle.pawn_outside.specs.Said.{Said};
 ghost use Rattle.command_parts.specs.Command.{command_of};
 ghost use Rattle.command_parts.specs.Calls.{CommandCalls};
+ghost use Rattle.command_parts.specs.Told.{with_faults};
 ghost use Rattle.pawn_cli.specs.Answers.{Answers, Does, words_stop};
 
 use super::list::list;
@@ -22,9 +23,9 @@ pub fn pawn<F: Files, S: Sink>(
     files: &mut F,
     out: &mut S,
 ) -> Status
-    ensures answer { Answers (Said S.taken S.faults S.has_room)
+    ensures answer { Answers (with_faults (Said S.taken S.faults S.has_room))
         (command_of (map string_bytes words.now)) (F.held files.old) (F.held files.new)
-        out.old out.new result }
+        (out.old, F.faults files.old) (out.new, F.faults files.new) result }
     ensures calls { CommandCalls F.faults F.never_fails files.old files.new result }
 {
     match read_words(alloc, words) {
@@ -45,8 +46,9 @@ fn stop_of(fault: WordsFault) -> Stop
 
 /// Does a command.
 fn serve<F: Files, S: Sink>(alloc: Global, command: Command, files: &mut F, out: &mut S) -> Status
-    ensures answer { Does (Said S.taken S.faults S.has_room) (Some command)
-        (F.held files.old) (F.held files.new) out.old out.new result }
+    ensures answer { Does (with_faults (Said S.taken S.faults S.has_room)) (Some command)
+        (F.held files.old) (F.held files.new) (out.old, F.faults files.old)
+        (out.new, F.faults files.new) result }
     ensures calls { CommandCalls F.faults F.never_fails files.old files.new result }
 {
     match command {

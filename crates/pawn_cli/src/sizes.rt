@@ -1,6 +1,7 @@
 ghost use Rattle.std.specs.Prelude.{◌≡◌};
 ghost use Rattle.pawn_outside.specs.Said.{Said};
 ghost use Rattle.command_parts.specs.Calls.{CommandCalls};
+ghost use Rattle.command_parts.specs.Told.{with_faults};
 ghost use Rattle.pawn_cli.specs.Sizes.{TellsBytes, TellsSizesOf};
 
 use super::file_sizes::FileSizes;
@@ -10,8 +11,9 @@ use std::alloc::Global;
 
 /// Reads a file, and tells how many bytes its parts take, and how many publics and natives it has.
 pub fn sizes<F: Files, S: Sink>(alloc: Global, amx: &str, files: &mut F, out: &mut S) -> Status
-    ensures answer { TellsSizesOf (Said S.taken S.faults S.has_room) amx.now (F.held files.old)
-        (F.held files.new) out.old out.new result }
+    ensures answer { TellsSizesOf (with_faults (Said S.taken S.faults S.has_room)) amx.now
+        (F.held files.old) (F.held files.new) (out.old, F.faults files.old)
+        (out.new, F.faults files.new) result }
     ensures calls { CommandCalls F.faults F.never_fails files.old files.new result }
 {
     match read_bytes(alloc, amx, FILE_LIMIT, files) {

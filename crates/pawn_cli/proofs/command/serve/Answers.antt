@@ -1,6 +1,6 @@
 use Rattle.std.proofs.Common.{refl}
 use Rattle.command_parts.proofs.FaultCountLaws.{calls_nothing}
-use Rattle.pawn_cli.proofs.AnswerLaws.{text_no_fault}
+use Rattle.pawn_cli.proofs.AnswerLaws.{text_no_fault, text_steadily}
 use Rattle.pawn_cli.proofs.command.serve.Goals as goal
 
 pub returns-in-Verify-clause-answer : goal.returns-in-Verify-clause-answer
@@ -16,21 +16,24 @@ returns-in-Sizes-clause-answer g c =
     rw c.in-Sizes.is (rw c.as_str-in-Sizes.ensures at c.sizes.ensures.answer)
 
 pub returns-in-Explain-clause-answer : goal.returns-in-Explain-clause-answer
-returns-in-Explain-clause-answer g c = rw c.in-Explain.is (refl, c.tell_explained.ensures)
+returns-in-Explain-clause-answer g c =
+    rw c.in-Explain.is (refl, text_steadily refl c.tell_explained.ensures)
 
 pub returns-in-Explain-clause-calls : goal.returns-in-Explain-clause-calls
 returns-in-Explain-clause-calls g c =
     calls_nothing c.args.files.now (text_no_fault c.tell_explained.ensures)
 
 pub returns-in-Help-clause-answer : goal.returns-in-Help-clause-answer
-returns-in-Help-clause-answer g c = rw c.in-Help.is (refl, c.tell_help.ensures)
+returns-in-Help-clause-answer g c =
+    rw c.in-Help.is (refl, text_steadily refl c.tell_help.ensures)
 
 pub returns-in-Help-clause-calls : goal.returns-in-Help-clause-calls
 returns-in-Help-clause-calls g c =
     calls_nothing c.args.files.now (text_no_fault c.tell_help.ensures)
 
 pub returns-in-Version-clause-answer : goal.returns-in-Version-clause-answer
-returns-in-Version-clause-answer g c = rw c.in-Version.is (refl, c.tell_version.ensures)
+returns-in-Version-clause-answer g c =
+    rw c.in-Version.is (refl, text_steadily refl c.tell_version.ensures)
 
 pub returns-in-Version-clause-calls : goal.returns-in-Version-clause-calls
 returns-in-Version-clause-calls g c =
