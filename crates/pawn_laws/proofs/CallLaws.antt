@@ -6,7 +6,7 @@ use Rattle.host_script.specs.Ranges.{IsScript}
 use Rattle.host_script.specs.declared.event.End.{End}
 use Rattle.amx_ops.specs.declared.amx.Amx.{Amx}
 use Rattle.amx_ops.specs.Keeps.{IsRunnable}
-use Rattle.amx_ops.specs.Moves.{Config, move}
+use Rattle.amx_ops.specs.Moves.{Config}
 use Rattle.amx_ops.specs.Runs.{Stop, Steps, Asleep, Over_by, Traced}
 use Rattle.amx_ops.specs.State.{State}
 use Rattle.amx_ops.specs.States.{IsState, IsRestorable}
@@ -21,7 +21,6 @@ use Rattle.pawn_meaning.specs.Program.{Program as Source}
 use Rattle.run_laws.specs.RestorableSleeps.{segment_of}
 use Rattle.run_laws.proofs.SleepLaws.{sleeps_are_restorable_lem}
 use Rattle.command_parts.specs.declared.program.Program.{Program}
-use Rattle.command_parts.specs.declared.status.Status.{Status}
 use Rattle.command_parts.specs.declared.status.Status.TheVariants as status
 use Rattle.command_parts.specs.Program.{IsProgram}
 use Rattle.command_parts.specs.Told.{Writes}
@@ -34,12 +33,12 @@ use Rattle.commands.specs.Good.{IsFree}
 use Rattle.commands.specs.Resumes.{GoesOn, Resumes}
 use Rattle.commands.specs.Runs.{IsStopped, RunsEntry, program_trace}
 use Rattle.commands.specs.Unfailing.{IsUnfailing}
-use Rattle.commands.proofs.DoneLaws.{good_is_run, good_is_resumed}
+use Rattle.commands.proofs.DoneLaws.{good_is_resumed}
 use Rattle.commands.proofs.FallLaws.{Fell, fell, not_free, wrote_all}
-use Rattle.commands.proofs.PutImageLaws.{fell_program, fell_image, keeps, started_state}
+use Rattle.commands.proofs.PutImageLaws.{fell_program, fell_image, started_state}
 use Rattle.commands.proofs.PutImageLaws.{started_count}
 use Rattle.commands.proofs.RunLaws.{within}
-use Rattle.pawn_laws.specs.Calls.{Call, AreResumes, AreCalls, WroteTogether, last_answer}
+use Rattle.pawn_laws.specs.Calls.{Call, AreResumes, WroteTogether, last_answer}
 use Rattle.pawn_laws.specs.OneRun.{bounds_of, trace_over}
 
 -- what is written, with the line of its end
@@ -63,7 +62,7 @@ module _ {S : Type 0} (writes : Writes S) (names : Names) (program : Program) (s
   -- a call ended as its segment does
   abbrev EndsSo : Held → Call S → Config → Type 0
   EndsSo held call c =
-      Finishes writes writes (Some held) (Some call.after) names.image program.digest
+      Finishes writes.says writes (Some held) (Some call.after) names.image program.digest
       (stop_at call.steps c) (made call.steps c) call.old call.new call.answer
 
   -- a segment and what is written from images behind it
@@ -119,8 +118,8 @@ module _ {S : Type 0} (writes : Writes S) (names : Names) (program : Program) (s
 
     it : Fell (Some held) (Some call.after) names.image program.digest (stop_at call.steps c) d
     it =
-        fell (subst (λ a. Finishes writes writes (Some held) (Some call.after) names.image program.digest
-        (stop_at call.steps c) d call.old call.new a) asleep ends)
+        fell (subst (λ a. Finishes writes.says writes (Some held) (Some call.after) names.image
+        program.digest (stop_at call.steps c) d call.old call.new a) asleep ends)
 
     restorable : IsRestorable file d.state
     restorable =
@@ -217,8 +216,8 @@ module _ {S : Type 0} (writes : Writes S) (names : Names) (program : Program) (s
 
     abbrev EndsAs : Traced Config End → Type 0
     EndsAs t =
-        Finishes writes writes (Some held) (Some run.after) names.image program.digest t.stop t.config
-        run.old run.new run.answer
+        Finishes writes.says writes (Some held) (Some run.after) names.image program.digest t.stop
+        t.config run.old run.new run.answer
 
     told_none : EndsAs (traced_by [] None) → (calls : List (Call S)) → calls ≡ resumes
         → AreResumes writes names run.after run.answer calls
@@ -244,8 +243,8 @@ module _ {S : Type 0} (writes : Writes S) (names : Names) (program : Program) (s
     told_none ends (next ∷ calls) same (asleep, resumed, unfailing, others) =
         let t = traced_by [] None in
         let f =
-        fell (subst (λ a. Finishes writes writes (Some held) (Some run.after) names.image program.digest
-        t.stop t.config run.old run.new a) asleep ends) in
+        fell (subst (λ a. Finishes writes.says writes (Some held) (Some run.after) names.image
+        program.digest t.stop t.config run.old run.new a) asleep ends) in
         absurd (cc (f.is_asleep))
 
     told_some : (s : State) → start_at file address [] (loaded file file.room) ≡ Some s

@@ -1,7 +1,7 @@
 -- A file of a program's form has an entry where the source has one, and it is the source's.
-use Rattle.std.proofs.Common.{◌≡◌, ◌≢◌, ◌∙◌, ◌+◌, ℕ, zero, suc, ℤ, negsuc, List, [], ◌∷◌, Bool, true}
+use Rattle.std.proofs.Common.{◌≡◌, ◌≢◌, ◌∙◌, ◌+◌, ℕ, suc, ℤ, negsuc, List, [], ◌∷◌, Bool, true}
 use Rattle.std.proofs.Common.{false, cond, Option, None, Some, map, slice_get, option_map}
-use Rattle.std.proofs.Common.{option_and_then, refl, sym, ap, subst, arith}
+use Rattle.std.proofs.Common.{option_and_then, refl, ap, subst, arith}
 use Rattle.std.specs.Prelude.{bytes_eq, find, if◌then◌else◌}
 use Rattle.std.specs.List.{position_from}
 use Rattle.std.proofs.lemmas.Bool.{false_from_ne_true}
@@ -15,7 +15,7 @@ use Rattle.amx_ops.specs.Trace as trace
 use Rattle.gen_agrees.specs.Agrees.{function_of}
 use Rattle.gen_agrees.specs.Shape.{HasShape, HasEntry, names}
 use Rattle.host_run.specs.declared.entry.TheConstants.{MAIN}
-use Rattle.host_run.specs.Entry.{public_named, entry_named, address_named}
+use Rattle.host_run.specs.Entry.{public_named, address_named}
 use Rattle.pawn_laws.specs.EntryFunction.{function_named}
 
 -- an entry of both, with its address

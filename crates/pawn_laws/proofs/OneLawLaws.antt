@@ -1,14 +1,13 @@
 -- Where `compile` put the file of a source, it is valid, and its run with the resumes behind it is what
 -- the source means.
-use Rattle.std.proofs.Common.{◌≡◌, ◌∙◌, ◌⊎◌, ◌≤◌, inl, inr, ℕ, ℤ, List, Option, Some, Ok, Err, length}
-use Rattle.std.proofs.Common.{refl, sym, ap, subst, arith, codes}
+use Rattle.std.proofs.Common.{◌≡◌, ◌∙◌, ◌⊎◌, inl, inr, ℕ, ℤ, List, Option, Some, Ok, Err}
+use Rattle.std.proofs.Common.{refl, sym, ap, arith, codes}
 use Rattle.std.specs.FinMap.{get, insert}
 use Rattle.pawn_outside.specs.Held.{Held}
 use Rattle.host_script.specs.Ranges.{IsScript}
 use Rattle.host_script.specs.declared.script.Script.{Script}
 use Rattle.pawn_meaning.specs.Program.{Program as Source}
 use Rattle.pawn_meaning.specs.Told.{meaning}
-use Rattle.amx_ops.specs.declared.amx.Amx.{Amx}
 use Rattle.amx_format.specs.declared.encoding.Encoding.{Encoding}
 use Rattle.gen_agrees.specs.Agrees.{IsRoom}
 use Rattle.run_laws.proofs.WholeLaws.{agreement_is_whole_lem}
@@ -78,8 +77,9 @@ module _ {S : Type 0} (writes : Writes S) (source : Source) (encoding : Encoding
 
   -- ---- `verify`
 
-  told_whole : (old new : S) (told : Told) (answer : Status) → writes old new (codes "valid\n") told
-      → answer ≡ status_told status.Ok told → IsUnfailing answer → SaysValid writes old new answer
+  told_whole : (old new : S) (told : Told) (answer : Status)
+      → writes.says old new (codes "valid\n") told → answer ≡ status_told status.Ok told
+      → IsUnfailing answer → SaysValid writes old new answer
   told_whole old new (Ok done) answer wrote is none = record { text = wrote; is = is }
   told_whole old new (Err fault) answer wrote is none = absurd (none.sink is)
 

@@ -1,6 +1,6 @@
 -- A call of `run` and any number of calls of `resume` behind it, each over the files that the one
 -- before left.
-use Rattle.std.specs.Prelude.{◌≡◌, ◌++◌, ℕ, List, [], ◌∷◌, Option, Some, Ok}
+use Rattle.std.specs.Prelude.{◌≡◌, ◌++◌, ℕ, List, [], ◌∷◌, Some, Ok}
 use Rattle.pawn_outside.specs.Held.{Held}
 use Rattle.command_parts.specs.declared.status.Status.{Status}
 use Rattle.command_parts.specs.declared.status.Status.TheVariants as status
@@ -10,8 +10,8 @@ use Rattle.commands.specs.Resumes.{Resumes}
 use Rattle.commands.specs.Runs.{Runs}
 use Rattle.commands.specs.Unfailing.{IsUnfailing}
 
--- how a call went: its bound on steps, the files behind it, the sink before and behind it, and its
--- status
+-- how a call went: its bound on steps, the files behind it, what it wrote to before and behind it,
+-- and its status
 pub record Call (S : Type 0) : Type 0 where
   pub steps : ℕ
   pub after : Held
@@ -45,7 +45,7 @@ pub record AreCalls {S : Type 0} (writes : Writes S) (names : Names) (entry : Li
 abbrev pub WroteTogether : {S : Type 0} → Writes S → List (Call S) → List ℕ → Type 0
 WroteTogether writes [] all = all ≡ []
 WroteTogether writes (call ∷ calls) all =
-    (text : List ℕ) × (rest : List ℕ) × writes call.old call.new text (Ok tt)
+    (text : List ℕ) × (rest : List ℕ) × writes.says call.old call.new text (Ok tt)
     × WroteTogether writes calls rest
     × (all ≡ text ++ rest)
 

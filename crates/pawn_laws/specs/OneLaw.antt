@@ -32,7 +32,7 @@ Holds after amx held name = get held name ≡ get after amx
 
 -- `valid` was written
 pub record SaysValid {S : Type 0} (writes : Writes S) (old new : S) (answer : Status) : Type 0 where
-  pub text : writes old new (codes "valid\n") (Ok tt)
+  pub text : writes.says old new (codes "valid\n") (Ok tt)
   pub is : answer ≡ status.Ok
 
 -- files with the file that was put and a script that serves the natives, and an entry that is there
