@@ -51,7 +51,7 @@ impl Done {
     pub fn objects(alloc: Global, x: Stood) -> Done
         ensures { done_view result ≡ spec.objects_done (stood_view x) }
     {
-        let parts = x.parts;
+        let parts = Box::into_inner(x.parts);
         let made = parts.made;
         Done {
             objects: made.literals,

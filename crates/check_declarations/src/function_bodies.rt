@@ -40,6 +40,7 @@ fn function_done(alloc: Global, number: u32, at: At, head: Headed, x: Stood) -> 
 {
     let params = slots_again(alloc, head.slots.as_slice())?;
     let Stood { stmts, parts } = x;
+    let parts = Box::into_inner(parts);
     let stmt = one_of(alloc, stmts)?;
     let body = body_with(head.slots, parts.slots, stmt)?;
     let mut bodies = Vec::new(alloc);

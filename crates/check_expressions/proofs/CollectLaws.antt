@@ -1,7 +1,7 @@
 -- A list whose elements are judged one by one, each behind the objects of those before it.
-use Rattle.std.proofs.Common.{◌≡◌, ◌+◌, ◌<◌, ◌≤◌, ℕ, List, [], ◌∷◌, ◌++◌, length, drop, get_or, map}
+use Rattle.std.proofs.Common.{◌≡◌, ◌+◌, ◌<◌, ◌≤◌, ℕ, List, [], ◌∷◌, length, drop, get_or, map}
 use Rattle.std.proofs.Common.{refl, subst, arith}
-use Rattle.std.specs.Prelude.{Result, Ok, Err}
+use Rattle.std.specs.Prelude.{Result, Ok}
 use Rattle.std.proofs.lemmas.List.{drop_all}
 use Rattle.names_rules.specs.Verdict.{Verdict, Stands, Breaks, after}
 use Rattle.check_nodes.specs.declared.fault.PartFault.{PartFault}

@@ -1,5 +1,5 @@
 -- A part stands behind as many objects as those before it have literals.
-use Rattle.std.proofs.Common.{◌≡◌, ◌+◌, ℕ, List, [], ◌∷◌, map, refl, arith, subst, Bool, Vec}
+use Rattle.std.proofs.Common.{◌≡◌, ◌+◌, ℕ, List, map, refl, arith, subst, Bool, Vec}
 use Rattle.std.proofs.Common.{Global}
 use Rattle.std.specs.Prelude.{Result}
 use Rattle.pawn_tree.specs.Expressions as tree
@@ -23,11 +23,11 @@ use Rattle.types_rules.specs.Literals.{literals_of_link}
 use Rattle.check_nodes.specs.declared.fault.PartFault.{PartFault}
 use Rattle.check_nodes.specs.PartAnswers.{PartAnswers, Judged}
 use Rattle.check_nodes.specs.declared.typed.Typed as held
-use Rattle.check_nodes.specs.TypedView.{typed_view}
 use Rattle.check_nodes.specs.declared.chains.Compared as held_compared
 use Rattle.check_nodes.specs.Compared.{compared_view}
 use Rattle.check_calls.specs.declared.filling.Offer as held_offer
 use Rattle.check_calls.specs.FillingView.{offer_view}
+use Rattle.check_expressions.specs.BoxedView.{boxed_view}
 use Rattle.check_expressions.specs.Links.{operand_in, sign_in}
 use Rattle.check_expressions.proofs.PairLaws.{judged_map}
 use Rattle.check_expressions.proofs.CollectLaws.{Collects, Collected}
@@ -65,22 +65,22 @@ offers_seen all = map offer_view all.items
 
 module _ (cx : Around) (scope : Scope) where
   -- an expression behind another part
-  pub second_at : {X : Type 0} (x : Result X PartFault) (y : Result held.Typed PartFault)
+  pub second_at : {X : Type 0} (x : Result X PartFault) (y : Result (Box held.Typed Global) PartFault)
       (e : tree.Expr) (m n : ℕ)
-      → Judged x (m ≡ n) → PartAnswers typed_view (expr cx scope m e) y
-      → Judged x (PartAnswers typed_view (expr cx scope n e) y)
+      → Judged x (m ≡ n) → PartAnswers boxed_view (expr cx scope m e) y
+      → Judged x (PartAnswers boxed_view (expr cx scope n e) y)
   second_at x y e m n h k =
       judged_map x (λ (p : m ≡ n). subst
-      (λ (count : ℕ). PartAnswers typed_view (expr cx scope count e) y) p k) h
+      (λ (count : ℕ). PartAnswers boxed_view (expr cx scope count e) y) p k) h
 
   -- behind two others
   pub third_at : {X Y : Type 0} (x : Result X PartFault) (y : Result Y PartFault)
-      (z : Result held.Typed PartFault) (e : tree.Expr) (o m n a b : ℕ)
-      → Judged x (m ≡ o + a) → Judged y (n ≡ m + b) → PartAnswers typed_view (expr cx scope n e) z
-      → Judged x (Judged y (PartAnswers typed_view (expr cx scope (o + (a + b)) e) z))
+      (z : Result (Box held.Typed Global) PartFault) (e : tree.Expr) (o m n a b : ℕ)
+      → Judged x (m ≡ o + a) → Judged y (n ≡ m + b) → PartAnswers boxed_view (expr cx scope n e) z
+      → Judged x (Judged y (PartAnswers boxed_view (expr cx scope (o + (a + b)) e) z))
   third_at x y z e o m n a b h k l =
       judged_map x (λ (p : m ≡ o + a). judged_map y
-      (λ (q : n ≡ m + b). subst (λ (count : ℕ). PartAnswers typed_view
+      (λ (q : n ≡ m + b). subst (λ (count : ℕ). PartAnswers boxed_view
       (expr cx scope count e) z) (sum_two o m n a b p q) l) k) h
 
   -- ---- lists

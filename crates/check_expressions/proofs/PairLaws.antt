@@ -1,5 +1,5 @@
 -- A node of two parts tells the fault of the first one, unless it only falls.
-use Rattle.std.proofs.Common.{◌≡◌, ℕ, refl, sym, subst, ◌∙◌}
+use Rattle.std.proofs.Common.{◌≡◌, refl, sym, subst, ◌∙◌}
 use Rattle.std.specs.Prelude.{Result, Ok, Err}
 use Rattle.names_rules.specs.Verdict.{Verdict, Stands, Breaks, after, both, faults_of}
 use Rattle.types_rules.specs.Rule.{pair}

@@ -1,4 +1,5 @@
 pub mod Beside
+pub mod BoxedView
 pub mod Counted
 pub mod Faults
 pub mod GoingOn

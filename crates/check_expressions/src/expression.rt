@@ -10,6 +10,7 @@ ghost use Rattle.check_nodes.specs.TypedView.{typed_view};
 ghost use Rattle.check_nodes.specs.Scopes.{scope_view};
 ghost use Rattle.check_nodes.specs.Compared.{compared_view};
 ghost use Rattle.check_calls.specs.FillingView.{offer_view};
+ghost use Rattle.check_expressions.specs.BoxedView.{boxed_view};
 ghost use Rattle.check_expressions.specs.Links.{operand_in};
 
 use super::leaves::{call_of, name_of, number_of, sizeof_rule, tagof_rule, text_of};
@@ -28,7 +29,6 @@ use std::alloc::Global;
 ///
 /// A rule that some node in it breaks, at the node's place. `Fallen` where none is broken, but a
 /// name means what doesn't stand.
-#[cycle(expression)]
 pub fn expr(
     alloc: Global,
     cx: &Context,
@@ -40,57 +40,75 @@ pub fn expr(
         (scope_view scopes.now) objects.old (expr_view e.now)) result }
     ensures behind { Judged result (objects.new ≡ objects.old + literals (expr_view e.now)) }
 {
+    let x = node(alloc, cx, scopes, objects, e)?;
+    Ok(Box::into_inner(x))
+}
+
+/// The same in a box, since a tree may be as deep as the parser takes it, and each level keeps what
+/// its operands are.
+#[cycle(expression)]
+fn node(
+    alloc: Global,
+    cx: &Context,
+    scopes: &Scopes,
+    objects: &mut u32,
+    e: &Expr,
+) -> Result<Box<Typed>, PartFault>
+    ensures answer { PartAnswers boxed_view (spec.expr (around_view cx.now)
+        (scope_view scopes.now) objects.old (expr_view e.now)) result }
+    ensures behind { Judged result (objects.new ≡ objects.old + literals (expr_view e.now)) }
+{
     match e {
         Expr::Number(at, value) => Ok(number_of(alloc, *at, *value)?),
         Expr::Text(at, bytes, packed) => text_of(alloc, objects, *at, bytes, *packed),
         Expr::Name(at, it) => name_of(alloc, scopes, *at, it),
         Expr::Paren(at, e) => {
-            let x = expr(alloc, cx, scopes, objects, e);
+            let x = node(alloc, cx, scopes, objects, e);
             with_operand(alloc, cx, *at, Single::Paren, x)
         }
         Expr::Sizeof(at, x) => sizeof_rule(alloc, scopes, *at, x),
         Expr::Tagof(at, x) => tagof_rule(alloc, cx, scopes, *at, x),
         Expr::Prefix(at, sign, e) => {
-            let x = expr(alloc, cx, scopes, objects, e);
+            let x = node(alloc, cx, scopes, objects, e);
             with_operand(alloc, cx, *at, Single::Prefix(*sign), x)
         }
         Expr::Tagged(at, tag, e) => {
-            let x = expr(alloc, cx, scopes, objects, e);
+            let x = node(alloc, cx, scopes, objects, e);
             with_operand(alloc, cx, *at, Single::Tagged(tag), x)
         }
         Expr::Postfix(at, sign, e) => {
-            let x = expr(alloc, cx, scopes, objects, e);
+            let x = node(alloc, cx, scopes, objects, e);
             with_operand(alloc, cx, *at, Single::Postfix(*sign), x)
         }
         Expr::Index(at, a, i) => {
-            let x = expr(alloc, cx, scopes, objects, a);
-            let y = expr(alloc, cx, scopes, objects, i);
+            let x = node(alloc, cx, scopes, objects, a);
+            let y = node(alloc, cx, scopes, objects, i);
             with_operands(alloc, cx, *at, Double::Index, x, y)
         }
         Expr::Character(at, a, i) => {
-            let x = expr(alloc, cx, scopes, objects, a);
-            let y = expr(alloc, cx, scopes, objects, i);
+            let x = node(alloc, cx, scopes, objects, a);
+            let y = node(alloc, cx, scopes, objects, i);
             with_operands(alloc, cx, *at, Double::Character, x, y)
         }
         Expr::Binary(at, sign, l, r) => {
-            let x = expr(alloc, cx, scopes, objects, l);
-            let y = expr(alloc, cx, scopes, objects, r);
+            let x = node(alloc, cx, scopes, objects, l);
+            let y = node(alloc, cx, scopes, objects, r);
             with_operands(alloc, cx, *at, Double::Binary(*sign), x, y)
         }
         Expr::Chain(at, e, list) => {
-            let x = expr(alloc, cx, scopes, objects, e);
+            let x = node(alloc, cx, scopes, objects, e);
             let links = links_of(alloc, cx, scopes, objects, list);
             chained(alloc, cx, *at, x, links)
         }
         Expr::Choice(at, c, a, b) => {
-            let x = expr(alloc, cx, scopes, objects, c);
-            let y = expr(alloc, cx, scopes, objects, a);
-            let z = expr(alloc, cx, scopes, objects, b);
+            let x = node(alloc, cx, scopes, objects, c);
+            let y = node(alloc, cx, scopes, objects, a);
+            let z = node(alloc, cx, scopes, objects, b);
             choose(alloc, cx, *at, x, y, z)
         }
         Expr::Assign(at, sign, l, r) => {
-            let x = expr(alloc, cx, scopes, objects, l);
-            let y = expr(alloc, cx, scopes, objects, r);
+            let x = node(alloc, cx, scopes, objects, l);
+            let y = node(alloc, cx, scopes, objects, r);
             with_operands(alloc, cx, *at, Double::Assign(*sign), x, y)
         }
         Expr::Call(at, it, list, _) => {
@@ -108,14 +126,14 @@ fn operand_of(
     scopes: &Scopes,
     objects: &mut u32,
     it: &Link,
-) -> Result<Typed, PartFault>
-    ensures answer { PartAnswers typed_view (spec.expr (around_view cx.now)
+) -> Result<Box<Typed>, PartFault>
+    ensures answer { PartAnswers boxed_view (spec.expr (around_view cx.now)
         (scope_view scopes.now) objects.old (operand_in (link_view it.now))) result }
     ensures behind { Judged result
         (objects.new ≡ objects.old + literals (operand_in (link_view it.now))) }
 {
     match it {
-        Link::Compare(_, e) => expr(alloc, cx, scopes, objects, e),
+        Link::Compare(_, e) => node(alloc, cx, scopes, objects, e),
     }
 }
 
@@ -179,11 +197,11 @@ fn offered<'a>(
     match it {
         Arg::Default(_) => Ok(Offer::Skipped),
         Arg::Value(e) => {
-            let x = expr(alloc, cx, scopes, objects, e);
+            let x = node(alloc, cx, scopes, objects, e);
             positional(x)
         }
         Arg::Named(name, e) => {
-            let x = expr(alloc, cx, scopes, objects, e);
+            let x = node(alloc, cx, scopes, objects, e);
             named(&name.bytes, x)
         }
     }

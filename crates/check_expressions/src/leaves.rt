@@ -14,6 +14,7 @@ ghost use Rattle.check_nodes.specs.TypedView.{typed_view};
 ghost use Rattle.check_nodes.specs.Scopes.{scope_view, sight_view};
 ghost use Rattle.check_calls.specs.CalleeView.{callee_view};
 ghost use Rattle.check_calls.specs.FillingView.{offer_view};
+ghost use Rattle.check_expressions.specs.BoxedView.{boxed_view};
 
 use check_calls::{Callee, Offer, call, find_callee, text};
 use check_nodes::{
@@ -28,10 +29,11 @@ use std::alloc::Global;
 // ---- numbers, texts, names
 
 /// A number or a character.
-pub fn number_of(alloc: Global, at: At, value: i32) -> Result<Typed, Memory>
-    ensures { IfOk result (λ x. typed_view x ≡ names.number_rule at value) }
+pub fn number_of(alloc: Global, at: At, value: i32) -> Result<Box<Typed>, Memory>
+    ensures { IfOk result (λ x. boxed_view x ≡ names.number_rule at value) }
 {
-    make_number(alloc, at, value)
+    let number = make_number(alloc, at, value)?;
+    Ok(Box::new(alloc, number)?)
 }
 
 /// A text, which is the object with this number.
@@ -57,8 +59,8 @@ pub fn text_of(
     at: At,
     it: &Bytes,
     packed: bool,
-) -> Result<Typed, PartFault>
-    ensures answer { PartAnswers typed_view
+) -> Result<Box<Typed>, PartFault>
+    ensures answer { PartAnswers boxed_view
         (names.text_rule objects.old at it.now packed) result }
     ensures behind { Judged result (objects.new ≡ objects.old + 1) }
 {
@@ -67,7 +69,8 @@ pub fn text_of(
         None => Err(PartFault::Memory),
         Some(behind) => {
             *objects = behind;
-            Ok(text_at(alloc, object, at, it, packed)?)
+            let text = text_at(alloc, object, at, it, packed)?;
+            Ok(Box::new(alloc, text)?)
         }
     }
 }
@@ -92,14 +95,24 @@ fn name_in_sight(alloc: Global, at: At, sight: Option<Sight>) -> Result<Typed, P
     }
 }
 
-/// A name.
-#[inline(never)]
-pub fn name_of(alloc: Global, scopes: &Scopes, at: At, it: &Bytes) -> Result<Typed, PartFault>
+/// What is told of a name by what it means here.
+fn name_in_scope(alloc: Global, scopes: &Scopes, at: At, it: &Bytes) -> Result<Typed, PartFault>
     ensures { PartAnswers typed_view
         (names.name_rule at (found (scope_view scopes.now) it.now)) result }
 {
     let sight = sight_of(scopes, it);
     name_in_sight(alloc, at, sight)
+}
+
+/// A name.
+#[tactic(auto, using(check_nodes::proofs::PartLaws::parts))]
+#[inline(never)]
+pub fn name_of(alloc: Global, scopes: &Scopes, at: At, it: &Bytes) -> Result<Box<Typed>, PartFault>
+    ensures { PartAnswers boxed_view
+        (names.name_rule at (found (scope_view scopes.now) it.now)) result }
+{
+    let name = name_in_scope(alloc, scopes, at, it)?;
+    Ok(Box::new(alloc, name)?)
 }
 
 // ---- `sizeof` and `tagof`
@@ -155,8 +168,7 @@ fn size_of_text(
 
 /// `sizeof` with its operand.
 #[tactic(auto, unfolding(types_rules::specs::NamesAndNumbers::sizeof_rule), using(check_nodes::proofs::PartLaws::parts))]
-#[inline(never)]
-pub fn sizeof_rule(
+fn size_of_operand(
     alloc: Global,
     scopes: &Scopes,
     at: At,
@@ -172,6 +184,21 @@ pub fn sizeof_rule(
             Ok(size_of_text(alloc, at, *dimension, &it.bytes, it.packed)?)
         }
     }
+}
+
+/// `sizeof` with its operand, in a box.
+#[tactic(auto, using(check_nodes::proofs::PartLaws::parts))]
+#[inline(never)]
+pub fn sizeof_rule(
+    alloc: Global,
+    scopes: &Scopes,
+    at: At,
+    x: &SizeofOperand,
+) -> Result<Box<Typed>, PartFault>
+    ensures { PartAnswers boxed_view (names.sizeof_rule (scope_view scopes.now) at x.now) result }
+{
+    let size = size_of_operand(alloc, scopes, at, x)?;
+    Ok(Box::new(alloc, size)?)
 }
 
 /// What is told of the tag of a name.
@@ -198,8 +225,7 @@ fn tag_of_name(alloc: Global, scopes: &Scopes, at: At, it: &Bytes) -> Result<Typ
 
 /// `tagof` with its operand.
 #[tactic(auto, unfolding(types_rules::specs::NamesAndNumbers::tagof_rule))]
-#[inline(never)]
-pub fn tagof_rule(
+fn tag_of_operand(
     alloc: Global,
     cx: &Context,
     scopes: &Scopes,
@@ -213,6 +239,23 @@ pub fn tagof_rule(
         TagofOperand::Name(it) => tag_of_name(alloc, scopes, at, &it.bytes),
         TagofOperand::Tag(it) => Ok(tagof_tag(alloc, cx, at, it.bytes.as_slice())?),
     }
+}
+
+/// `tagof` with its operand, in a box.
+#[tactic(auto, using(check_nodes::proofs::PartLaws::parts))]
+#[inline(never)]
+pub fn tagof_rule(
+    alloc: Global,
+    cx: &Context,
+    scopes: &Scopes,
+    at: At,
+    x: &TagofOperand,
+) -> Result<Box<Typed>, PartFault>
+    ensures { PartAnswers boxed_view
+        (names.tagof_rule (around_view cx.now) (scope_view scopes.now) at x.now) result }
+{
+    let tag = tag_of_operand(alloc, cx, scopes, at, x)?;
+    Ok(Box::new(alloc, tag)?)
 }
 
 // ---- calls
@@ -256,14 +299,15 @@ fn call_with(
     at: At,
     it: &Bytes,
     offers: Vec<Offer>,
-) -> Result<Typed, PartFault>
-    ensures { PartAnswers typed_view (after
+) -> Result<Box<Typed>, PartFault>
+    ensures { PartAnswers boxed_view (after
         (calls.callee_rule (around_view cx.now) at (found (scope_view scopes.now) it.now))
         (λ callee. calls.call_rule (around_view cx.now) at callee
         (map offer_view offers.entry.items))) result }
 {
     let callee = callee_of(cx, scopes, at, it)?;
-    Ok(call(alloc, cx, at, callee, offers)?)
+    let it = call(alloc, cx, at, callee, offers)?;
+    Ok(Box::new(alloc, it)?)
 }
 
 /// A call by a name.
@@ -276,10 +320,10 @@ pub fn call_of(
     at: At,
     it: &Bytes,
     offers: Result<Vec<Offer>, PartFault>,
-) -> Result<Typed, PartFault>
+) -> Result<Box<Typed>, PartFault>
     ensures answer { (v : Verdict (List PlainOffer)) →
         PartAnswers (λ all. map offer_view all.items) v offers.entry →
-        PartAnswers typed_view (after v (λ offered. after
+        PartAnswers boxed_view (after v (λ offered. after
         (calls.callee_rule (around_view cx.now) at (found (scope_view scopes.now) it.now))
         (λ callee. calls.call_rule (around_view cx.now) at callee offered))) result }
     ensures judged { (m n : ℕ) → Judged offers.entry (m ≡ n) → Judged result (m ≡ n) }

@@ -2,6 +2,7 @@
 #![tactic(auto)]
 
 mod arrays;
+mod boxes;
 mod broken_part;
 mod cells;
 mod constants;

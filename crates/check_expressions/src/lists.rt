@@ -7,9 +7,9 @@ ghost use Rattle.types_rules.specs.Chains.{Compared as PlainLink, link_rule};
 ghost use Rattle.types_rules.specs.Filling.{Offer as PlainOffer};
 ghost use Rattle.types_rules.specs.Filling as filling;
 ghost use Rattle.check_nodes.specs.PartAnswers.{Judged, PartAnswers};
-ghost use Rattle.check_nodes.specs.TypedView.{typed_view};
 ghost use Rattle.check_nodes.specs.Compared.{compared_view};
 ghost use Rattle.check_calls.specs.FillingView.{offer_view};
+ghost use Rattle.check_expressions.specs.BoxedView.{boxed_view};
 ghost use Rattle.check_expressions.specs.Links.{sign_in};
 ghost use Rattle.check_expressions.specs.SoFar.{SoFar};
 
@@ -33,12 +33,12 @@ pub fn sign_of(it: &Link) -> Sign
 
 /// A link with its operand.
 #[tactic(auto, using(check_nodes::proofs::PartLaws::parts, crate::proofs::PairLaws::pairs))]
-pub fn compare(sign: Sign, x: Result<Typed, PartFault>) -> Result<Compared, PartFault>
-    ensures answer { (v : Verdict Plain) → PartAnswers typed_view v x →
+pub fn compare(sign: Sign, x: Result<Box<Typed>, PartFault>) -> Result<Compared, PartFault>
+    ensures answer { (v : Verdict Plain) → PartAnswers boxed_view v x →
         PartAnswers compared_view (after v (λ x. link_rule x.at sign x)) result }
     ensures judged { (m n : ℕ) → Judged x (m ≡ n) → Judged result (m ≡ n) }
 {
-    let x = x?;
+    let x = Box::into_inner(x?);
     Ok(link(x.at, sign, x)?)
 }
 
@@ -63,24 +63,24 @@ pub fn with_link(
 
 /// An argument by its place.
 #[tactic(auto, using(check_nodes::proofs::PartLaws::parts, crate::proofs::PairLaws::pairs))]
-pub fn positional<'a>(x: Result<Typed, PartFault>) -> Result<Offer<'a>, PartFault>
-    ensures answer { (v : Verdict Plain) → PartAnswers typed_view v x →
+pub fn positional<'a>(x: Result<Box<Typed>, PartFault>) -> Result<Offer<'a>, PartFault>
+    ensures answer { (v : Verdict Plain) → PartAnswers boxed_view v x →
         PartAnswers offer_view (after v (λ x. Stands (filling.Positional x))) result }
     ensures judged { (m n : ℕ) → Judged x (m ≡ n) → Judged result (m ≡ n) }
 {
     let x = x?;
-    Ok(Offer::Positional(x))
+    Ok(Offer::Positional(Box::into_inner(x)))
 }
 
 /// An argument by the name of its parameter.
 #[tactic(auto, using(check_nodes::proofs::PartLaws::parts, crate::proofs::PairLaws::pairs))]
-pub fn named<'a>(name: &'a Bytes, x: Result<Typed, PartFault>) -> Result<Offer<'a>, PartFault>
-    ensures answer { (v : Verdict Plain) → PartAnswers typed_view v x →
+pub fn named<'a>(name: &'a Bytes, x: Result<Box<Typed>, PartFault>) -> Result<Offer<'a>, PartFault>
+    ensures answer { (v : Verdict Plain) → PartAnswers boxed_view v x →
         PartAnswers offer_view (after v (λ x. Stands (filling.Named name.now x))) result }
     ensures judged { (m n : ℕ) → Judged x (m ≡ n) → Judged result (m ≡ n) }
 {
     let x = x?;
-    Ok(Offer::Named(name, x))
+    Ok(Offer::Named(name, Box::into_inner(x)))
 }
 
 /// One more argument.

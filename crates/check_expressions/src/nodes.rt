@@ -11,8 +11,10 @@ ghost use Rattle.check_nodes.specs.PartAnswers.{Judged, PartAnswers};
 ghost use Rattle.check_nodes.specs.ContextView.{around_view};
 ghost use Rattle.check_nodes.specs.TypedView.{typed_view};
 ghost use Rattle.check_nodes.specs.Compared.{compared_view};
+ghost use Rattle.check_expressions.specs.BoxedView.{boxed_view};
 ghost use Rattle.check_expressions.specs.Nodes.{double_rule, single_rule};
 
+use super::boxes::boxed;
 use super::told_faults::both;
 use check_calls::{assign, character, index};
 use check_nodes::{
@@ -71,14 +73,15 @@ pub fn with_operand(
     cx: &Context,
     at: At,
     by: Single,
-    x: Result<Typed, PartFault>,
-) -> Result<Typed, PartFault>
-    ensures answer { (v : Verdict Plain) → PartAnswers typed_view v x →
-        PartAnswers typed_view (after v (single_rule (around_view cx.now) at by.entry)) result }
+    x: Result<Box<Typed>, PartFault>,
+) -> Result<Box<Typed>, PartFault>
+    ensures answer { (v : Verdict Plain) → PartAnswers boxed_view v x →
+        PartAnswers boxed_view (after v (single_rule (around_view cx.now) at by.entry)) result }
     ensures judged { (m n : ℕ) → Judged x (m ≡ n) → Judged result (m ≡ n) }
 {
     let x = x?;
-    Ok(single_typed(alloc, cx, at, by, x)?)
+    let node = single_typed(alloc, cx, at, by, Box::into_inner(x))?;
+    Ok(Box::new(alloc, node)?)
 }
 
 // ---- two operands
@@ -121,16 +124,17 @@ pub fn with_operands(
     cx: &Context,
     at: At,
     by: Double,
-    x: Result<Typed, PartFault>,
-    y: Result<Typed, PartFault>,
-) -> Result<Typed, PartFault>
-    ensures answer { (v w : Verdict Plain) → PartAnswers typed_view v x →
-        Judged x (PartAnswers typed_view w y) →
-        PartAnswers typed_view (spec.both v w (double_rule (around_view cx.now) at by)) result }
+    x: Result<Box<Typed>, PartFault>,
+    y: Result<Box<Typed>, PartFault>,
+) -> Result<Box<Typed>, PartFault>
+    ensures answer { (v w : Verdict Plain) → PartAnswers boxed_view v x →
+        Judged x (PartAnswers boxed_view w y) →
+        PartAnswers boxed_view (spec.both v w (double_rule (around_view cx.now) at by)) result }
     ensures judged { (m n : ℕ) → Judged x (Judged y (m ≡ n)) → Judged result (m ≡ n) }
 {
     let (x, y) = both(x, y)?;
-    Ok(double_typed(alloc, cx, at, by, x, y)?)
+    let node = double_typed(alloc, cx, at, by, Box::into_inner(x), Box::into_inner(y));
+    boxed(alloc, node)
 }
 
 // ---- chains and choices
@@ -141,17 +145,18 @@ pub fn chained(
     alloc: Global,
     cx: &Context,
     at: At,
-    x: Result<Typed, PartFault>,
+    x: Result<Box<Typed>, PartFault>,
     links: Result<Vec<Compared>, PartFault>,
-) -> Result<Typed, PartFault>
+) -> Result<Box<Typed>, PartFault>
     ensures answer { (v : Verdict Plain) (w : Verdict (List PlainLink)) →
-        PartAnswers typed_view v x →
+        PartAnswers boxed_view v x →
         Judged x (PartAnswers (λ all. map compared_view all.items) w links) →
-        PartAnswers typed_view (spec.both v w (chain_rule (around_view cx.now) at)) result }
+        PartAnswers boxed_view (spec.both v w (chain_rule (around_view cx.now) at)) result }
     ensures judged { (m n : ℕ) → Judged x (Judged links (m ≡ n)) → Judged result (m ≡ n) }
 {
     let (x, links) = both(x, links)?;
-    Ok(chain(alloc, cx, at, x, links)?)
+    let node = chain(alloc, cx, at, Box::into_inner(x), links);
+    boxed(alloc, node)
 }
 
 /// `? :`, by its condition and both values.
@@ -159,19 +164,27 @@ fn chosen(
     alloc: Global,
     cx: &Context,
     at: At,
-    x: Result<Typed, PartFault>,
-    values: Result<(Typed, Typed), PartFault>,
-) -> Result<Typed, PartFault>
+    x: Result<Box<Typed>, PartFault>,
+    values: Result<(Box<Typed>, Box<Typed>), PartFault>,
+) -> Result<Box<Typed>, PartFault>
     ensures answer { (v : Verdict Plain) (w : Verdict (Plain × Plain)) →
-        PartAnswers typed_view v x →
-        Judged x (PartAnswers (λ it. (typed_view it.0, typed_view it.1)) w values) →
-        PartAnswers typed_view (spec.both v w
+        PartAnswers boxed_view v x →
+        Judged x (PartAnswers (λ it. (boxed_view it.0, boxed_view it.1)) w values) →
+        PartAnswers boxed_view (spec.both v w
         (λ x parts. choice_rule (around_view cx.now) at x parts.0 parts.1)) result }
     ensures judged { (m n : ℕ) → Judged x (Judged values (m ≡ n)) → Judged result (m ≡ n) }
 {
     let (x, values) = both(x, values)?;
     let (y, z) = values;
-    Ok(choice(alloc, cx, at, x, y, z)?)
+    let node = choice(
+        alloc,
+        cx,
+        at,
+        Box::into_inner(x),
+        Box::into_inner(y),
+        Box::into_inner(z),
+    );
+    boxed(alloc, node)
 }
 
 /// `? :`
@@ -180,14 +193,14 @@ pub fn choose(
     alloc: Global,
     cx: &Context,
     at: At,
-    x: Result<Typed, PartFault>,
-    y: Result<Typed, PartFault>,
-    z: Result<Typed, PartFault>,
-) -> Result<Typed, PartFault>
-    ensures answer { (v w u : Verdict Plain) → PartAnswers typed_view v x →
-        Judged x (PartAnswers typed_view w y) →
-        Judged x (Judged y (PartAnswers typed_view u z)) →
-        PartAnswers typed_view (spec.both v (pair w u)
+    x: Result<Box<Typed>, PartFault>,
+    y: Result<Box<Typed>, PartFault>,
+    z: Result<Box<Typed>, PartFault>,
+) -> Result<Box<Typed>, PartFault>
+    ensures answer { (v w u : Verdict Plain) → PartAnswers boxed_view v x →
+        Judged x (PartAnswers boxed_view w y) →
+        Judged x (Judged y (PartAnswers boxed_view u z)) →
+        PartAnswers boxed_view (spec.both v (pair w u)
         (λ x parts. choice_rule (around_view cx.now) at x parts.0 parts.1)) result }
     ensures judged { (m n : ℕ) → Judged x (Judged y (Judged z (m ≡ n))) →
         Judged result (m ≡ n) }

@@ -33,7 +33,7 @@ stood_of stmts parts = record {
 
 -- statements as code holds them
 abbrev pub stood_view : Stood → plain.Stood
-stood_view it = stood_of (map stmt_view it.stmts.items) it.parts
+stood_view it = stood_of (map stmt_view it.stmts.items) it.parts.value
 
 -- `break` or `continue`
 abbrev pub jump_view : Jump → Stmt

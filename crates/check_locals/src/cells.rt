@@ -63,10 +63,7 @@ fn object_alone(alloc: Global, object: Object, warned: List<At>) -> Result<Stood
         stood [] (object_view object ∷ []) warned) }
 {
     let made = object_made(alloc, object, warned)?;
-    Ok(Stood {
-        stmts: Vec::new(alloc),
-        parts: Parts::of(alloc, made),
-    })
+    Stood::bare(alloc, made)
 }
 
 /// A `static` of one cell.

@@ -19,7 +19,7 @@ use super::declaring::{Declaring, Outcome};
 use super::judged_variables::judge_vars;
 use super::means::{declare_var, tag_of};
 use super::point::Point;
-use super::stood::{Parts, Stood};
+use super::stood::Stood;
 use check_expressions::{Constant as Value, constant_value, constant_warned};
 use check_nodes::{Context, Made, Meaning, Scopes, Sight};
 use pawn_base::{List, Memory};
@@ -58,7 +58,11 @@ fn local(here: &Declaring, point: &Point, x: &Var) -> Outcome
 }
 
 /// Statements, and those behind them: the whole falls where one of them falls.
-pub fn then_maybe(done: Option<Stood>, more: Option<Stood>) -> Result<Option<Stood>, Memory>
+pub fn then_maybe(
+    alloc: Global,
+    done: Option<Stood>,
+    more: Option<Stood>,
+) -> Result<Option<Stood>, Memory>
     ensures { IfOk result (λ both. plain_told stood_view both ≡ joined stood_behind
         (plain_told stood_view done) (plain_told stood_view more)) }
 {
@@ -68,7 +72,7 @@ pub fn then_maybe(done: Option<Stood>, more: Option<Stood>) -> Result<Option<Sto
     let Some(more) = more else {
         return Ok(None);
     };
-    Ok(Some(done.then(more)?))
+    Ok(Some(done.then(alloc, more)?))
 }
 
 /// Variables that are declared together: each is known behind its own value.
@@ -84,12 +88,13 @@ pub fn locals<'a>(here: &Declaring, point: &mut Point<'a>, vars: &'a [Var]) -> O
         points.behind_vars (around_view here.now.cx.now) (point_view point.old) here.now.at
         here.now.kind here.now.constant (map var_view vars.now)) }
 {
-    let mut done = Some(Stood::nothing(here.alloc));
+    let none = Stood::nothing(here.alloc)?;
+    let mut done = Some(none);
     for i in 0..vars.len() {
         let x = &vars[i];
         let it = local(here, point, x)?;
         declare_var(here, point, x)?;
-        done = then_maybe(done, it)?;
+        done = then_maybe(here.alloc, done, it)?;
     }
     Ok(done)
 }
@@ -157,10 +162,7 @@ fn constant_stood(alloc: Global, cx: &Context, tag: u32, x: Value) -> Result<Sto
         literals: List::new(alloc),
         warned,
     };
-    Ok(Stood {
-        stmts: Vec::new(alloc),
-        parts: Parts::of(alloc, made),
-    })
+    Stood::bare(alloc, made)
 }
 
 /// A constant of a block, which leaves no statement; None where it falls.

@@ -47,7 +47,7 @@ pub fn otherwise_of(alloc: Global, other: Option<Stood>) -> Result<Otherwise, Me
             let stmt = one_of(alloc, x.stmts)?;
             Ok(Otherwise {
                 stmt: Some(Box::new(alloc, stmt)?),
-                parts: x.parts,
+                parts: Box::into_inner(x.parts),
             })
         }
     }
@@ -66,7 +66,7 @@ pub fn block_rule(alloc: Global, x: Stood) -> Result<Stood, Memory>
     ensures { IfOk result (λ it. stood_view it ≡ spec.block_rule (stood_view x)) }
 {
     let block = Stmt::Block(List::from_vec(x.stmts));
-    Ok(Stood::with(alloc, block, x.parts)?)
+    Ok(Stood::with(alloc, block, Box::into_inner(x.parts))?)
 }
 
 /// An `if` with its parts.
@@ -77,7 +77,7 @@ pub fn if_rule(alloc: Global, c: Used, s: Stood, other: Option<Stood>) -> Result
 {
     let body = Box::new(alloc, one_of(alloc, s.stmts)?)?;
     let other = otherwise_of(alloc, other)?;
-    let inner = s.parts.then(other.parts)?;
+    let inner = Box::into_inner(s.parts).then(other.parts)?;
     let parts = inner.behind(c.made)?;
     Ok(Stood::with(
         alloc,
@@ -92,7 +92,7 @@ pub fn while_rule(alloc: Global, c: Used, s: Stood) -> Result<Stood, Memory>
     ensures { IfOk result (λ it. stood_view it ≡ spec.while_rule (used_view c) (stood_view s)) }
 {
     let body = Box::new(alloc, one_of(alloc, s.stmts)?)?;
-    let parts = s.parts.behind(c.made)?;
+    let parts = Box::into_inner(s.parts).behind(c.made)?;
     Ok(Stood::with(alloc, Stmt::While(Box::into_inner(c.expr), body), parts)?)
 }
 
@@ -102,7 +102,7 @@ pub fn do_while_rule(alloc: Global, s: Stood, c: Used) -> Result<Stood, Memory>
     ensures { IfOk result (λ it. stood_view it ≡ spec.do_while_rule (stood_view s) (used_view c)) }
 {
     let body = Box::new(alloc, one_of(alloc, s.stmts)?)?;
-    let parts = s.parts.then(Parts::of(alloc, c.made))?;
+    let parts = Box::into_inner(s.parts).then(Parts::of(alloc, c.made))?;
     Ok(Stood::with(alloc, Stmt::DoWhile(body, Box::into_inner(c.expr)), parts)?)
 }
 
@@ -145,7 +145,8 @@ pub fn for_rule(
     ensures { IfOk result (λ it. stood_view it ≡
         spec.for_rule (stood_view first) (maybe_view c) (maybe_view step) (stood_view s)) }
 {
-    let parts = for_parts(first.parts, c.made, step.made, s.parts)?;
+    let before = Box::into_inner(first.parts);
+    let parts = for_parts(before, c.made, step.made, Box::into_inner(s.parts))?;
     let body = Box::new(alloc, one_of(alloc, s.stmts)?)?;
     let stmts = List::from_vec(first.stmts);
     let stmt = Stmt::For(stmts, unboxed(c.expr), unboxed(step.expr), body);

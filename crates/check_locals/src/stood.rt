@@ -79,11 +79,12 @@ impl Parts {
     }
 }
 
-/// Typed statements in order.
+/// Typed statements in order. Their parts are in a box, since statements may be as deep as the
+/// parser takes them, and each level keeps what stands inside.
 #[derive(Drop)]
 pub struct Stood {
     pub stmts: Vec<Stmt>,
-    pub parts: Parts,
+    pub parts: Box<Parts>,
 }
 
 /// A list of one statement.
@@ -96,20 +97,30 @@ fn single(alloc: Global, stmt: Stmt) -> Result<Vec<Stmt>, Memory>
 }
 
 impl Stood {
-    /// No statement.
-    pub fn nothing(alloc: Global) -> Stood
-        ensures { stood_view result ≡ spec.nothing_stood }
+    /// What makes no statement.
+    pub fn bare(alloc: Global, made: Made) -> Result<Stood, Memory>
+        ensures { IfOk result (λ it. stood_view it ≡
+            spec.stood [] (map object_view made.literals) made.warned) }
     {
-        Stood {
+        let parts = Parts::of(alloc, made);
+        Ok(Stood {
             stmts: Vec::new(alloc),
-            parts: Parts::of(alloc, Made::nothing(alloc)),
-        }
+            parts: Box::new(alloc, parts)?,
+        })
+    }
+
+    /// No statement.
+    pub fn nothing(alloc: Global) -> Result<Stood, Memory>
+        ensures { IfOk result (λ it. stood_view it ≡ spec.nothing_stood) }
+    {
+        Stood::bare(alloc, Made::nothing(alloc))
     }
 
     /// A statement with these parts.
     pub fn with(alloc: Global, stmt: Stmt, parts: Parts) -> Result<Stood, Memory>
         ensures { IfOk result (λ it. stood_view it ≡ stood_of (stmt_view stmt ∷ []) parts) }
     {
+        let parts = Box::new(alloc, parts)?;
         Ok(Stood {
             stmts: single(alloc, stmt)?,
             parts,
@@ -121,14 +132,11 @@ impl Stood {
         ensures { IfOk result (λ it. stood_view it ≡
             spec.stood (stmt_view stmt ∷ []) (map object_view made.literals) made.warned) }
     {
-        Ok(Stood {
-            stmts: single(alloc, stmt)?,
-            parts: Parts::of(alloc, made),
-        })
+        Stood::with(alloc, stmt, Parts::of(alloc, made))
     }
 
     /// These statements, and those behind them.
-    pub fn then(self, more: Stood) -> Result<Stood, Memory>
+    pub fn then(self, alloc: Global, more: Stood) -> Result<Stood, Memory>
         ensures { IfOk result (λ both. stood_view both ≡
             spec.stood_behind (stood_view self) (stood_view more)) }
     {
@@ -138,9 +146,10 @@ impl Stood {
             parts: rest,
         } = more;
         stmts.append(&mut others)?;
+        let parts = Box::into_inner(parts).then(Box::into_inner(rest))?;
         Ok(Stood {
             stmts,
-            parts: parts.then(rest)?,
+            parts: Box::new(alloc, parts)?,
         })
     }
 }

@@ -119,10 +119,11 @@ fn block<'a>(
         (point_view point.old) (tree.stmts (map stmt_view list.now))) }
 {
     let items = list.as_slice();
-    let mut done = Some(Stood::nothing(setting.alloc));
+    let none = Stood::nothing(setting.alloc)?;
+    let mut done = Some(none);
     for i in 0..items.len() {
         let it = stmt(&items[i], setting, point, in_loop)?;
-        done = then_maybe(done, it)?;
+        done = then_maybe(setting.alloc, done, it)?;
     }
     Ok(done)
 }

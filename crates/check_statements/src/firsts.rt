@@ -129,7 +129,7 @@ pub fn first_done<'a>(setting: &Setting, point: &mut Point<'a>, at: At, first: &
         behind_first_in setting.now (point_view point.old) at (first_view first.now)) }
 {
     match first {
-        First::Nothing => Ok(Some(Stood::nothing(setting.alloc))),
+        First::Nothing => Ok(Some(Stood::nothing(setting.alloc)?)),
         First::New(vars) => {
             let here = for_vars(setting, at);
             locals(&here, point, vars.as_slice())

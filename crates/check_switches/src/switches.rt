@@ -56,7 +56,7 @@ fn one_case(alloc: Global, x: Labels, s: Stood) -> Result<Cases, Memory>
         literals: List::new(alloc),
         warned: x.warned,
     };
-    let parts = s.parts.behind(made)?;
+    let parts = Box::into_inner(s.parts).behind(made)?;
     let stmt = one_of(alloc, s.stmts)?;
     Ok(Cases {
         cases: case_with(alloc, x.ranges.as_slice(), stmt)?,

@@ -8,9 +8,9 @@ use Rattle.types_rules.specs.Expressions.{expr}
 use Rattle.types_rules.specs.Literals.{literals}
 use Rattle.check_nodes.specs.PartAnswers.{Judged, PartAnswers}
 use Rattle.check_nodes.specs.ContextView.{around_view}
-use Rattle.check_nodes.specs.TypedView.{typed_view}
 use Rattle.check_nodes.specs.Scopes.{scope_view}
 use Rattle.check_nodes.specs.Compared.{compared_view}
+use Rattle.check_expressions.specs.BoxedView.{boxed_view}
 use Rattle.check_expressions.proofs.CollectLaws.{collects_none, collects_more, collects_all}
 use Rattle.check_expressions.proofs.CollectLaws.{counts_all}
 use Rattle.check_expressions.proofs.LiteralCountLaws.{counts_two, counts_three, second_at, third_at}
@@ -62,145 +62,145 @@ offers_of-returns-clause-behind t c =
 
 pub offered-returns-in-Value-clause-answer : goal.offered-returns-in-Value-clause-answer
 offered-returns-in-Value-clause-answer t c =
-    rw c.in-Value.is (c.positional.ensures.answer _ c.expr-x.ensures.answer)
+    rw c.in-Value.is (c.positional.ensures.answer _ c.node-x.ensures.answer)
 
 pub offered-returns-in-Value-clause-behind : goal.offered-returns-in-Value-clause-behind
 offered-returns-in-Value-clause-behind t c =
-    rw c.in-Value.is (c.positional.ensures.judged _ _ c.expr-x.ensures.behind)
+    rw c.in-Value.is (c.positional.ensures.judged _ _ c.node-x.ensures.behind)
 
 pub offered-returns-in-Named-clause-answer : goal.offered-returns-in-Named-clause-answer
 offered-returns-in-Named-clause-answer t c =
-    rw c.in-Named.is (c.named.ensures.answer _ c.expr-x-in-Named.ensures.answer)
+    rw c.in-Named.is (c.named.ensures.answer _ c.node-x-in-Named.ensures.answer)
 
 pub offered-returns-in-Named-clause-behind : goal.offered-returns-in-Named-clause-behind
 offered-returns-in-Named-clause-behind t c =
-    rw c.in-Named.is (c.named.ensures.judged _ _ c.expr-x-in-Named.ensures.behind)
+    rw c.in-Named.is (c.named.ensures.judged _ _ c.node-x-in-Named.ensures.behind)
 
 -- ---- nodes of one operand
 
-pub expr-returns-in-Paren-clause-answer : goal.expr-returns-in-Paren-clause-answer
-expr-returns-in-Paren-clause-answer t c =
-    rw (c.in-Paren.is, ← c.deref.ensures) (c.with_operand.ensures.answer _ c.expr-x.ensures.answer)
+pub node-returns-in-Paren-clause-answer : goal.node-returns-in-Paren-clause-answer
+node-returns-in-Paren-clause-answer t c =
+    rw (c.in-Paren.is, ← c.deref.ensures) (c.with_operand.ensures.answer _ c.node-x.ensures.answer)
 
-pub expr-returns-in-Paren-clause-behind : goal.expr-returns-in-Paren-clause-behind
-expr-returns-in-Paren-clause-behind t c =
+pub node-returns-in-Paren-clause-behind : goal.node-returns-in-Paren-clause-behind
+node-returns-in-Paren-clause-behind t c =
     rw (c.in-Paren.is, ← c.deref.ensures)
-    (c.with_operand.ensures.judged _ _ c.expr-x.ensures.behind)
+    (c.with_operand.ensures.judged _ _ c.node-x.ensures.behind)
 
-pub expr-returns-in-Prefix-clause-answer : goal.expr-returns-in-Prefix-clause-answer
-expr-returns-in-Prefix-clause-answer t c =
+pub node-returns-in-Prefix-clause-answer : goal.node-returns-in-Prefix-clause-answer
+node-returns-in-Prefix-clause-answer t c =
     rw (c.in-Prefix.is, ← c.deref-in-Prefix.ensures)
-    (c.with_operand-in-Prefix.ensures.answer _ c.expr-x-in-Prefix.ensures.answer)
+    (c.with_operand-in-Prefix.ensures.answer _ c.node-x-in-Prefix.ensures.answer)
 
-pub expr-returns-in-Prefix-clause-behind : goal.expr-returns-in-Prefix-clause-behind
-expr-returns-in-Prefix-clause-behind t c =
+pub node-returns-in-Prefix-clause-behind : goal.node-returns-in-Prefix-clause-behind
+node-returns-in-Prefix-clause-behind t c =
     rw (c.in-Prefix.is, ← c.deref-in-Prefix.ensures)
-    (c.with_operand-in-Prefix.ensures.judged _ _ c.expr-x-in-Prefix.ensures.behind)
+    (c.with_operand-in-Prefix.ensures.judged _ _ c.node-x-in-Prefix.ensures.behind)
 
-pub expr-returns-in-Tagged-clause-answer : goal.expr-returns-in-Tagged-clause-answer
-expr-returns-in-Tagged-clause-answer t c =
+pub node-returns-in-Tagged-clause-answer : goal.node-returns-in-Tagged-clause-answer
+node-returns-in-Tagged-clause-answer t c =
     rw (c.in-Tagged.is, ← c.deref-in-Tagged.ensures)
-    (c.with_operand-in-Tagged.ensures.answer _ c.expr-x-in-Tagged.ensures.answer)
+    (c.with_operand-in-Tagged.ensures.answer _ c.node-x-in-Tagged.ensures.answer)
 
-pub expr-returns-in-Tagged-clause-behind : goal.expr-returns-in-Tagged-clause-behind
-expr-returns-in-Tagged-clause-behind t c =
+pub node-returns-in-Tagged-clause-behind : goal.node-returns-in-Tagged-clause-behind
+node-returns-in-Tagged-clause-behind t c =
     rw (c.in-Tagged.is, ← c.deref-in-Tagged.ensures)
-    (c.with_operand-in-Tagged.ensures.judged _ _ c.expr-x-in-Tagged.ensures.behind)
+    (c.with_operand-in-Tagged.ensures.judged _ _ c.node-x-in-Tagged.ensures.behind)
 
-pub expr-returns-in-Postfix-clause-answer : goal.expr-returns-in-Postfix-clause-answer
-expr-returns-in-Postfix-clause-answer t c =
+pub node-returns-in-Postfix-clause-answer : goal.node-returns-in-Postfix-clause-answer
+node-returns-in-Postfix-clause-answer t c =
     rw (c.in-Postfix.is, ← c.deref-in-Postfix.ensures)
-    (c.with_operand-in-Postfix.ensures.answer _ c.expr-x-in-Postfix.ensures.answer)
+    (c.with_operand-in-Postfix.ensures.answer _ c.node-x-in-Postfix.ensures.answer)
 
-pub expr-returns-in-Postfix-clause-behind : goal.expr-returns-in-Postfix-clause-behind
-expr-returns-in-Postfix-clause-behind t c =
+pub node-returns-in-Postfix-clause-behind : goal.node-returns-in-Postfix-clause-behind
+node-returns-in-Postfix-clause-behind t c =
     rw (c.in-Postfix.is, ← c.deref-in-Postfix.ensures)
-    (c.with_operand-in-Postfix.ensures.judged _ _ c.expr-x-in-Postfix.ensures.behind)
+    (c.with_operand-in-Postfix.ensures.judged _ _ c.node-x-in-Postfix.ensures.behind)
 
 -- ---- of two
 
-pub expr-returns-in-Index-clause-answer : goal.expr-returns-in-Index-clause-answer
-expr-returns-in-Index-clause-answer t c =
+pub node-returns-in-Index-clause-answer : goal.node-returns-in-Index-clause-answer
+node-returns-in-Index-clause-answer t c =
     rw (c.in-Index.is, ← c.deref-in-Index.ensures, ← c.deref-in-Index-2.ensures)
-    (c.with_operands.ensures.answer _ _ c.expr-x-in-Index.ensures.answer
+    (c.with_operands.ensures.answer _ _ c.node-x-in-Index.ensures.answer
     (second_at (around_view c.args.cx.now) (scope_view c.args.scopes.now) _ _
-    (expr_view c.deref-in-Index-2.result.now) _ _ c.expr-x-in-Index.ensures.behind
-    c.expr-y.ensures.answer))
+    (expr_view c.deref-in-Index-2.result.now) _ _ c.node-x-in-Index.ensures.behind
+    c.node-y.ensures.answer))
 
-pub expr-returns-in-Index-clause-behind : goal.expr-returns-in-Index-clause-behind
-expr-returns-in-Index-clause-behind t c =
+pub node-returns-in-Index-clause-behind : goal.node-returns-in-Index-clause-behind
+node-returns-in-Index-clause-behind t c =
     rw (c.in-Index.is, ← c.deref-in-Index.ensures, ← c.deref-in-Index-2.ensures)
     (c.with_operands.ensures.judged _ _
-    (counts_two _ _ _ _ _ _ _ c.expr-x-in-Index.ensures.behind c.expr-y.ensures.behind))
+    (counts_two _ _ _ _ _ _ _ c.node-x-in-Index.ensures.behind c.node-y.ensures.behind))
 
-pub expr-returns-in-Character-clause-answer : goal.expr-returns-in-Character-clause-answer
-expr-returns-in-Character-clause-answer t c =
+pub node-returns-in-Character-clause-answer : goal.node-returns-in-Character-clause-answer
+node-returns-in-Character-clause-answer t c =
     rw (c.in-Character.is, ← c.deref-in-Character.ensures, ← c.deref-in-Character-2.ensures)
-    (c.with_operands-in-Character.ensures.answer _ _ c.expr-x-in-Character.ensures.answer
+    (c.with_operands-in-Character.ensures.answer _ _ c.node-x-in-Character.ensures.answer
     (second_at (around_view c.args.cx.now) (scope_view c.args.scopes.now) _ _
     (expr_view c.deref-in-Character-2.result.now) _ _
-    c.expr-x-in-Character.ensures.behind c.expr-y-in-Character.ensures.answer))
+    c.node-x-in-Character.ensures.behind c.node-y-in-Character.ensures.answer))
 
-pub expr-returns-in-Character-clause-behind : goal.expr-returns-in-Character-clause-behind
-expr-returns-in-Character-clause-behind t c =
+pub node-returns-in-Character-clause-behind : goal.node-returns-in-Character-clause-behind
+node-returns-in-Character-clause-behind t c =
     rw (c.in-Character.is, ← c.deref-in-Character.ensures, ← c.deref-in-Character-2.ensures)
     (c.with_operands-in-Character.ensures.judged _ _
-    (counts_two _ _ _ _ _ _ _ c.expr-x-in-Character.ensures.behind
-    c.expr-y-in-Character.ensures.behind))
+    (counts_two _ _ _ _ _ _ _ c.node-x-in-Character.ensures.behind
+    c.node-y-in-Character.ensures.behind))
 
-pub expr-returns-in-Binary-clause-answer : goal.expr-returns-in-Binary-clause-answer
-expr-returns-in-Binary-clause-answer t c =
+pub node-returns-in-Binary-clause-answer : goal.node-returns-in-Binary-clause-answer
+node-returns-in-Binary-clause-answer t c =
     rw (c.in-Binary.is, ← c.deref-in-Binary.ensures, ← c.deref-in-Binary-2.ensures)
-    (c.with_operands-in-Binary.ensures.answer _ _ c.expr-x-in-Binary.ensures.answer
+    (c.with_operands-in-Binary.ensures.answer _ _ c.node-x-in-Binary.ensures.answer
     (second_at (around_view c.args.cx.now) (scope_view c.args.scopes.now) _ _
-    (expr_view c.deref-in-Binary-2.result.now) _ _ c.expr-x-in-Binary.ensures.behind
-    c.expr-y-in-Binary.ensures.answer))
+    (expr_view c.deref-in-Binary-2.result.now) _ _ c.node-x-in-Binary.ensures.behind
+    c.node-y-in-Binary.ensures.answer))
 
-pub expr-returns-in-Binary-clause-behind : goal.expr-returns-in-Binary-clause-behind
-expr-returns-in-Binary-clause-behind t c =
+pub node-returns-in-Binary-clause-behind : goal.node-returns-in-Binary-clause-behind
+node-returns-in-Binary-clause-behind t c =
     rw (c.in-Binary.is, ← c.deref-in-Binary.ensures, ← c.deref-in-Binary-2.ensures)
     (c.with_operands-in-Binary.ensures.judged _ _
-    (counts_two _ _ _ _ _ _ _ c.expr-x-in-Binary.ensures.behind
-    c.expr-y-in-Binary.ensures.behind))
+    (counts_two _ _ _ _ _ _ _ c.node-x-in-Binary.ensures.behind
+    c.node-y-in-Binary.ensures.behind))
 
-pub expr-returns-in-Assign-clause-answer : goal.expr-returns-in-Assign-clause-answer
-expr-returns-in-Assign-clause-answer t c =
+pub node-returns-in-Assign-clause-answer : goal.node-returns-in-Assign-clause-answer
+node-returns-in-Assign-clause-answer t c =
     rw (c.in-Assign.is, ← c.deref-in-Assign.ensures, ← c.deref-in-Assign-2.ensures)
-    (c.with_operands-in-Assign.ensures.answer _ _ c.expr-x-in-Assign.ensures.answer
+    (c.with_operands-in-Assign.ensures.answer _ _ c.node-x-in-Assign.ensures.answer
     (second_at (around_view c.args.cx.now) (scope_view c.args.scopes.now) _ _
-    (expr_view c.deref-in-Assign-2.result.now) _ _ c.expr-x-in-Assign.ensures.behind
-    c.expr-y-in-Assign.ensures.answer))
+    (expr_view c.deref-in-Assign-2.result.now) _ _ c.node-x-in-Assign.ensures.behind
+    c.node-y-in-Assign.ensures.answer))
 
-pub expr-returns-in-Assign-clause-behind : goal.expr-returns-in-Assign-clause-behind
-expr-returns-in-Assign-clause-behind t c =
+pub node-returns-in-Assign-clause-behind : goal.node-returns-in-Assign-clause-behind
+node-returns-in-Assign-clause-behind t c =
     rw (c.in-Assign.is, ← c.deref-in-Assign.ensures, ← c.deref-in-Assign-2.ensures)
     (c.with_operands-in-Assign.ensures.judged _ _
-    (counts_two _ _ _ _ _ _ _ c.expr-x-in-Assign.ensures.behind
-    c.expr-y-in-Assign.ensures.behind))
+    (counts_two _ _ _ _ _ _ _ c.node-x-in-Assign.ensures.behind
+    c.node-y-in-Assign.ensures.behind))
 
 -- ---- choices
 
-pub expr-returns-in-Choice-clause-answer : goal.expr-returns-in-Choice-clause-answer
-expr-returns-in-Choice-clause-answer t c =
+pub node-returns-in-Choice-clause-answer : goal.node-returns-in-Choice-clause-answer
+node-returns-in-Choice-clause-answer t c =
     rw (
       c.in-Choice.is,
       ← c.deref-in-Choice.ensures,
       ← c.deref-in-Choice-2.ensures,
       ← c.deref-in-Choice-3.ensures,
     )
-    (c.choose.ensures.answer _ _ _ c.expr-x-in-Choice.ensures.answer
+    (c.choose.ensures.answer _ _ _ c.node-x-in-Choice.ensures.answer
     (second_at (around_view c.args.cx.now) (scope_view c.args.scopes.now) _ _
-    (expr_view c.deref-in-Choice-2.result.now) _ _ c.expr-x-in-Choice.ensures.behind
-    c.expr-y-in-Choice.ensures.answer)
+    (expr_view c.deref-in-Choice-2.result.now) _ _ c.node-x-in-Choice.ensures.behind
+    c.node-y-in-Choice.ensures.answer)
     (third_at (around_view c.args.cx.now)
     (scope_view c.args.scopes.now) _ _ _
     (expr_view c.deref-in-Choice-3.result.now) _ _ _ _ _
-    c.expr-x-in-Choice.ensures.behind
-    c.expr-y-in-Choice.ensures.behind
-    c.expr-z.ensures.answer))
+    c.node-x-in-Choice.ensures.behind
+    c.node-y-in-Choice.ensures.behind
+    c.node-z.ensures.answer))
 
-pub expr-returns-in-Choice-clause-behind : goal.expr-returns-in-Choice-clause-behind
-expr-returns-in-Choice-clause-behind t c =
+pub node-returns-in-Choice-clause-behind : goal.node-returns-in-Choice-clause-behind
+node-returns-in-Choice-clause-behind t c =
     rw (
       c.in-Choice.is,
       ← c.deref-in-Choice.ensures,
@@ -208,40 +208,40 @@ expr-returns-in-Choice-clause-behind t c =
       ← c.deref-in-Choice-3.ensures,
     )
     (c.choose.ensures.judged _ _ (counts_three _ _ _ _ _ _ _ _ _ _
-    c.expr-x-in-Choice.ensures.behind c.expr-y-in-Choice.ensures.behind
-    c.expr-z.ensures.behind))
+    c.node-x-in-Choice.ensures.behind c.node-y-in-Choice.ensures.behind
+    c.node-z.ensures.behind))
 
 -- ---- nodes that hold lists
 
-pub expr-returns-in-Chain-clause-answer : goal.expr-returns-in-Chain-clause-answer
-expr-returns-in-Chain-clause-answer t c =
+pub node-returns-in-Chain-clause-answer : goal.node-returns-in-Chain-clause-answer
+node-returns-in-Chain-clause-answer t c =
     let P : tree.Expr → Type 0 =
-    λ e. PartAnswers typed_view (expr (around_view c.args.cx.now)
+    λ e. PartAnswers boxed_view (expr (around_view c.args.cx.now)
     (scope_view c.args.scopes.now) c.args.objects.now e) c.chained.result in
     subst P (sym (chain_is _ _ _ _ _ c.in-Chain.is c.deref-in-Chain.ensures))
-    (c.chained.ensures.answer _ _ c.expr-x-in-Chain.ensures.answer
+    (c.chained.ensures.answer _ _ c.node-x-in-Chain.ensures.answer
     (links_at (around_view c.args.cx.now) (scope_view c.args.scopes.now) _ _
-    (links (map link_view c.in-Chain.list)) _ _ c.expr-x-in-Chain.ensures.behind
+    (links (map link_view c.in-Chain.list)) _ _ c.node-x-in-Chain.ensures.behind
     c.links_of-links.ensures.answer))
 
-pub expr-returns-in-Chain-clause-behind : goal.expr-returns-in-Chain-clause-behind
-expr-returns-in-Chain-clause-behind t c =
+pub node-returns-in-Chain-clause-behind : goal.node-returns-in-Chain-clause-behind
+node-returns-in-Chain-clause-behind t c =
     let P : tree.Expr → Type 0 =
     λ e. Judged c.chained.result (c.links_of-links.new.objects ≡ c.args.objects.now + literals e) in
     subst P (sym (chain_is _ _ _ _ _ c.in-Chain.is c.deref-in-Chain.ensures))
-    (c.chained.ensures.judged _ _ (counts_two _ _ _ _ _ _ _ c.expr-x-in-Chain.ensures.behind
+    (c.chained.ensures.judged _ _ (counts_two _ _ _ _ _ _ _ c.node-x-in-Chain.ensures.behind
     c.links_of-links.ensures.behind))
 
-pub expr-returns-in-Call-clause-answer : goal.expr-returns-in-Call-clause-answer
-expr-returns-in-Call-clause-answer t c =
+pub node-returns-in-Call-clause-answer : goal.node-returns-in-Call-clause-answer
+node-returns-in-Call-clause-answer t c =
     let P : tree.Expr → Type 0 =
-    λ e. PartAnswers typed_view (expr (around_view c.args.cx.now)
+    λ e. PartAnswers boxed_view (expr (around_view c.args.cx.now)
     (scope_view c.args.scopes.now) c.args.objects.now e) c.call_of.result in
     subst P (sym (call_is _ _ _ _ _ c.in-Call.is))
     (c.call_of.ensures.answer _ c.offers_of-offers.ensures.answer)
 
-pub expr-returns-in-Call-clause-behind : goal.expr-returns-in-Call-clause-behind
-expr-returns-in-Call-clause-behind t c =
+pub node-returns-in-Call-clause-behind : goal.node-returns-in-Call-clause-behind
+node-returns-in-Call-clause-behind t c =
     let P : tree.Expr → Type 0 =
     λ e. Judged c.call_of.result (c.offers_of-offers.new.objects ≡ c.args.objects.now + literals e)
     in

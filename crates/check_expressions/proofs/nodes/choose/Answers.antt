@@ -1,6 +1,6 @@
 use Rattle.std.proofs.Common.{◌≡◌}
 use Rattle.types_rules.specs.Rule.{pair}
-use Rattle.check_nodes.specs.TypedView.{typed_view}
+use Rattle.check_expressions.specs.BoxedView.{boxed_view}
 use Rattle.check_expressions.proofs.PairLaws.{judged_both, judged_map, judged_pair, pair_answers}
 use Rattle.check_expressions.proofs.nodes.choose.Goals as goal
 
@@ -8,7 +8,7 @@ pub returns-clause-answer : goal.returns-clause-answer
 returns-clause-answer c =
     λ v w u h k l. c.chosen.ensures.answer v (pair w u) h
     (judged_both c.args.x (λ p q. rw c.both-values.ensures
-    (pair_answers typed_view typed_view w u c.args.y c.args.z p q)) k l)
+    (pair_answers boxed_view boxed_view w u c.args.y c.args.z p q)) k l)
 
 pub returns-clause-judged : goal.returns-clause-judged
 returns-clause-judged c =

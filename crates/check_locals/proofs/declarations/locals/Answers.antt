@@ -4,7 +4,7 @@ use Rattle.check_locals.proofs.VarLaws.{locals_begin, locals_more, locals_fail, 
 use Rattle.check_locals.proofs.declarations.locals.Goals as goal
 
 pub loop-i-init : goal.loop-i-init
-loop-i-init c = rw c.nothing.ensures (locals_begin _ _ _ _ _ _)
+loop-i-init c = rw c.in_ok-none.ensures (locals_begin _ _ _ _ _ _)
 
 pub loop-i-preserved : goal.loop-i-preserved
 loop-i-preserved c =

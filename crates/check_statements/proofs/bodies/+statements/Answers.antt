@@ -29,7 +29,7 @@ use Rattle.check_statements.proofs.bodies.+statements.Goals as goal
 -- ---- a block
 
 pub block-loop-i-init : goal.block-loop-i-init
-block-loop-i-init t c = rw c.nothing.ensures (block_begins _ _ _ _)
+block-loop-i-init t c = rw c.in_ok-none.ensures (block_begins _ _ _ _)
 
 pub block-loop-i-preserved : goal.block-loop-i-preserved
 block-loop-i-preserved t c =

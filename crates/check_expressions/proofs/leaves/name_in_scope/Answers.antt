@@ -3,7 +3,7 @@ use Rattle.types_rules.specs.NamesAndNumbers.{name_rule}
 use Rattle.types_rules.specs.Scope.{Meaning}
 use Rattle.check_nodes.specs.PartAnswers.{PartAnswers}
 use Rattle.check_nodes.specs.TypedView.{typed_view}
-use Rattle.check_expressions.proofs.leaves.name_of.Goals as goal
+use Rattle.check_expressions.proofs.leaves.name_in_scope.Goals as goal
 
 pub returns : goal.returns
 returns c =
