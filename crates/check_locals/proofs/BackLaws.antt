@@ -1,5 +1,5 @@
 -- The place before variables, when they are forgotten again.
-use Rattle.std.proofs.Common.{◌≡◌, ℕ, Bool, List, map, length, refl, sym, ap, ◌∙◌, subst}
+use Rattle.std.proofs.Common.{◌≡◌, Bool, List, map, length, sym, ap, ◌∙◌, subst}
 use Rattle.std.proofs.lemmas.List.{length-map}
 use Rattle.pawn_tree.specs.declared.name.At.{At}
 use Rattle.pawn_tree.specs.declared.variable.Storage.{Storage}

@@ -1,13 +1,11 @@
 -- What an array means by the verdict of its sizes.
-use Rattle.std.proofs.Common.{◌≡◌, ◌<◌, ℕ, Bool, refl, sym, ap, ◌∙◌, arith, List, [], ◌∷◌}
-use Rattle.std.specs.List.{Contains}
+use Rattle.std.proofs.Common.{◌≡◌, ◌<◌, ℕ, Bool, refl, arith}
 use Rattle.pawn_meaning.specs.Program.{Array}
-use Rattle.names_rules.specs.Verdict.{Verdict, Stands, Breaks, faults_of}
+use Rattle.names_rules.specs.Verdict.{Verdict, Stands, Breaks}
 use Rattle.types_rules.specs.Scope.{Unknown}
 use Rattle.types_rules.specs.Scope as means
 use Rattle.types_rules.specs.Arrays.{Shaped}
-use Rattle.types_rules.specs.Constants as constants
-use Rattle.types_rules.specs.Points.{array_means, constant_means, extent_of}
+use Rattle.types_rules.specs.Points.{array_means, extent_of}
 use Rattle.pawn_cells.specs.declared.place.Place.{Place}
 use Rattle.check_nodes.specs.PartAnswers.{FailsPart}
 use Rattle.check_nodes.specs.declared.fault.PartFault.TheVariants.{Source, Fallen}

@@ -1,6 +1,6 @@
 -- How a walk over a list tells of the whole.
 use Rattle.std.proofs.Common.{◌≡◌, List, [], ◌∷◌, ◌++◌, refl, sym, ap, ◌∙◌, append_assoc}
-use Rattle.names_rules.specs.Verdict.{Verdict, Stands, Breaks, Fault, faults_of, after, both}
+use Rattle.names_rules.specs.Verdict.{Verdict, Stands, Breaks, Fault, faults_of}
 use Rattle.pawn_verdict.specs.declared.fault.CheckFault.{CheckFault}
 use Rattle.pawn_verdict.specs.Answers.{Fails}
 use Rattle.pawn_verdict.proofs.VerdictLaws.{fails_first, fails_second}

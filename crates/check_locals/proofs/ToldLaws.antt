@@ -1,16 +1,16 @@
 -- What is told of parts, for the node.
-use Rattle.std.proofs.Common.{◌≡◌, ℕ, List, [], ◌∷◌, ◌++◌, refl, sym, ap, ◌∙◌}
+use Rattle.std.proofs.Common.{◌≡◌, [], ◌∷◌, refl}
 use Rattle.std.specs.Prelude.{Option, None, Some, Result, Ok, Err}
-use Rattle.names_rules.specs.Verdict.{Verdict, Stands, Breaks, Fault, faults_of, after, both}
+use Rattle.names_rules.specs.Verdict.{Verdict, Stands, Breaks, faults_of, after, both}
 use Rattle.pawn_verdict.specs.declared.fault.CheckFault.{CheckFault}
 use Rattle.pawn_verdict.specs.declared.fault.CheckFault.TheVariants as check
-use Rattle.pawn_verdict.specs.Answers.{Fails, Answers}
+use Rattle.pawn_verdict.specs.Answers.{Fails}
 use Rattle.pawn_verdict.proofs.VerdictLaws.{none_fails, fails_after, fails_first, fails_second}
 use Rattle.pawn_verdict.proofs.VerdictLaws.{after_is, both_is}
 use Rattle.types_rules.specs.Rule.{unless_faults}
 use Rattle.check_nodes.specs.declared.fault.PartFault.{PartFault}
 use Rattle.check_nodes.specs.declared.fault.PartFault.TheVariants as part
-use Rattle.check_nodes.specs.PartAnswers.{FailsPart, PartAnswers}
+use Rattle.check_nodes.specs.PartAnswers.{PartAnswers}
 use Rattle.check_locals.specs.Tells.{told, Tells, told_part, answer_of}
 
 -- ---- between the two forms

@@ -1,6 +1,6 @@
 -- Variables that are declared together, one by one.
-use Rattle.std.proofs.Common.{◌≡◌, ◌<◌, ℕ, suc, ◌+◌, Bool, List, [], ◌∷◌, ◌++◌, map, drop, length}
-use Rattle.std.proofs.Common.{get_or, Option, None, Some, refl, sym, ap, ◌∙◌, arith, append_assoc}
+use Rattle.std.proofs.Common.{◌≡◌, ◌<◌, ℕ, suc, ◌+◌, Bool, List, [], ◌∷◌, map, drop, length}
+use Rattle.std.proofs.Common.{get_or, refl, sym, ap, ◌∙◌, arith, append_assoc}
 use Rattle.std.proofs.Common.{drop-cons}
 use Rattle.std.proofs.lemmas.List.{append-nil, drop_all}
 use Rattle.pawn_tree.specs.declared.name.At.{At}
@@ -8,8 +8,7 @@ use Rattle.pawn_tree.specs.declared.variable.Storage.{Storage}
 use Rattle.pawn_tree.specs.declared.variable.Var as held
 use Rattle.pawn_tree.specs.Variables.{Var}
 use Rattle.pawn_tree.specs.View.{var_view}
-use Rattle.names_rules.specs.Verdict.{Verdict, Stands, Breaks, faults_of, after, both}
-use Rattle.types_rules.specs.Rule.{also}
+use Rattle.names_rules.specs.Verdict.{Verdict, Stands, faults_of}
 use Rattle.types_rules.specs.Around.{Around}
 use Rattle.pawn_verdict.specs.declared.fault.CheckFault.{CheckFault}
 use Rattle.pawn_verdict.specs.Answers.{Fails}

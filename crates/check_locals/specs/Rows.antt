@@ -1,5 +1,5 @@
 -- A list whose elements each stand behind what those before them declare and make.
-use Rattle.std.specs.Prelude.{◌≡◌, List, [], ◌∷◌}
+use Rattle.std.specs.Prelude.{◌≡◌}
 use Rattle.names_rules.specs.Verdict.{Verdict, Stands, both}
 
 -- two parts joined

@@ -14,7 +14,8 @@ loop-i-preserved c =
 
 pub returns-in_err-it-clause-tells : goal.returns-in_err-it-clause-tells
 returns-in_err-it-clause-tells c =
-    let p = err_from_is_err_and c.from_residual.result c.from_residual.ensures.1 in
+    let p =
+    err_from_is_err_and c.from_residual-in_err-it.result c.from_residual-in_err-it.ensures.1 in
     rw (p.1, p.2) (locals_fail _ _ _ _ _ _ _ _ c.index-vars-i.result _ _ c.loop-i.invariant
     (omega arith) c.index-vars-i.is c.in_err-it.ensures)
 

@@ -48,7 +48,8 @@ cases-loop-i-preserved t c =
 
 pub block-returns-in_err-it-clause-tells : goal.block-returns-in_err-it-clause-tells
 block-returns-in_err-it-clause-tells t c =
-    let p = err_from_is_err_and c.from_residual.result c.from_residual.ensures.1 in
+    let p =
+    err_from_is_err_and c.from_residual-in_err-it.result c.from_residual-in_err-it.ensures.1 in
     rw (p.1, p.2, sym c.as_slice-items.ensures)
     (block_fails _ _ _ _ _ _ c.index-items-i.result _ _ c.loop-i.invariant
     (omega arith) c.index-items-i.is c.in_err-it.ensures.tells)
