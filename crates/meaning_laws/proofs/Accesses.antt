@@ -10,6 +10,7 @@ use Rattle.std.proofs.lemmas.List.{length-take-le, length-drop}
 use Rattle.std.proofs.lemmas.Option.{slice_get-get_or}
 use Rattle.pawn_cells.specs.Cells.{with_char, bits_of}
 use Rattle.pawn_arrays.specs.Sizes.{elements_in}
+use Rattle.pawn_meaning.specs.Program.{Program}
 use Rattle.pawn_meaning.specs.Memory.{Object, Name, Static, Local, Temporary, Reference, Owns}
 use Rattle.pawn_meaning.specs.Memory.{Frame, Memory, frame_at, with_frame_at, slot_in}
 use Rattle.pawn_meaning.specs.Memory.{pointed, with_slot, with_object, cells_from, one_cell}
@@ -19,6 +20,7 @@ use Rattle.pawn_meaning.specs.Memory.{write}
 use Rattle.pawn_meaning.specs.Memory.{copy_of, copied, running, part_of, whole_of, through}
 use Rattle.pawn_meaning.specs.Memory.{made_in, made, with_temporary, cut_heap, switched}
 use Rattle.pawn_meaning.specs.World.{but_first}
+use Rattle.meaning_laws.proofs.Outlines.{states}
 use Rattle.meaning_laws.proofs.Outlines.{Each, each_length, each_get, each_set_both, each_append}
 use Rattle.meaning_laws.proofs.Outlines.{each_front, Drawn, Keeps, Leads, ObjectIs, HoldsIs}
 use Rattle.meaning_laws.proofs.Outlines.{FrameIs}
@@ -60,23 +62,23 @@ put_length values i cells h =
     let d = length-drop (i + length values) cells in
     omega (arith, a, b, c, d, h)
 
-module _ (objects : List (List ℕ)) (states : ℕ) where
+module _ (program : Program) where
   abbrev Known : Outline → Memory → Type 0
-  Known l m = Has objects states l m
+  Known l m = Has program l m
 
   abbrev At : Outline → Name → List ℕ → Type 0
-  At l name sizes = sizes_at objects states l name ≡ Some sizes
+  At l name sizes = sizes_at program l name ≡ Some sizes
 
   -- a reference to a part of an object that is alive
   pub record IsFine (l : Outline) (r : Reference) : Type 0 where
     pub sizes : List ℕ
-    pub there : sizes_at objects states l r.object ≡ Some sizes
+    pub there : sizes_at program l r.object ≡ Some sizes
     pub inside : r.at + elements_in r.sizes ≤ elements_in sizes
 
   -- a cell of one
   pub record IsCellOf (l : Outline) (name : Name) (i : ℕ) : Type 0 where
     pub sizes : List ℕ
-    pub there : sizes_at objects states l name ≡ Some sizes
+    pub there : sizes_at program l name ≡ Some sizes
     pub inside : i < elements_in sizes
 
   abbrev pub IsPlaceOf : Outline → Place → Type 0
@@ -87,13 +89,13 @@ module _ (objects : List (List ℕ)) (states : ℕ) where
 
   -- a change that is done
   abbrev pub Done : Outline → Option Memory → Type 0
-  Done l o = (x : Memory) × (o ≡ Some x) × Has objects states l x
+  Done l o = (x : Memory) × (o ≡ Some x) × Has program l x
 
   pub cells_written : (l : Outline) (m : Memory) (name : Name) (sizes : List ℕ) (i : ℕ) (values : List ℤ)
       → Known l m → At l name sizes → i + length values ≤ elements_in sizes
       → Done l (write_cells name i values m)
   cells_written l m name sizes i values h e within =
-      let it = alive objects states l m name sizes h e in
+      let it = alive program l m name sizes h e in
       let count = it.2.1 in
       let inside : i + length values ≤ length it.0.cells = omega (arith, within, count) in
       let other : Object = record (it.0) { cells = put values i it.0.cells } in
@@ -101,7 +103,7 @@ module _ (objects : List (List ℕ)) (states : ℕ) where
         x,
         ap (λ o. put_in name o i values m) it.1
             ∙ ap (λ b. if b then Some x else None) (le-leb (i + length values) (length it.0.cells) inside),
-        with_alive objects states l m name sizes other h e
+        with_alive program l m name sizes other h e
             (it.2.0, put_length values i it.0.cells inside ∙ count),
       )
 
@@ -109,7 +111,7 @@ module _ (objects : List (List ℕ)) (states : ℕ) where
       → At l name sizes → i + n ≤ elements_in sizes
       → (cells : List ℤ) × (read_cells name i n m ≡ Some cells) × (length cells ≡ n)
   cells_are l m name sizes i n h e within =
-      let it = alive objects states l m name sizes h e in
+      let it = alive program l m name sizes h e in
       let count = it.2.1 in
       let inside : i + n ≤ length it.0.cells = omega (arith, within, count) in
       let rest = length-drop i it.0.cells in (
@@ -123,7 +125,7 @@ module _ (objects : List (List ℕ)) (states : ℕ) where
   cell_read : (l : Outline) (m : Memory) (name : Name) (i : ℕ) → Known l m → IsCellOf l name i
       → (v : ℤ) × (read_cell name i m ≡ Some v)
   cell_read l m name i h f =
-      let it = alive objects states l m name f.sizes h f.there in
+      let it = alive program l m name f.sizes h f.there in
       let count = it.2.1 in
       let inside = f.inside in (
         _,
@@ -181,7 +183,7 @@ module _ (objects : List (List ℕ)) (states : ℕ) where
   pub is_whole : (l : Outline) (m : Memory) (name : Name) (sizes : List ℕ) → Known l m → At l name sizes
       → whole_of name m ≡ Some (whole_part name sizes)
   is_whole l m name sizes h e =
-      let it = alive objects states l m name sizes h e in
+      let it = alive program l m name sizes h e in
       ap (part_of name) it.1 ∙ ap (λ z. Some (whole_part name z)) it.2.0
 
   pub whole_fine : (l : Outline) (name : Name) (sizes : List ℕ) → At l name sizes
@@ -286,7 +288,8 @@ module _ (objects : List (List ℕ)) (states : ℕ) where
   pub heap_count : (l : Outline) (m : Memory) → Known l m → length m.heap ≡ length l.heap
   heap_count l m h = sym (each_length ObjectIs l.heap m.heap h.heap_is)
 
-  pub switches : (l : Outline) (m : Memory) (automaton state : ℕ) → automaton < states → Known l m
+  pub switches : (l : Outline) (m : Memory) (automaton state : ℕ)
+      → automaton < states program → Known l m
       → Done l (switched automaton state m)
   switches l m automaton state within h =
       let count = h.states_are in
@@ -332,8 +335,8 @@ module _ (objects : List (List ℕ)) (states : ℕ) where
 
   -- each object stays, with its sizes
   abbrev pub Stays : Outline → Outline → Type 0
-  Stays l k = (name : Name) (sizes : List ℕ) → sizes_at objects states l name ≡ Some sizes
-      → sizes_at objects states k name ≡ Some sizes
+  Stays l k = (name : Name) (sizes : List ℕ) → sizes_at program l name ≡ Some sizes
+      → sizes_at program k name ≡ Some sizes
 
   pub fine_stays : (l k : Outline) (r : Reference) → Stays l k → IsFine l r → IsFine k r
   fine_stays l k r stays f = record {

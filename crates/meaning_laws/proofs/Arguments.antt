@@ -6,7 +6,6 @@ use Rattle.std.proofs.Common.{slice_get}
 use Rattle.std.proofs.Common.{refl, sym, ap, subst, inl, inr}
 use Rattle.std.proofs.Common.{append-nil}
 use Rattle.std.proofs.Common.{append_assoc}
-use Rattle.host_script.specs.NativeCall.{Trap}
 use Rattle.pawn_meaning.specs.Program.{Scalar, Array}
 use Rattle.pawn_meaning.specs.Program.{Arg, Ref, Whole, Temp, Args, no_args}
 use Rattle.pawn_meaning.specs.Program.{then_arg}
@@ -30,18 +29,12 @@ use Rattle.meaning_laws.proofs.Typings.{IsIn, is_in, ArrayFits, known_fits, know
 use Rattle.meaning_laws.proofs.Typings.{inner_sizes}
 use Rattle.meaning_laws.proofs.Typings.{Here}
 use Rattle.meaning_laws.proofs.Typings.{led}
-use Rattle.meaning_laws.proofs.CallNodes.{objects, states, scope}
+use Rattle.meaning_laws.proofs.ValidParts.{scope}
 use Rattle.meaning_laws.proofs.Entries as entries
 use Rattle.meaning_laws.proofs.Steps.{IsACell, SingleIn}
 
-module _ (program : Program) (missing : Trap) (slots : List Slot) (params : ℕ) (made : List ℕ)
+module _ (program : Program) (slots : List Slot) (params : ℕ) (made : List ℕ)
     (current : List Drawn) (outer : List (List Drawn)) where
-  abbrev objects_here : List (List ℕ)
-  objects_here = objects program
-
-  abbrev states_here : ℕ
-  states_here = states program
-
   abbrev pub here_scope : Scope
   here_scope = scope program slots params made
 
@@ -49,24 +42,24 @@ module _ (program : Program) (missing : Trap) (slots : List Slot) (params : ℕ)
   at_heap heap = lay current outer heap
 
   abbrev pub IsHere : List (List ℕ) → Type 0
-  IsHere heap = Here objects_here states_here slots params made current outer heap
+  IsHere heap = Here program slots params made current outer heap
 
   abbrev pub IsSingle : Outline → Held → Type 0
-  IsSingle l held = SingleIn objects_here states_here l held
+  IsSingle l held = SingleIn program l held
 
   abbrev HeldFits : Outline → Slot → Held → Type 0
-  HeldFits l kind held = entries.HeldFits objects_here states_here l kind held
+  HeldFits l kind held = entries.HeldFits program l kind held
 
   abbrev AllFit : Outline → List Slot → List Held → Type 0
-  AllFit l kinds held = entries.AllFit objects_here states_here l kinds held
+  AllFit l kinds held = entries.AllFit program l kinds held
 
   -- what a place is
   abbrev pub PlaceIs : Outline → Scalar → Place → Type 0
-  PlaceIs l p at = IsPlaceOf objects_here states_here l at × (IsNoChar p → IsACell at)
+  PlaceIs l p at = IsPlaceOf program l at × (IsNoChar p → IsACell at)
 
   -- and an array
   abbrev pub PartIs : Outline → Array → Reference → Type 0
-  PartIs l a r = ArrayFits (extent here_scope a) r × IsFine objects_here states_here l r
+  PartIs l a r = ArrayFits (extent here_scope a) r × IsFine program l r
 
   -- and an argument
   abbrev pub HeldBy : Outline → Arg → Held → Type 0
@@ -112,27 +105,27 @@ module _ (program : Program) (missing : Trap) (slots : List Slot) (params : ℕ)
       )
 
   pub stays_by : (heap other more : List (List ℕ)) → other ≡ heap ++ more
-      → Stays objects_here states_here (at_heap heap) (at_heap other)
+      → Stays program (at_heap heap) (at_heap other)
   stays_by heap other more e =
-      subst (λ z. Stays objects_here states_here (at_heap heap) (at_heap z)) (sym e)
-      (found.more_stays objects_here states_here (at_heap heap) more)
+      subst (λ z. Stays program (at_heap heap) (at_heap z)) (sym e)
+      (found.more_stays program (at_heap heap) more)
 
-  single_stays : (l k : Outline) (held : Held) → Stays objects_here states_here l k → IsSingle l held
+  single_stays : (l k : Outline) (held : Held) → Stays program l k → IsSingle l held
       → IsSingle k held
   single_stays l k (Value v) stays h = absurd h
-  single_stays l k (Refers r) stays h = (h.0, found.fine_stays objects_here states_here l k r stays h.1)
+  single_stays l k (Refers r) stays h = (h.0, found.fine_stays program l k r stays h.1)
 
-  held_stays : (l k : Outline) (a : Arg) (held : Held) → Stays objects_here states_here l k → HeldBy l a held
+  held_stays : (l k : Outline) (a : Arg) (held : Held) → Stays program l k → HeldBy l a held
       → HeldBy k a held
   held_stays l k (node.Value e) (Value v) stays h = h
   held_stays l k (node.Value e) (Refers r) stays h = absurd h
   held_stays l k (Ref p) held stays h = single_stays l k held stays h
   held_stays l k (Whole a) (Value v) stays h = absurd h
   held_stays l k (Whole a) (Refers r) stays h =
-      (h.0, found.fine_stays objects_here states_here l k r stays h.1)
+      (h.0, found.fine_stays program l k r stays h.1)
   held_stays l k (Temp e) held stays h = single_stays l k held stays h
 
-  pub helds_stay : (l k : Outline) (args : Args) (all : List Held) → Stays objects_here states_here l k
+  pub helds_stay : (l k : Outline) (args : Args) (all : List Held) → Stays program l k
       → HeldsBy l args all → HeldsBy k args all
   helds_stay l k no_args [] stays h = h
   helds_stay l k no_args (held ∷ all) stays h = absurd h
@@ -140,12 +133,12 @@ module _ (program : Program) (missing : Trap) (slots : List Slot) (params : ℕ)
   helds_stay l k (then_arg a args) (held ∷ all) stays h =
       (held_stays l k a held stays h.0, helds_stay l k args all stays h.1)
 
-  single_fine : (l : Outline) (held : Held) → IsSingle l held → HeldFine objects_here states_here missing l held
+  single_fine : (l : Outline) (held : Held) → IsSingle l held → HeldFine program l held
   single_fine l (Value v) h = absurd h
   single_fine l (Refers r) h = h.1
 
   held_fine : (l : Outline) (a : Arg) (held : Held) → HeldBy l a held
-      → HeldFine objects_here states_here missing l held
+      → HeldFine program l held
   held_fine l (node.Value e) (Value v) h = tt
   held_fine l (node.Value e) (Refers r) h = absurd h
   held_fine l (Ref p) held h = single_fine l held h
@@ -154,7 +147,7 @@ module _ (program : Program) (missing : Trap) (slots : List Slot) (params : ℕ)
   held_fine l (Temp e) held h = single_fine l held h
 
   pub helds_fine : (l : Outline) (args : Args) (all : List Held) → HeldsBy l args all
-      → AllFine objects_here states_here missing l all
+      → AllFine program l all
   helds_fine l no_args [] h = tt
   helds_fine l no_args (held ∷ all) h = absurd h
   helds_fine l (then_arg a args) [] h = absurd h
@@ -207,19 +200,19 @@ module _ (program : Program) (missing : Trap) (slots : List Slot) (params : ℕ)
   pub param_is : (heap : List (List ℕ)) → IsHere heap → (s : ℕ) (it : Option Slot)
       → slice_get slots s ≡ it → (known : Bool) → IsSome (param_extent it known) → s < params
       → (r : Reference) × (slice_get current s ≡ Some (Leads r))
-      × ArrayFits (param_extent it known) r × IsFine objects_here states_here (at_heap heap) r
+      × ArrayFits (param_extent it known) r × IsFine program (at_heap heap) r
   param_is heap here s None e known h less = absurd (cc h)
   param_is heap here s (Some ScalarSlot) e known h less = absurd (cc h)
   param_is heap here s (Some ReferenceSlot) e known h less = absurd (cc h)
   param_is heap here s (Some (ArraySlot z)) e true h less =
       let it =
-      led objects_here states_here slots params made current outer heap here s (ArraySlot z) e less
+      led program slots params made current outer heap here s (ArraySlot z) e less
       (λ i. absurd (cc i)) in
       (it.0, it.1, known_fits z it.0 it.2.0 h, it.2.1)
   param_is heap here s (Some (ArraySlot z)) e false h less = absurd (cc h)
   param_is heap here s (Some (OpenSlot inner)) e true h less = absurd (cc h)
   param_is heap here s (Some (OpenSlot inner)) e false h less =
       let it =
-      led objects_here states_here slots params made current outer heap here s (OpenSlot inner) e less
+      led program slots params made current outer heap here s (OpenSlot inner) e less
       (λ i. absurd (cc i)) in
       (it.0, it.1, (it.2.0.0, it.2.0.1, tt), it.2.1)

@@ -21,6 +21,7 @@ use Rattle.pawn_meaning.specs.Memory.{write}
 use Rattle.pawn_meaning.specs.Memory.{copy_of, copied, running, part_of, whole_of, through}
 use Rattle.pawn_meaning.specs.Memory.{made_in, made, with_temporary, cut_heap, switched}
 use Rattle.pawn_meaning.specs.Natives.{Held, Value, Refers}
+use Rattle.meaning_laws.proofs.NativeCalls.{AllHold}
 
 -- ---- lists
 
@@ -65,13 +66,21 @@ module _ (count states : ℕ) (objects : List Object) (more : List (Option ℕ))
   HeldFits (Refers r) = NameFits r.object
 
   abbrev pub AllHeldFit : List Held → Type 0
-  AllHeldFit [] = Unit {0}
-  AllHeldFit (held ∷ others) = HeldFits held × AllHeldFit others
+  AllHeldFit all = AllHold HeldFits all
 
   pub record Fits (m : Memory) : Type 0 where
     pub objects_count : length m.objects ≡ count
     pub states_count : length m.states ≡ states
     pub frames_fit : FramesFit m.frames
+
+  -- with other frames
+  pub refit : (m : Memory) (frames : List Frame) → FramesFit frames → Fits m
+      → Fits (record m { frames = frames })
+  refit m frames f h = record {
+    objects_count = h.objects_count;
+    states_count = h.states_count;
+    frames_fit = f;
+  }
 
   -- what a change leaves
   abbrev pub Kept : Option Memory → Option Memory → Type 0
@@ -156,13 +165,10 @@ module _ (count states : ℕ) (objects : List Object) (more : List (Option ℕ))
   with_slot_fits : (o : Option Frame) (below s : ℕ) (holds : Holds) (m : Memory) → HoldsFits holds
       → IfSome o (λ (f : Frame). SlotsFit f.slots) → Fits m → Fits (with_slot o below s holds m)
   with_slot_fits None below s holds m i j h = h
-  with_slot_fits (Some frame) below s holds m i j h = record {
-    objects_count = h.objects_count;
-    states_count = h.states_count;
-    frames_fit =
-        with_frame_fits m.frames below (record frame { slots = slice_set frame.slots s holds })
-        (set_fits frame.slots s holds i j) h.frames_fit;
-  }
+  with_slot_fits (Some frame) below s holds m i j h =
+      let other : Frame = record frame { slots = slice_set frame.slots s holds } in
+      refit m (with_frame_at m.frames below other)
+      (with_frame_fits m.frames below other (set_fits frame.slots s holds i j) h.frames_fit) h
 
   with_object_same : (name : Name) (object : Object) (m : Memory) → NameFits name → Fits m
       → with_object name object (beside m) ≡ beside (with_object name object m)

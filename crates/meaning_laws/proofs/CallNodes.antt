@@ -1,36 +1,31 @@
 -- Calls of functions and natives find what they ask for.
 use Rattle.std.proofs.Common.{◌≡◌, ◌∙◌, ◌++◌, ℕ, ℤ, pos}
 use Rattle.std.proofs.Common.{List, []}
-use Rattle.std.proofs.Common.{◌∷◌, Bool, true, false, Option, None, Some, All, IfSome}
+use Rattle.std.proofs.Common.{◌∷◌, Bool, true, false, Option, None, Some, IfSome}
 use Rattle.std.proofs.Common.{length, slice_get}
-use Rattle.std.proofs.Common.{map, replicate, refl, sym, ap, subst}
+use Rattle.std.proofs.Common.{replicate, refl, sym, ap, subst}
 use Rattle.std.proofs.Common.{if◌then◌else◌, ◌-◌}
-use Rattle.std.proofs.lemmas.Option.{slice_get_within, get_or_from_slice_get}
-use Rattle.std.proofs.lemmas.List.Elements.{All-get_or}
-use Rattle.host_script.specs.declared.script.Script.{Script}
 use Rattle.host_script.specs.declared.event.End.TheVariants as end
 use Rattle.host_script.specs.declared.event.Event.{Event}
 use Rattle.host_script.specs.NativeCall.{Trap, Called, Ends_there, Answers, native_call}
 use Rattle.pawn_meaning.specs.Program.{Stmt}
-use Rattle.pawn_meaning.specs.Program.{Slot, Body, Route, Function}
+use Rattle.pawn_meaning.specs.Program.{Slot, Body, Function}
 use Rattle.pawn_meaning.specs.Program.{Program}
-use Rattle.pawn_meaning.specs.Program.{ScalarSlot, StaticObject}
+use Rattle.pawn_meaning.specs.Program.{ScalarSlot}
 use Rattle.pawn_meaning.specs.Memory.{Memory}
 use Rattle.pawn_meaning.specs.Memory.{made}
 use Rattle.pawn_meaning.specs.World.{World}
-use Rattle.pawn_meaning.specs.Run.{Outcome, Run}
 use Rattle.pawn_meaning.specs.Run.{with_frame}
 use Rattle.pawn_meaning.specs.Natives.{Held, Value, Spot, call_native, after_call, finished}
 use Rattle.pawn_meaning.specs.Natives.{see}
 use Rattle.pawn_meaning.specs.Natives.{with_writes}
 use Rattle.pawn_meaning.specs.Calls.{Way, Through, Broke, Continued, Returned}
 use Rattle.pawn_meaning.specs.Calls.{value_of}
-use Rattle.pawn_meaning.specs.Calls.{body_at, body_by, routed, frame_of, run_body, enter_function}
+use Rattle.pawn_meaning.specs.Calls.{body_by, frame_of, run_body, enter_function}
 use Rattle.pawn_meaning.specs.Calls.{entry_for, serves}
 use Rattle.pawn_meaning.specs.Meaning.{Scene, Fewer, call, call_one}
 use Rattle.pawn_meaning.specs.Meaning.{call_two}
 use Rattle.pawn_meaning.specs.Meaning.{call_entry}
-use Rattle.pawn_meaning.specs.Scope.{Scope}
 use Rattle.pawn_meaning.specs.ValidExprs.{Takes}
 use Rattle.pawn_meaning.specs.ValidStmts.{IsValidStmt}
 use Rattle.pawn_meaning.specs.ValidStmts.{slots_made}
@@ -46,17 +41,11 @@ use Rattle.meaning_laws.proofs.Accesses.{lay}
 use Rattle.meaning_laws.proofs.NativeFinds.{AllFine, CalledFits, native_fits}
 use Rattle.meaning_laws.proofs.NativeFinds.{native_seen, writes_done}
 use Rattle.meaning_laws.proofs.Typings.{Here}
+use Rattle.meaning_laws.proofs.ValidParts.{if_there, scope, valid_body}
 use Rattle.meaning_laws.proofs.Entries as entries
 use Rattle.meaning_laws.proofs.Entries.{drawn_of, drawn_is, begins_here}
 use Rattle.meaning_laws.proofs.Steps.{Free, To, Framed, RelIn, AlikeIn, then_on, after, give_on, give_to}
 use Rattle.meaning_laws.proofs.Steps.{stop_on, turn_to, framed, look_to}
-
-pub if_there : {X : Type 0} (P : X → Type 0) (xs : List X) (i : ℕ) → All P xs
-    → (o : Option X) → slice_get xs i ≡ o → IfSome o P
-if_there P xs i all None e = tt
-if_there P xs i all (Some x) e =
-    subst P (get_or_from_slice_get xs i x x e)
-    (All-get_or P xs i x (slice_get_within xs i x e) all)
 
 -- the slots in force behind a statement
 abbrev pub made_by : List ℕ → List ℕ → Way → List ℕ
@@ -66,98 +55,42 @@ made_by made new Continued = made
 made_by made new (Returned v) = made
 
 module _ (program : Program) where
-  abbrev pub sizes_of : StaticObject → List ℕ
-  sizes_of it = it.sizes
-
-  abbrev pub objects : List (List ℕ)
-  objects = map sizes_of program.objects
-
-  abbrev pub states : ℕ
-  states = length program.automata
-
-  abbrev pub scope : List Slot → ℕ → List ℕ → Scope
-  scope slots params made =
-      record { program = program; slots = slots; params = params; made = made }
-
   -- behind a statement the frame is one of this scope
   abbrev pub Left : List Slot → ℕ → List ℕ → List ℕ → List (List Drawn) → List (List ℕ) → Outline → Way
       → Type 0
   Left slots params made new outer heap k way =
       (current : List Drawn) × (k ≡ lay current outer heap)
-      × Here objects states slots params (made_by made new way) current outer heap
+      × Here program slots params (made_by made new way) current outer heap
 
   abbrev pub Again : Fewer → Fewer → Type 0
   Again fewer fewer' = (slots : List Slot) (params : ℕ) (made : List ℕ) (in_loop in_list : Bool)
-      (s : Stmt) → IsValidStmt (scope slots params made) in_loop in_list s
+      (s : Stmt) → IsValidStmt (scope program slots params made) in_loop in_list s
       → (current : List Drawn) (outer : List (List Drawn)) (heap : List (List ℕ))
-      → Here objects states slots params made current outer heap
-      → AlikeIn objects states (lay current outer heap) (Left slots params made (slots_made s) outer heap)
+      → Here program slots params made current outer heap
+      → AlikeIn program (lay current outer heap) (Left slots params made (slots_made s) outer heap)
       (fewer s) (fewer' s)
-
-  valid_routed : (function : Function) (params : List Slot) (number : Option ℕ)
-      → All (IsValidBody program params) function.bodies
-      → IfSome (body_at function number) (IsValidBody program params)
-  valid_routed function params None all = tt
-  valid_routed function params (Some n) all =
-      if_there (IsValidBody program params) function.bodies n all (slice_get function.bodies n) refl
-
-  valid_body : (function : Function) (params : List Slot) (dispatch : Option Route) (m : Memory)
-      → All (IsValidBody program params) function.bodies
-      → IfSome (body_by function dispatch m) (IsValidBody program params)
-  valid_body function params None m all =
-      if_there (IsValidBody program params) function.bodies 0 all (slice_get function.bodies 0) refl
-  valid_body function params (Some route) m all =
-      valid_routed function params (routed route (slice_get m.states route.automaton)) all
 
 -- what a run of a valid program stands in, and the other with an end of its own
 pub record Setting : Type 0 where
-  pub program : Program
-  pub valid : IsValid program
+  pub scene : Scene
+  pub valid : IsValid scene.program
   pub missing : Trap
-  pub script : Script
-  pub limit : ℕ
   pub fewer : Fewer
   pub fewer' : Fewer
-  pub behind : Again program fewer fewer'
+  pub behind : Again scene.program fewer fewer'
 
 module _ (set : Setting) where
   abbrev program : Program
-  program = set.program
-
-  abbrev missing : Trap
-  missing = set.missing
-
-  abbrev fewer : Fewer
-  fewer = set.fewer
-
-  abbrev fewer' : Fewer
-  fewer' = set.fewer'
-
-  abbrev scene : Scene
-  scene = record { program = set.program; script = set.script; limit = set.limit }
-
-  abbrev objects_here : List (List ℕ)
-  objects_here = objects program
-
-  abbrev states_here : ℕ
-  states_here = states program
-
-  abbrev Known : Outline → Memory → Type 0
-  Known l m = Has objects_here states_here l m
-
-  abbrev Rel : {A : Type 0} → (Outline → A → Type 0) → Outcome A → Outcome A → Type 0
-  Rel Out o r = RelIn objects_here states_here Out o r
-
-  abbrev Alike : {A : Type 0} → Outline → (Outline → A → Type 0) → Run A → Run A → Type 0
-  Alike l Out c d = AlikeIn objects_here states_here l Out c d
+  program = set.scene.program
 
   abbrev AllFit : Outline → List Slot → List Held → Type 0
-  AllFit l kinds held = entries.AllFit objects_here states_here l kinds held
+  AllFit l kinds held = entries.AllFit program l kinds held
 
   body_to : (l : Outline) (f : ℕ) (function : Function) (params : List Slot) (held : List Held)
       (o : Option Body) → IfSome o (IsValidBody program params) → AllFit l params held
-      → Alike {A = ℤ} l (To l Free) (with_frame (frame_of f function held o) (run_body fewer o))
-      (with_frame (frame_of f function held o) (run_body fewer' o))
+      → AlikeIn program {A = ℤ} l (To l Free)
+      (with_frame (frame_of f function held o) (run_body set.fewer o))
+      (with_frame (frame_of f function held o) (run_body set.fewer' o))
   body_to l f function params held None it fits =
       framed l (drawn_of held (0 - length held)) (frame_of f function held None)
       (drawn_is held (0 - length held)) (stop_on (end.Error (pos 13)))
@@ -168,14 +101,14 @@ module _ (set : Setting) where
       (let s =
       then_on {Out = Framed l.frames l.heap}
       (set.behind body.slots (length params) [] false false body.stmt it.stmt drawn l.frames l.heap
-      (begins_here objects_here states_here program l params body held it fits))
+      (begins_here program l params body held it fits))
       (λ k way i. give_on (value_of way) (i.0, i.1)) in
       record { at = λ w g. s.at w g })
 
   pub enter_to_body : (l : Outline) (f : ℕ) (function : Function) (held : List Held)
       → IsValidFunction program function → AllFit l function.params held
-      → Alike {A = ℤ} l (To l Free) (enter_function fewer f function held)
-      (enter_function fewer' f function held)
+      → AlikeIn program {A = ℤ} l (To l Free) (enter_function set.fewer f function held)
+      (enter_function set.fewer' f function held)
   enter_to_body l f function held it fits = record {
     at = λ w h.
         (body_to l f function function.params held (body_by function function.dispatch w.memory)
@@ -186,67 +119,69 @@ module _ (set : Setting) where
 
   pub call_to : (l : Outline) (params : List Slot) (f : ℕ) (held : List Held) → AllFit l params held
       → Takes program f params
-      → Alike {A = ℤ} l (To l Free) (call scene fewer f held) (gone.call missing scene fewer' f held)
+      → AlikeIn program {A = ℤ} l (To l Free) (call set.scene set.fewer f held)
+      (gone.call set.missing set.scene set.fewer' f held)
   call_to l params f held fits it =
-      after (look_to missing {In = λ function. function ≡ it.function}
+      after (look_to set.missing {In = λ function. function ≡ it.function}
       (λ m. slice_get program.functions f) (λ m h. (it.function, it.there, refl)))
-      (λ function i. after (turn_to set.limit) (λ x j. enter_to_body l f function held
+      (λ function i. after (turn_to set.scene.limit) (λ x j. enter_to_body l f function held
       (subst (IsValidFunction program) (sym i)
       (if_there (IsValidFunction program) program.functions f set.valid.functions (Some it.function)
       it.there))
       (subst (λ z. AllFit l z held) (sym (ap (λ (z : Function). z.params) i ∙ it.params_are)) fits)))
 
   pub one_to : (l : Outline) (f : ℕ) (v : ℤ) → Takes program f (replicate 1 ScalarSlot)
-      → Alike {A = ℤ} l (To l Free) (call_one scene fewer f v)
-      (gone.call_one missing scene fewer' f v)
+      → AlikeIn program {A = ℤ} l (To l Free) (call_one set.scene set.fewer f v)
+      (gone.call_one set.missing set.scene set.fewer' f v)
   one_to l f v it = call_to l (ScalarSlot ∷ []) f (Value v ∷ []) (tt, tt) it
 
   pub two_to : (l : Outline) (f : ℕ) (swapped : Bool) (x y : ℤ) → Takes program f (replicate 2 ScalarSlot)
-      → Alike {A = ℤ} l (To l Free) (call_two scene fewer f swapped x y)
-      (gone.call_two missing scene fewer' f swapped x y)
+      → AlikeIn program {A = ℤ} l (To l Free) (call_two set.scene set.fewer f swapped x y)
+      (gone.call_two set.missing set.scene set.fewer' f swapped x y)
   two_to l f true x y it =
       call_to l (ScalarSlot ∷ ScalarSlot ∷ []) f (Value y ∷ Value x ∷ []) (tt, (tt, tt)) it
   two_to l f false x y it =
       call_to l (ScalarSlot ∷ ScalarSlot ∷ []) f (Value x ∷ Value y ∷ []) (tt, (tt, tt)) it
 
   finished_to : (l : Outline) (it : Event) (result : ℤ) (position : ℕ) (o : Option Memory)
-      → found.Done objects_here states_here l o → (w : World)
-      → Rel {A = ℤ} (To l Free) (finished it result position o w)
-      (finished_or missing it result position o w)
+      → found.Done program l o → (w : World)
+      → RelIn program {A = ℤ} (To l Free) (finished it result position o w)
+      (finished_or set.missing it result position o w)
   finished_to l it result position o h w =
-      subst (λ q. Rel {A = ℤ} (To l Free) (finished it result position q w)
-      (finished_or missing it result position q w)) (sym h.1) (refl, (l, h.2, (refl, tt)))
+      subst (λ q. RelIn program {A = ℤ} (To l Free) (finished it result position q w)
+      (finished_or set.missing it result position q w)) (sym h.1) (refl, (l, h.2, (refl, tt)))
 
-  called_to : (l : Outline) (called : Called Spot) → CalledFits objects_here states_here missing l called
-      → (w : World) → Known l w.memory
-      → Rel {A = ℤ} (To l Free) (after_call called w) (after_call_or missing called w)
+  called_to : (l : Outline) (called : Called Spot) → CalledFits program set.missing l called
+      → (w : World) → Has program l w.memory
+      → RelIn program {A = ℤ} (To l Free) (after_call called w) (after_call_or set.missing called w)
   called_to l (Ends_there trap position) f w h = refl
   called_to l (Answers it result position puts) f w h =
       finished_to l it result position (with_writes puts (Some w.memory))
-      (writes_done objects_here states_here missing l puts (Some w.memory) f (w.memory, refl, h)) w
+      (writes_done program set.missing l puts (Some w.memory) f (w.memory, refl, h)) w
 
-  pub native_to : (l : Outline) (name : List ℕ) (held : List Held) → AllFine objects_here states_here missing l held
-      → Alike {A = ℤ} l (To l Free) (call_native set.script name held)
-      (call_native_or missing set.script name held)
+  pub native_to : (l : Outline) (name : List ℕ) (held : List Held) → AllFine program l held
+      → AlikeIn program {A = ℤ} l (To l Free) (call_native set.scene.script name held)
+      (call_native_or set.missing set.scene.script name held)
   native_to l name held fits = record {
     at = λ w h.
-        subst (λ c. Rel {A = ℤ} (To l Free) (call_native set.script name held w)
-        (after_call_or missing c w))
-        (sym (native_seen objects_here states_here missing l set.script w.memory name held w.position fits h))
-        (called_to l (native_call set.script (see w.memory) name held w.position)
-        (native_fits objects_here states_here missing l set.script w.memory name held w.position fits h) w h);
+        subst (λ c. RelIn program {A = ℤ} (To l Free) (call_native set.scene.script name held w)
+        (after_call_or set.missing c w))
+        (sym (native_seen program set.missing l set.scene.script w.memory name held w.position fits h))
+        (called_to l (native_call set.scene.script (see w.memory) name held w.position)
+        (native_fits program set.missing l set.scene.script w.memory name held w.position fits h) w h);
   }
 
   chosen_to : (l : Outline) (f : ℕ) → Takes program f [] → (b : Bool)
-      → Alike l (To l (λ way. way ≡ Through)) (call_entry scene fewer (if b then Some f else None))
-      (gone.call_entry missing scene fewer' (if b then Some f else None))
+      → AlikeIn program l (To l (λ way. way ≡ Through))
+      (call_entry set.scene set.fewer (if b then Some f else None))
+      (gone.call_entry set.missing set.scene set.fewer' (if b then Some f else None))
   chosen_to l f it true = after (call_to l [] f [] tt it) (λ x i. give_to Through refl)
   chosen_to l f it false = give_to Through refl
 
   pub entry_to : (l : Outline) (automaton state : ℕ) (o : Option ℕ) → IfSome o (λ f. Takes program f [])
-      → Alike l (To l (λ way. way ≡ Through))
-      (call_entry scene fewer (entry_for program automaton state o))
-      (gone.call_entry missing scene fewer' (entry_for program automaton state o))
+      → AlikeIn program l (To l (λ way. way ≡ Through))
+      (call_entry set.scene set.fewer (entry_for program automaton state o))
+      (gone.call_entry set.missing set.scene set.fewer' (entry_for program automaton state o))
   entry_to l automaton state None h = give_to Through refl
   entry_to l automaton state (Some f) h =
       chosen_to l f h (serves (slice_get program.functions f) automaton state)

@@ -57,18 +57,18 @@ drawn_is [] n = blanks_are n
 drawn_is (Value v ∷ held) n = ((refl, refl), drawn_is held n)
 drawn_is (Refers r ∷ held) n = (refl, drawn_is held n)
 
-module _ (objects : List (List ℕ)) (states : ℕ) where
+module _ (program : Program) where
   -- an argument is of a parameter's kind
   abbrev pub HeldFits : Outline → Slot → Held → Type 0
   HeldFits l ScalarSlot (Value v) = Unit {0}
   HeldFits l ScalarSlot (Refers r) = ⊥
   HeldFits l ReferenceSlot (Value v) = ⊥
-  HeldFits l ReferenceSlot (Refers r) = (r.sizes ≡ []) × IsFine objects states l r
+  HeldFits l ReferenceSlot (Refers r) = (r.sizes ≡ []) × IsFine program l r
   HeldFits l (ArraySlot z) (Value v) = ⊥
-  HeldFits l (ArraySlot z) (Refers r) = (r.sizes ≡ z) × IsFine objects states l r
+  HeldFits l (ArraySlot z) (Refers r) = (r.sizes ≡ z) × IsFine program l r
   HeldFits l (OpenSlot inner) (Value v) = ⊥
   HeldFits l (OpenSlot inner) (Refers r) =
-      ((size : ℕ) × (r.sizes ≡ size ∷ inner)) × IsFine objects states l r
+      ((size : ℕ) × (r.sizes ≡ size ∷ inner)) × IsFine program l r
 
   abbrev pub AllFit : Outline → List Slot → List Held → Type 0
   AllFit l [] [] = Unit {0}
@@ -108,30 +108,30 @@ module _ (objects : List (List ℕ)) (states : ℕ) where
 
   -- objects stay where a frame is entered
   enters_stay : (l : Outline) (drawn : List Drawn)
-      → Stays objects states l (lay drawn l.frames l.heap)
+      → Stays program l (lay drawn l.frames l.heap)
   enters_stay l drawn (Static o) z e = e
   enters_stay l drawn (memory.Local below s) z e =
       enters_by l.frames drawn below s z (length l.frames == below) refl (frame_in l.frames below) refl e
   enters_stay l drawn (memory.Temporary n) z e = e
 
-  param_held : (l k : Outline) (kind : Slot) (held : Held) → Stays objects states l k
-      → HeldFits l kind held → ParamFits objects states k kind (drawn_held held)
+  param_held : (l k : Outline) (kind : Slot) (held : Held) → Stays program l k
+      → HeldFits l kind held → ParamFits program k kind (drawn_held held)
   param_held l k ScalarSlot (Value v) stays h = refl
   param_held l k ScalarSlot (Refers r) stays h = absurd h
   param_held l k ReferenceSlot (Value v) stays h = absurd h
   param_held l k ReferenceSlot (Refers r) stays h =
-      (h.0, found.fine_stays objects states l k r stays h.1)
+      (h.0, found.fine_stays program l k r stays h.1)
   param_held l k (ArraySlot z) (Value v) stays h = absurd h
   param_held l k (ArraySlot z) (Refers r) stays h =
-      (h.0, found.fine_stays objects states l k r stays h.1)
+      (h.0, found.fine_stays program l k r stays h.1)
   param_held l k (OpenSlot inner) (Value v) stays h = absurd h
   param_held l k (OpenSlot inner) (Refers r) stays h =
-      (h.0, found.fine_stays objects states l k r stays h.1)
+      (h.0, found.fine_stays program l k r stays h.1)
 
   param_drawn : (l k : Outline) (kinds : List Slot) (held : List Held) (n s : ℕ) (kind : Slot)
-      → Stays objects states l k → AllFit l kinds held → slice_get kinds s ≡ Some kind
+      → Stays program l k → AllFit l kinds held → slice_get kinds s ≡ Some kind
       → (drawn : Drawn) × (slice_get (drawn_of held n) s ≡ Some drawn)
-      × ParamFits objects states k kind drawn
+      × ParamFits program k kind drawn
   param_drawn l k [] held n s kind stays h e = absurd (cc e)
   param_drawn l k (other ∷ kinds) [] n s kind stays h e = absurd h
   param_drawn l k (other ∷ kinds) (it ∷ held) n zero kind stays h e =
@@ -143,51 +143,50 @@ module _ (objects : List (List ℕ)) (states : ℕ) where
   param_drawn l k (other ∷ kinds) (it ∷ held) n (suc s) kind stays h e =
       param_drawn l k kinds held n s kind stays h.1 e
 
-  local_blank : (kind : Slot) → LocalFits objects states kind Blank
+  local_blank : (kind : Slot) → LocalFits program kind Blank
   local_blank ScalarSlot = tt
   local_blank ReferenceSlot = tt
   local_blank (ArraySlot z) = tt
   local_blank (OpenSlot inner) = tt
 
-  module _ (program : Program) where
-    -- in a frame that begins the parameters are in sight
-    begins_typed : (l : Outline) (params : List Slot) (body : Body) (held : List Held)
-        → IsValidBody program params body → AllFit l params held
-        → (s : ℕ) (kind : Slot) → slice_get body.slots s ≡ Some kind
-        → (s < length params) ⊎ (length params ≤ s)
-        → SlotIs objects states
-        (lay (drawn_of held (length body.slots - length held)) l.frames l.heap) (length params) s kind
-        (slice_get (drawn_of held (length body.slots - length held)) s)
-    begins_typed l params body held it fits s kind e (inl h) =
-        let drawn = drawn_of held (length body.slots - length held) in
-        let here : slice_get params s ≡ Some kind =
-        ap (λ z. slice_get z s) (sym it.begins) ∙ taken_get body.slots (length params) s h ∙ e in
-        let at =
-        param_drawn l (lay drawn l.frames l.heap) params held (length body.slots - length held) s kind
-        (enters_stay l drawn) fits here in
-        record {
-          drawn = at.0;
-          there = at.1;
-          param = λ k. at.2;
-          local = λ k. absurd (omega (arith, h, k));
-        }
-    begins_typed l params body held it fits s kind e (inr h) =
-        let inside = slice_get_within body.slots s kind e in
-        let same = all_count l params held fits in
-        let long = length-map held drawn_held in
-        record {
-          drawn = Blank;
-          there = blank_at (map drawn_held held) Blank (length body.slots - length held) s
-              (omega (arith, h, same, long)) (omega (arith, inside, h, same, long));
-          param = λ k. absurd (omega (arith, h, k));
-          local = λ k. local_blank kind;
-        }
+  -- in a frame that begins the parameters are in sight
+  begins_typed : (l : Outline) (params : List Slot) (body : Body) (held : List Held)
+      → IsValidBody program params body → AllFit l params held
+      → (s : ℕ) (kind : Slot) → slice_get body.slots s ≡ Some kind
+      → (s < length params) ⊎ (length params ≤ s)
+      → SlotIs program
+      (lay (drawn_of held (length body.slots - length held)) l.frames l.heap) (length params) s kind
+      (slice_get (drawn_of held (length body.slots - length held)) s)
+  begins_typed l params body held it fits s kind e (inl h) =
+      let drawn = drawn_of held (length body.slots - length held) in
+      let here : slice_get params s ≡ Some kind =
+      ap (λ z. slice_get z s) (sym it.begins) ∙ taken_get body.slots (length params) s h ∙ e in
+      let at =
+      param_drawn l (lay drawn l.frames l.heap) params held (length body.slots - length held) s kind
+      (enters_stay l drawn) fits here in
+      record {
+        drawn = at.0;
+        there = at.1;
+        param = λ k. at.2;
+        local = λ k. absurd (omega (arith, h, k));
+      }
+  begins_typed l params body held it fits s kind e (inr h) =
+      let inside = slice_get_within body.slots s kind e in
+      let same = all_count l params held fits in
+      let long = length-map held drawn_held in
+      record {
+        drawn = Blank;
+        there = blank_at (map drawn_held held) Blank (length body.slots - length held) s
+            (omega (arith, h, same, long)) (omega (arith, inside, h, same, long));
+        param = λ k. absurd (omega (arith, h, k));
+        local = λ k. local_blank kind;
+      }
 
-    pub begins_here : (l : Outline) (params : List Slot) (body : Body) (held : List Held)
-        → IsValidBody program params body → AllFit l params held
-        → Here objects states body.slots (length params) []
-        (drawn_of held (length body.slots - length held)) l.frames l.heap
-    begins_here l params body held it fits = record {
-      typed = λ s kind e. begins_typed l params body held it fits s kind e (cases_lt s (length params));
-      owned = λ s i. absurd i;
-    }
+  pub begins_here : (l : Outline) (params : List Slot) (body : Body) (held : List Held)
+      → IsValidBody program params body → AllFit l params held
+      → Here program body.slots (length params) []
+      (drawn_of held (length body.slots - length held)) l.frames l.heap
+  begins_here l params body held it fits = record {
+    typed = λ s kind e. begins_typed l params body held it fits s kind e (cases_lt s (length params));
+    owned = λ s i. absurd i;
+  }

@@ -3,7 +3,7 @@ use Rattle.std.proofs.Common.{◌≡◌, ◌<◌, ℕ, zero, suc}
 use Rattle.std.proofs.Common.{List, []}
 use Rattle.std.proofs.Common.{◌∷◌, Option, None, Some, All}
 use Rattle.std.proofs.Common.{length, slice_get}
-use Rattle.std.proofs.Common.{map, refl, sym, ap, subst, arith}
+use Rattle.std.proofs.Common.{map, refl, sym, ap, subst}
 use Rattle.std.proofs.lemmas.List.{length-replicate}
 use Rattle.std.proofs.lemmas.List.Elements.{All-head, All-tail}
 use Rattle.host_script.specs.declared.script.Script.{Script}
@@ -12,10 +12,9 @@ use Rattle.host_script.specs.NativeCall.{Trap}
 use Rattle.pawn_meaning.specs.Program.{Slot, Function}
 use Rattle.pawn_meaning.specs.Program.{Program}
 use Rattle.pawn_meaning.specs.Program.{StaticObject}
-use Rattle.pawn_meaning.specs.Memory.{Memory}
 use Rattle.pawn_meaning.specs.Memory.{made}
 use Rattle.pawn_meaning.specs.World.{first_world, first_memory, first_object}
-use Rattle.pawn_meaning.specs.Run.{Outcome, Gives, Stops, More, Run}
+use Rattle.pawn_meaning.specs.Run.{Outcome, Gives, Stops, More}
 use Rattle.pawn_meaning.specs.Meaning.{Scene, Fewer}
 use Rattle.pawn_meaning.specs.Meaning.{run}
 use Rattle.pawn_meaning.specs.Told.{nested, without_params, entry_or_stray, whole, told_of}
@@ -25,44 +24,24 @@ use Rattle.meaning_laws.specs.NothingIsMissing.{NothingIsMissing}
 use Rattle.meaning_laws.proofs.Outlines.{Each, ObjectIs}
 use Rattle.meaning_laws.proofs.Outlines.{Outline}
 use Rattle.meaning_laws.proofs.Outlines.{Has}
-use Rattle.meaning_laws.proofs.CallNodes.{objects, states, sizes_of, Again, Setting, if_there}
+use Rattle.meaning_laws.proofs.Outlines.{sizes_of, states}
+use Rattle.meaning_laws.proofs.ValidParts.{if_there, past_none}
+use Rattle.meaning_laws.proofs.CallNodes.{Again, Setting}
 use Rattle.meaning_laws.proofs.CallNodes.{enter_to_body}
 use Rattle.meaning_laws.proofs.Entries as entries
 use Rattle.meaning_laws.proofs.Statements.{run_to}
 use Rattle.meaning_laws.proofs.Steps.{Free, To, RelIn, AlikeIn, after, stop_on}
-
-past_none : {X : Type 0} (xs : List X) (i : ℕ) → i < length xs → slice_get xs i ≡ None → ⊥
-past_none [] i h e = absurd (omega (arith, h))
-past_none (x ∷ xs) zero h e = absurd (cc e)
-past_none (x ∷ xs) (suc i) h e = past_none xs i (omega (arith, h)) e
 
 module _ (program : Program) (valid : IsValid program) (missing : Trap) (script : Script)
     (limit : ℕ) where
   abbrev scene : Scene
   scene = record { program = program; script = script; limit = limit }
 
-  abbrev objects_here : List (List ℕ)
-  objects_here = objects program
-
-  abbrev states_here : ℕ
-  states_here = states program
-
-  abbrev Known : Outline → Memory → Type 0
-  Known l m = Has objects_here states_here l m
-
-  abbrev Rel : {A : Type 0} → (Outline → A → Type 0) → Outcome A → Outcome A → Type 0
-  Rel Out o r = RelIn objects_here states_here Out o r
-
-  abbrev Alike : {A : Type 0} → Outline → (Outline → A → Type 0) → Run A → Run A → Type 0
-  Alike l Out c d = AlikeIn objects_here states_here l Out c d
-
   abbrev set_by : (fewer fewer' : Fewer) → Again program fewer fewer' → Setting
   set_by fewer fewer' behind = record {
-    program = program;
+    scene = scene;
     valid = valid;
     missing = missing;
-    script = script;
-    limit = limit;
     fewer = fewer;
     fewer' = fewer';
     behind = behind;
@@ -85,40 +64,43 @@ module _ (program : Program) (valid : IsValid program) (missing : Trap) (script 
 
   first_to : (f : ℕ) (function : Function) → IsValidFunction program function → (params : List Slot)
       → function.params ≡ params
-      → Alike {A = ⊥} first_outline (To first_outline Free) (without_params scene f function params)
+      → AlikeIn program {A = ⊥} first_outline (To first_outline Free)
+      (without_params scene f function params)
       (gone.without_params missing scene f function params)
   first_to f function it [] e =
       after (enter_to_body (set_by (run scene (nested scene limit))
       (gone.run missing scene (gone.nested missing scene limit)) runs_to) first_outline f function [] it
-      (subst (λ z. entries.AllFit objects_here states_here first_outline z []) (sym e) tt)) (λ v i. stop_on (end.Done v))
+      (subst (λ z. entries.AllFit program first_outline z []) (sym e) tt)) (λ v i. stop_on (end.Done v))
   first_to f function it (param ∷ params) e = stop_on end.Stray
 
   -- ---- both begin alike
 
   first_objects : (all : List StaticObject) → All IsValidObject all
-      → Each ObjectIs (map (sizes_of program) all) (map first_object all)
+      → Each ObjectIs (map (sizes_of) all) (map first_object all)
   first_objects [] h = tt
   first_objects (it ∷ all) h = (
     (refl, (All-head IsValidObject it all h).count),
     first_objects all (All-tail IsValidObject it all h),
   )
 
-  first_known : Known first_outline (first_memory program)
+  first_known : Has program first_outline (first_memory program)
   first_known = record {
     objects_are = first_objects program.objects valid.objects;
     frames_are = tt;
     heap_is = tt;
-    states_are = length-replicate states_here None;
+    states_are = length-replicate (states program) None;
   }
 
-  told_same : (o r : Outcome ⊥) → Rel {A = ⊥} (To first_outline Free) o r → told_of r ≡ told_of o
+  told_same : (o r : Outcome ⊥) → RelIn program {A = ⊥} (To first_outline Free) o r
+      → told_of r ≡ told_of o
   told_same (Gives a x) r h = elim a [ ]
   told_same (Stops e x) r h = ap told_of h
   told_same (More x) r h = ap told_of h
 
   from_to : (f : ℕ) (o : Option Function) → slice_get program.functions f ≡ o
       → f < length program.functions
-      → Rel {A = ⊥} (To first_outline Free) (entry_or_stray scene f o (first_world program))
+      → RelIn program {A = ⊥} (To first_outline Free)
+      (entry_or_stray scene f o (first_world program))
       (gone.entry_or missing scene f o (first_world program))
   from_to f None e h = absurd (past_none program.functions f h e)
   from_to f (Some function) e h =

@@ -6,6 +6,7 @@ pub mod Entries
 pub mod Finds
 pub mod MissingExamples
 pub mod NativeBesides
+pub mod NativeCalls
 pub mod NativeFinds
 pub mod Nodes
 pub mod Numbers
@@ -13,3 +14,4 @@ pub mod Outlines
 pub mod Statements
 pub mod Steps
 pub mod Typings
+pub mod ValidParts

@@ -8,7 +8,6 @@ use Rattle.std.specs.Prelude.{option_map}
 use Rattle.std.proofs.Common.{if◌then◌else◌}
 use Rattle.std.proofs.lemmas.Option.{slice_get-map}
 use Rattle.host_script.specs.declared.event.End.TheVariants as end
-use Rattle.host_script.specs.NativeCall.{Trap}
 use Rattle.pawn_cells.specs.declared.operator.Comparison.{Comparison}
 use Rattle.pawn_cells.specs.declared.operator.Logical.TheVariants as logic
 use Rattle.pawn_cells.specs.Cells.{is_zero, add, truth}
@@ -25,16 +24,16 @@ use Rattle.pawn_meaning.specs.Program.{Program}
 use Rattle.pawn_meaning.specs.Program.{ScalarSlot, ReferenceSlot, ArraySlot, OpenSlot, StaticObject}
 use Rattle.pawn_meaning.specs.Program as node
 use Rattle.pawn_meaning.specs.Memory as memory
-use Rattle.pawn_meaning.specs.Memory.{Memory, Static, Reference}
+use Rattle.pawn_meaning.specs.Memory.{Static, Reference, Place}
 use Rattle.pawn_meaning.specs.Memory.{whole_of, own_whole, through, copied}
 use Rattle.pawn_meaning.specs.Memory.{made}
 use Rattle.pawn_meaning.specs.Memory.{with_temporary, running}
-use Rattle.pawn_meaning.specs.Run.{Outcome, Run, Done, done}
+use Rattle.pawn_meaning.specs.Run.{Done, done}
 use Rattle.pawn_meaning.specs.Natives.{Held, Value, Refers}
 use Rattle.pawn_meaning.specs.References.{is_known, first_size, row_at}
 use Rattle.pawn_meaning.specs.References.{rest_from}
 use Rattle.pawn_meaning.specs.References.{cell_at, character_at, to_cell}
-use Rattle.pawn_meaning.specs.Meaning.{Scene, Fewer, name_of, ended}
+use Rattle.pawn_meaning.specs.Meaning.{name_of, ended}
 use Rattle.pawn_meaning.specs.Meaning.{converted, linked, place, array, value, chain}
 use Rattle.pawn_meaning.specs.Meaning.{chained, argument, arguments, condition, perhaps}
 use Rattle.pawn_meaning.specs.Scope.{Scope, Extent, extent, object_extent, slot_extent}
@@ -45,7 +44,6 @@ use Rattle.pawn_meaning.specs.ValidExprs.{IsValidArg, AreValidArgs, IsValidPerha
 use Rattle.meaning_laws.specs.MeaningWith as gone
 use Rattle.meaning_laws.proofs.Outlines.{Drawn}
 use Rattle.meaning_laws.proofs.Outlines.{Outline}
-use Rattle.meaning_laws.proofs.Outlines.{Has}
 use Rattle.meaning_laws.proofs.Accesses as found
 use Rattle.meaning_laws.proofs.Accesses.{lay, grown, IsFine, IsPlaceOf, there_last}
 use Rattle.meaning_laws.proofs.Typings.{is_in, ArrayFits, known_fits}
@@ -56,41 +54,16 @@ use Rattle.meaning_laws.proofs.Typings.{Here}
 use Rattle.meaning_laws.proofs.Typings.{here_stays, name_sizes, own_cell, own_array}
 use Rattle.meaning_laws.proofs.Typings.{led}
 use Rattle.meaning_laws.proofs.Arguments as kept
-use Rattle.meaning_laws.proofs.CallNodes.{objects, states, sizes_of, scope, Setting, call_to, one_to, two_to, native_to}
-use Rattle.meaning_laws.proofs.Steps.{Free, To, RelIn, AlikeIn, SingleIn, after, give_to, free}
-use Rattle.meaning_laws.proofs.Steps.{or_stop_to, choose_on, index_to, heaped_at, look_to, change_to, read_to}
-use Rattle.meaning_laws.proofs.Steps.{stored, refers_to, free_some}
+use Rattle.meaning_laws.proofs.Outlines.{objects, sizes_of}
+use Rattle.meaning_laws.proofs.ValidParts.{scope}
+use Rattle.meaning_laws.proofs.CallNodes.{Setting, call_to, one_to, two_to, native_to}
+use Rattle.meaning_laws.proofs.Steps.{Free, To, AlikeIn, SingleIn, after, give_to, free}
+use Rattle.meaning_laws.proofs.Steps.{or_stop_to, choose_on, index_to, heaped_at, look_to}
+use Rattle.meaning_laws.proofs.Steps.{change_to, read_to, stored, refers_to, free_some}
 
 module _ (set : Setting) where
   abbrev program : Program
-  program = set.program
-
-  abbrev missing : Trap
-  missing = set.missing
-
-  abbrev fewer : Fewer
-  fewer = set.fewer
-
-  abbrev fewer' : Fewer
-  fewer' = set.fewer'
-
-  abbrev scene : Scene
-  scene = record { program = set.program; script = set.script; limit = set.limit }
-
-  abbrev objects_here : List (List ℕ)
-  objects_here = objects program
-
-  abbrev states_here : ℕ
-  states_here = states program
-
-  abbrev Known : Outline → Memory → Type 0
-  Known l m = Has objects_here states_here l m
-
-  abbrev Rel : {A : Type 0} → (Outline → A → Type 0) → Outcome A → Outcome A → Type 0
-  Rel Out o r = RelIn objects_here states_here Out o r
-
-  abbrev Alike : {A : Type 0} → Outline → (Outline → A → Type 0) → Run A → Run A → Type 0
-  Alike l Out c d = AlikeIn objects_here states_here l Out c d
+  program = set.scene.program
 
   module _ (slots : List Slot) (params : ℕ) where
     abbrev here_scope : List ℕ → Scope
@@ -98,38 +71,38 @@ module _ (set : Setting) where
 
     converted_to : (l : Outline) (made : List ℕ) (convert : Option ℕ) (v : ℤ)
         → IfSome convert (IsOperator (here_scope made) 1)
-        → Alike {A = ℤ} l (To l Free) (converted scene fewer convert v)
-        (gone.converted missing scene fewer' convert v)
+        → AlikeIn program {A = ℤ} l (To l Free) (converted set.scene set.fewer convert v)
+        (gone.converted set.missing set.scene set.fewer' convert v)
     converted_to l made None v h = free v
     converted_to l made (Some f) v h = one_to set l f v h
 
     linked_to : (l : Outline) (made : List ℕ) (op : Comparison) (f : Option ℕ) (swapped : Bool) (x y : ℤ)
         → IfSome f (IsOperator (here_scope made) 2)
-        → Alike {A = ℤ} l (To l Free) (linked scene fewer op f swapped x y)
-        (gone.linked missing scene fewer' op f swapped x y)
+        → AlikeIn program {A = ℤ} l (To l Free) (linked set.scene set.fewer op f swapped x y)
+        (gone.linked set.missing set.scene set.fewer' op f swapped x y)
     linked_to l made op None swapped x y h = free (truth (compare op x y))
     linked_to l made op (Some f) swapped x y h = two_to set l f swapped x y h
 
     global_cell : (l : Outline) (o : ℕ) (it : Option StaticObject) → slice_get program.objects o ≡ it
-        → IsCellObject it → IsPlaceOf objects_here states_here l (memory.Cell (Static o) 0)
+        → IsCellObject it → IsPlaceOf program l (memory.Cell (Static o) 0)
     global_cell l o None e h = absurd h
     global_cell l o (Some object) e h =
         let one : elements_in object.sizes ≡ 1 = ap elements_in h in
         record {
           sizes = object.sizes;
-          there = slice_get-map (sizes_of program) program.objects o ∙ ap (option_map (sizes_of program)) e;
+          there = slice_get-map (sizes_of) program.objects o ∙ ap (option_map (sizes_of)) e;
           inside = omega (arith, one);
         }
 
     -- what there is of an object
     object_is : (o : ℕ) (it : Option StaticObject) → slice_get program.objects o ≡ it
         → IsSome (object_extent it)
-        → (z : List ℕ) × (slice_get objects_here o ≡ Some z) × (object_extent it ≡ known_extent z)
+        → (z : List ℕ) × (slice_get (objects program) o ≡ Some z) × (object_extent it ≡ known_extent z)
         × IsSome (known_extent z)
     object_is o None e h = absurd (cc h)
     object_is o (Some object) e h = (
       object.sizes,
-      slice_get-map (sizes_of program) program.objects o ∙ ap (option_map (sizes_of program)) e,
+      slice_get-map (sizes_of) program.objects o ∙ ap (option_map (sizes_of)) e,
       refl,
       h,
     )
@@ -154,33 +127,52 @@ module _ (set : Setting) where
       at_heap heap = lay current outer heap
 
       abbrev IsHere : List (List ℕ) → Type 0
-      IsHere heap = Here objects_here states_here slots params made current outer heap
+      IsHere heap = Here program slots params made current outer heap
+
+      abbrev PlaceIs : Outline → Scalar → Place → Type 0
+      PlaceIs l p at = kept.PlaceIs program slots params made current outer l p at
+
+      abbrev PartIs : Outline → Array → Reference → Type 0
+      PartIs l a r = kept.PartIs program slots params made current outer l a r
+
+      abbrev HeldBy : Outline → Arg → Held → Type 0
+      HeldBy l a held = kept.HeldBy program slots params made current outer l a held
+
+      abbrev HeldsBy : Outline → Args → List Held → Type 0
+      HeldsBy l args held = kept.HeldsBy program slots params made current outer l args held
+
+      -- the temporary arguments behind one, and behind all
+      abbrev after_arg : Arg → List (List ℕ) → List (List ℕ)
+      after_arg a heap = kept.after_arg program slots params made current outer a heap
+
+      abbrev after_args : Args → List (List ℕ) → List (List ℕ)
+      after_args args heap = kept.after_args program slots params made current outer args heap
 
       abbrev IsSingle : Outline → Held → Type 0
-      IsSingle l held = SingleIn objects_here states_here l held
+      IsSingle l held = SingleIn program l held
 
       mutual
         place_to : (heap : List (List ℕ)) → IsHere heap → (p : Scalar)
             → IsValidScalar (here_scope made) p
-            → Alike (at_heap heap) (To (at_heap heap) (kept.PlaceIs program missing slots params made current outer (at_heap heap) p))
-            (place scene fewer p) (gone.place missing scene fewer' p)
+            → AlikeIn program (at_heap heap) (To (at_heap heap) (PlaceIs (at_heap heap) p))
+            (place set.scene set.fewer p) (gone.place set.missing set.scene set.fewer' p)
         place_to heap here (Global o) h =
             give_to (memory.Cell (Static o) 0) (
               global_cell (at_heap heap) o (slice_get program.objects o) refl h,
               λ c. tt,
             )
         place_to heap here (Own s) h =
-            look_to missing {In = kept.PlaceIs program missing slots params made current outer (at_heap heap) (Own s)}
+            look_to set.missing {In = PlaceIs (at_heap heap) (Own s)}
             (λ m. Some (memory.Cell (memory.Local (running m) s) 0)) (λ m g. (
               memory.Cell (memory.Local (length outer) s) 0,
               ap (λ n. Some (memory.Cell (memory.Local n s) 0))
-                  (found.runs_at objects_here states_here current outer heap m g),
+                  (found.runs_at program current outer heap m g),
               (
                 record {
                   sizes = 1 ∷ [];
-                  there = name_sizes objects_here states_here slots params made current outer heap here s (1 ∷ [])
-                      (own_cell objects_here states_here slots params made current outer heap here s h.0
-                      (kept.in_sight program missing slots params made current outer s h.1));
+                  there = name_sizes program slots params made current outer heap here s (1 ∷ [])
+                      (own_cell program slots params made current outer heap here s h.0
+                      (kept.in_sight program slots params made current outer s h.1));
                   inside = omega arith;
                 },
                 λ c. tt,
@@ -188,65 +180,68 @@ module _ (set : Setting) where
             ))
         place_to heap here (node.Through s) h =
             let it =
-            led objects_here states_here slots params made current outer heap here s ReferenceSlot h.0 h.1
+            led program slots params made current outer heap here s ReferenceSlot h.0 h.1
             (λ i. absurd (cc i)) in
-            after (look_to missing {In = λ r. (r.sizes ≡ []) × IsFine objects_here states_here (at_heap heap) r}
+            after (look_to set.missing {In = λ r. (r.sizes ≡ []) × IsFine program (at_heap heap) r}
             (through s)
-            (λ m g. (it.0, found.is_led objects_here states_here current outer heap m s it.0 g it.1, it.2)))
+            (λ m g. (it.0, found.is_led program current outer heap m s it.0 g it.1, it.2)))
             (λ r i. give_to (cell_at r 0)
-            (single_cell objects_here states_here (at_heap heap) r i.0 i.1, λ c. tt))
+            (single_cell program (at_heap heap) r i.0 i.1, λ c. tt))
         place_to heap here (Element a e) h =
             after (array_to heap here a h.1) (λ r i. after (value_to heap here e h.2)
             (λ v j. after (index_to (is_known a) (first_size r.sizes) v)
             (λ n k. let line = line_sizes (extent (here_scope made) a) r h.0 i.0 in
             give_to (cell_at r n)
-            (line_cell objects_here states_here (at_heap heap) r line.0 n line.1 i.1 k, λ c. tt))))
+            (line_cell program (at_heap heap) r line.0 n line.1 i.1 k, λ c. tt))))
         place_to heap here (Char a e) h =
             after (array_to heap here a h.1) (λ r i. after (value_to heap here e h.2)
             (λ v j. after (index_to (is_known a) (4 * first_size r.sizes) v)
             (λ n k. let line = line_sizes (extent (here_scope made) a) r h.0 i.0 in
             give_to (character_at r n)
-            (line_character objects_here states_here (at_heap heap) r line.0 n line.1 i.1 k, λ c. absurd c))))
+            (line_character program (at_heap heap) r line.0 n line.1 i.1 k, λ c. absurd c))))
 
         array_to : (heap : List (List ℕ)) → IsHere heap → (a : Array)
             → IsValidArray (here_scope made) a
-            → Alike (at_heap heap) (To (at_heap heap) (kept.PartIs program missing slots params made current outer (at_heap heap) a))
-            (array scene fewer a) (gone.array missing scene fewer' a)
+            → AlikeIn program (at_heap heap) (To (at_heap heap) (PartIs (at_heap heap) a))
+            (array set.scene set.fewer a) (gone.array set.missing set.scene set.fewer' a)
         array_to heap here (Object o) h =
             let it = object_is o (slice_get program.objects o) refl h in
-            let r = found.whole_part objects_here states_here (Static o) it.0 in
-            look_to missing {In = kept.PartIs program missing slots params made current outer (at_heap heap) (Object o)} (whole_of (Static o)) (λ m g. (
+            let r = found.whole_part program (Static o) it.0 in
+            look_to set.missing {In = PartIs (at_heap heap) (Object o)} (whole_of (Static o))
+            (λ m g. (
               r,
-              found.is_whole objects_here states_here (at_heap heap) m (Static o) it.0 g it.1,
+              found.is_whole program (at_heap heap) m (Static o) it.0 g it.1,
               (
                 subst (λ z. ArrayFits z r) (sym it.2) (known_fits it.0 r refl it.3),
-                found.whole_fine objects_here states_here (at_heap heap) (Static o) it.0 it.1,
+                found.whole_fine program (at_heap heap) (Static o) it.0 it.1,
               ),
             ))
         array_to heap here (SlotArray s) h =
             let it = slot_is s (slice_get slots s) refl h.0 in
             let there =
-            name_sizes objects_here states_here slots params made current outer heap here s it.0
-            (own_array objects_here states_here slots params made current outer heap here s it.0 it.1
+            name_sizes program slots params made current outer heap here s it.0
+            (own_array program slots params made current outer heap here s it.0 it.1
             (is_in s made h.1)) in
             let name = memory.Local (length outer) s in
-            let r = found.whole_part objects_here states_here name it.0 in
-            look_to missing {In = kept.PartIs program missing slots params made current outer (at_heap heap) (SlotArray s)} (own_whole s) (λ m g. (
+            let r = found.whole_part program name it.0 in
+            look_to set.missing {In = PartIs (at_heap heap) (SlotArray s)} (own_whole s) (λ m g. (
               r,
               ap (λ n. whole_of (memory.Local n s) m)
-                  (found.runs_at objects_here states_here current outer heap m g)
-                  ∙ found.is_whole objects_here states_here (at_heap heap) m name it.0 g there,
+                  (found.runs_at program current outer heap m g)
+                  ∙ found.is_whole program (at_heap heap) m name it.0 g there,
               (
                 subst (λ z. ArrayFits z r) (sym it.2) (known_fits it.0 r refl it.3),
-                found.whole_fine objects_here states_here (at_heap heap) name it.0 there,
+                found.whole_fine program (at_heap heap) name it.0 there,
               ),
             ))
         array_to heap here (ParamArray s known) h =
-            let it = kept.param_is program missing slots params made current outer heap here s (slice_get slots s) refl known h.0 h.1 in
-            look_to missing {In = kept.PartIs program missing slots params made current outer (at_heap heap) (ParamArray s known)} (through s)
+            let it =
+            kept.param_is program slots params made current outer heap here s (slice_get slots s)
+            refl known h.0 h.1 in
+            look_to set.missing {In = PartIs (at_heap heap) (ParamArray s known)} (through s)
             (λ m g. (
               it.0,
-              found.is_led objects_here states_here current outer heap m s it.0 g it.1,
+              found.is_led program current outer heap m s it.0 g it.1,
               (it.2, it.3),
             ))
         array_to heap here (Row a e) h =
@@ -255,7 +250,7 @@ module _ (set : Setting) where
             (λ n k. let all = fits_sizes (extent (here_scope made) a) r i.0 in
             give_to (row_at r n) (
               row_fits (extent (here_scope made) a) r n h.0 i.0,
-              row_fine objects_here states_here (at_heap heap) r all.0 n all.1 all.2 i.1 k,
+              row_fine program (at_heap heap) r all.0 n all.1 all.2 i.1 k,
             ))))
         array_to heap here (From a e) h =
             after (array_to heap here a h.1) (λ r i. after (value_to heap here e h.2)
@@ -263,16 +258,16 @@ module _ (set : Setting) where
             (λ n k. let line = line_sizes (extent (here_scope made) a) r h.0 i.0 in
             give_to (rest_from r n) (
               rest_fits (extent (here_scope made) a) r n i.0,
-              rest_fine objects_here states_here (at_heap heap) r line.0 n line.1 i.1 k,
+              rest_fine program (at_heap heap) r line.0 n line.1 i.1 k,
             ))))
 
         pub value_to : (heap : List (List ℕ)) → IsHere heap → (e : Expr)
             → IsValidExpr (here_scope made) e
-            → Alike {A = ℤ} (at_heap heap) (To (at_heap heap) Free)
-            (value scene fewer e) (gone.value missing scene fewer' e)
+            → AlikeIn program {A = ℤ} (at_heap heap) (To (at_heap heap) Free)
+            (value set.scene set.fewer e) (gone.value set.missing set.scene set.fewer' e)
         value_to heap here (Const v) h = free v
         value_to heap here (Read p) h =
-            after (place_to heap here p h) (λ at i. read_to missing at i.0)
+            after (place_to heap here p h) (λ at i. read_to set.missing at i.0)
         value_to heap here (Unary o e) h =
             after (value_to heap here e h) (λ v i. free (prefix o v))
         value_to heap here (Binary o l r) h =
@@ -292,30 +287,30 @@ module _ (set : Setting) where
             (λ x i. choose_on (is_zero x) (value_to heap here b h.2) (value_to heap here a h.1))
         value_to heap here (Assign p e) h =
             after (place_to heap here p h.0) (λ at i. after (value_to heap here e h.1)
-            (λ v j. stored missing at v v i.0))
+            (λ v j. stored set.missing at v v i.0))
         value_to heap here (Update p o e) h =
             after (place_to heap here p h.0) (λ at i. after (value_to heap here e h.1)
-            (λ y j. after (read_to missing at i.0)
+            (λ y j. after (read_to set.missing at i.0)
             (λ x k. after (or_stop_to {In = Free} (binary o x y) (end.Error (pos 11))
             (free_some (binary o x y)))
-            (λ v n. stored missing at v v i.0))))
+            (λ v n. stored set.missing at v v i.0))))
         value_to heap here (UpdateBy p f swapped e convert) h =
             after (place_to heap here p h.2) (λ at i. after (value_to heap here e h.3)
-            (λ y j. after (read_to missing at i.0)
+            (λ y j. after (read_to set.missing at i.0)
             (λ x k. after (two_to set (at_heap heap) f swapped x y h.0)
             (λ u n. after (converted_to (at_heap heap) made convert u h.1)
-            (λ v o. stored missing at v v i.0)))))
+            (λ v o. stored set.missing at v v i.0)))))
         value_to heap here (Step p delta prefix) h =
-            after (place_to heap here p h.1) (λ at i. after (read_to missing at i.0)
-            (λ x j. stored missing at (add x delta) (if prefix then add x delta else x) i.0))
+            after (place_to heap here p h.1) (λ at i. after (read_to set.missing at i.0)
+            (λ x j. stored set.missing at (add x delta) (if prefix then add x delta else x) i.0))
         value_to heap here (StepBy p f prefix) h =
-            after (place_to heap here p h.1) (λ at i. after (read_to missing at i.0)
+            after (place_to heap here p h.1) (λ at i. after (read_to set.missing at i.0)
             (λ x j. after (one_to set (at_heap heap) f x h.0)
-            (λ v k. stored missing at v (if prefix then v else x) i.0)))
+            (λ v k. stored set.missing at v (if prefix then v else x) i.0)))
         value_to heap here (Copy to from cells) h =
             after (array_to heap here to h.2) (λ r i. after (array_to heap here from h.3)
-            (λ q j. after (change_to missing (at_heap heap) (copied r q cells)
-            (λ m g. found.is_copied objects_here states_here (at_heap heap) m r q cells g i.1 j.1
+            (λ q j. after (change_to set.missing (at_heap heap) (copied r q cells)
+            (λ m g. found.is_copied program (at_heap heap) m r q cells g i.1 j.1
             (cells_fit cells (extent (here_scope made) to) r h.0 i.0)
             (cells_fit cells (extent (here_scope made) from) q h.1 j.0)))
             (λ x k. free (pos 0))))
@@ -325,26 +320,29 @@ module _ (set : Setting) where
         value_to heap here (OperateOne f e) h =
             after (value_to heap here e h.1) (λ v i. one_to set (at_heap heap) f v h.0)
         value_to heap here (Call f args) h =
-            let more = kept.args_more program missing slots params made current outer args heap in
-            heaped_at (at_heap heap) (at_heap (kept.after_args program missing slots params made current outer args heap)) more.0
+            let more = kept.args_more program slots params made current outer args heap in
+            heaped_at (at_heap heap) (at_heap (after_args args heap)) more.0
             (ap (λ z. at_heap z) more.1)
             (after (arguments_to heap here args h.3)
-            (λ held i. call_to set (at_heap (kept.after_args program missing slots params made current outer args heap)) h.0 f held
-            (kept.helds_fit program missing slots params made current outer (at_heap (kept.after_args program missing slots params made current outer args heap)) h.0 args held h.2 i) h.1))
+            (λ held i. call_to set (at_heap (after_args args heap)) h.0 f held
+            (kept.helds_fit program slots params made current outer (at_heap (after_args args heap))
+            h.0 args held h.2 i) h.1))
         value_to heap here (Native n args) h =
-            let more = kept.args_more program missing slots params made current outer args heap in
-            heaped_at (at_heap heap) (at_heap (kept.after_args program missing slots params made current outer args heap)) more.0
+            let more = kept.args_more program slots params made current outer args heap in
+            heaped_at (at_heap heap) (at_heap (after_args args heap)) more.0
             (ap (λ z. at_heap z) more.1)
             (after (arguments_to heap here args h.1)
-            (λ held i. native_to set (at_heap (kept.after_args program missing slots params made current outer args heap)) (name_of program n) held
-            (kept.helds_fine program missing slots params made current outer (at_heap (kept.after_args program missing slots params made current outer args heap)) args held i)))
+            (λ held i. native_to set (at_heap (after_args args heap)) (name_of program n) held
+            (kept.helds_fine program slots params made current outer
+            (at_heap (after_args args heap)) args held i)))
         value_to heap here (Seq a b) h =
             after (value_to heap here a h.0) (λ x i. value_to heap here b h.1)
 
         chain_to : (heap : List (List ℕ)) → IsHere heap → (links : Links) (x : ℤ)
             → AreValidLinks (here_scope made) links
-            → Alike {A = ℤ} (at_heap heap) (To (at_heap heap) Free)
-            (chain scene fewer links x) (gone.chain missing scene fewer' links x)
+            → AlikeIn program {A = ℤ} (at_heap heap) (To (at_heap heap) Free)
+            (chain set.scene set.fewer links x)
+            (gone.chain set.missing set.scene set.fewer' links x)
         chain_to heap here no_links x h = free x
         chain_to heap here (then_link o e f swapped links) x h =
             after (value_to heap here e h.1)
@@ -354,8 +352,9 @@ module _ (set : Setting) where
 
         chained_to : (heap : List (List ℕ)) → IsHere heap → (links : Links) (x v : ℤ)
             → AreValidLinks (here_scope made) links
-            → Alike {A = ℤ} (at_heap heap) (To (at_heap heap) Free)
-            (chained scene fewer links x v) (gone.chained missing scene fewer' links x v)
+            → AlikeIn program {A = ℤ} (at_heap heap) (To (at_heap heap) Free)
+            (chained set.scene set.fewer links x v)
+            (gone.chained set.missing set.scene set.fewer' links x v)
         chained_to heap here no_links x v h = free v
         chained_to heap here (then_link o e f swapped links) x v h =
             choose_on (is_zero v) (free (pos 0))
@@ -365,25 +364,25 @@ module _ (set : Setting) where
 
         argument_to : (heap : List (List ℕ)) → IsHere heap → (a : Arg)
             → IsValidArg (here_scope made) a
-            → Alike (at_heap heap)
-            (To (at_heap (kept.after_arg program missing slots params made current outer a heap)) (kept.HeldBy program missing slots params made current outer (at_heap (kept.after_arg program missing slots params made current outer a heap)) a))
-            (argument scene fewer a) (gone.argument missing scene fewer' a)
+            → AlikeIn program (at_heap heap)
+            (To (at_heap (after_arg a heap)) (HeldBy (at_heap (after_arg a heap)) a))
+            (argument set.scene set.fewer a) (gone.argument set.missing set.scene set.fewer' a)
         argument_to heap here (node.Value e) h =
             after (value_to heap here e h)
-            (λ v i. give_to {In = kept.HeldBy program missing slots params made current outer (at_heap heap) (node.Value e)} (Value v) tt)
+            (λ v i. give_to {In = HeldBy (at_heap heap) (node.Value e)} (Value v) tt)
         argument_to heap here (Ref p) h =
-            after (place_to heap here p h.1) (λ at i. refers_to missing at i.0 (i.1 h.0))
+            after (place_to heap here p h.1) (λ at i. refers_to set.missing at i.0 (i.1 h.0))
         argument_to heap here (Whole a) h =
             after (array_to heap here a h)
-            (λ r i. give_to {In = kept.HeldBy program missing slots params made current outer (at_heap heap) (Whole a)} (Refers r) i)
+            (λ r i. give_to {In = HeldBy (at_heap heap) (Whole a)} (Refers r) i)
         argument_to heap here (Temp e) h =
             let l = at_heap heap in
             let k = at_heap (grown heap) in
             after (value_to heap here e h) (λ v i. after
-            (look_to missing {In = λ n. n ≡ length heap} (λ m. Some (length m.heap))
-            (λ m g. (length m.heap, refl, found.heap_count objects_here states_here l m g)))
-            (λ n j. after (change_to missing k (λ m. Some (with_temporary v m))
-            (λ m g. (with_temporary v m, refl, found.grows objects_here states_here l m v g)))
+            (look_to set.missing {In = λ n. n ≡ length heap} (λ m. Some (length m.heap))
+            (λ m g. (length m.heap, refl, found.heap_count program l m g)))
+            (λ n j. after (change_to set.missing k (λ m. Some (with_temporary v m))
+            (λ m g. (with_temporary v m, refl, found.grows program l m v g)))
             (λ x o. give_to {In = IsSingle k} (Refers (to_cell (memory.Temporary n) 0)) (
               refl,
               record {
@@ -395,38 +394,42 @@ module _ (set : Setting) where
 
         arguments_to : (heap : List (List ℕ)) → IsHere heap → (args : Args)
             → AreValidArgs (here_scope made) args
-            → Alike (at_heap heap)
-            (To (at_heap (kept.after_args program missing slots params made current outer args heap)) (kept.HeldsBy program missing slots params made current outer (at_heap (kept.after_args program missing slots params made current outer args heap)) args))
-            (arguments scene fewer args) (gone.arguments missing scene fewer' args)
-        arguments_to heap here no_args h = give_to {In = kept.HeldsBy program missing slots params made current outer (at_heap heap) no_args} [] tt
+            → AlikeIn program (at_heap heap)
+            (To (at_heap (after_args args heap)) (HeldsBy (at_heap (after_args args heap)) args))
+            (arguments set.scene set.fewer args)
+            (gone.arguments set.missing set.scene set.fewer' args)
+        arguments_to heap here no_args h = give_to {In = HeldsBy (at_heap heap) no_args} [] tt
         arguments_to heap here (then_arg a args) h =
-            let behind_others = kept.after_args program missing slots params made current outer args heap in
-            let some = kept.args_more program missing slots params made current outer args heap in
-            let one = kept.arg_more program missing slots params made current outer a behind_others in
+            let behind_others = after_args args heap in
+            let some = kept.args_more program slots params made current outer args heap in
+            let one = kept.arg_more program slots params made current outer a behind_others in
             let now =
-            here_stays objects_here states_here slots params made current outer heap behind_others
-            (kept.stays_by program missing slots params made current outer heap behind_others some.0 some.1) here in
+            here_stays program slots params made current outer heap behind_others
+            (kept.stays_by program slots params made current outer heap behind_others some.0 some.1)
+            here in
             after (arguments_to heap here args h.1)
             (λ others i. after (argument_to behind_others now a h.0)
             (λ first j. give_to
-            {In = kept.HeldsBy program missing slots params made current outer (at_heap (kept.after_arg program missing slots params made current outer a behind_others)) (then_arg a args)}
+            {In = HeldsBy (at_heap (after_arg a behind_others)) (then_arg a args)}
             (first ∷ others) (
               j,
-              kept.helds_stay program missing slots params made current outer (at_heap behind_others) (at_heap (kept.after_arg program missing slots params made current outer a behind_others)) args others
-                  (kept.stays_by program missing slots params made current outer behind_others (kept.after_arg program missing slots params made current outer a behind_others) one.0 one.1) i,
+              kept.helds_stay program slots params made current outer (at_heap behind_others)
+                  (at_heap (after_arg a behind_others)) args others
+                  (kept.stays_by program slots params made current outer behind_others
+                  (after_arg a behind_others) one.0 one.1) i,
             )))
 
       pub condition_to : (heap : List (List ℕ)) → IsHere heap → (c : Perhaps)
           → IsValidPerhaps (here_scope made) c
-          → Alike {A = ℤ} (at_heap heap) (To (at_heap heap) Free)
-          (condition scene fewer c) (gone.condition missing scene fewer' c)
+          → AlikeIn program {A = ℤ} (at_heap heap) (To (at_heap heap) Free)
+          (condition set.scene set.fewer c) (gone.condition set.missing set.scene set.fewer' c)
       condition_to heap here Absent h = free (pos 1)
       condition_to heap here (Present e) h = value_to heap here e h
 
       pub perhaps_to : (heap : List (List ℕ)) → IsHere heap → (c : Perhaps)
           → IsValidPerhaps (here_scope made) c
-          → Alike {A = Done} (at_heap heap) (To (at_heap heap) Free)
-          (perhaps scene fewer c) (gone.perhaps missing scene fewer' c)
+          → AlikeIn program {A = Done} (at_heap heap) (To (at_heap heap) Free)
+          (perhaps set.scene set.fewer c) (gone.perhaps set.missing set.scene set.fewer' c)
       perhaps_to heap here Absent h = free done
       perhaps_to heap here (Present e) h =
           after (value_to heap here e h) (λ x i. free done)

@@ -1,12 +1,11 @@
 -- What stands behind the tables of a valid program changes no run: one line a node.
 use Rattle.std.proofs.Common.{◌≡◌, ◌∙◌, ◌++◌, ◌<◌, ◌*◌, ℕ, zero, suc, ℤ, pos, List, [], ◌∷◌, Bool}
 use Rattle.std.proofs.Common.{true}
-use Rattle.std.proofs.Common.{false, Option, None, Some, All, IfSome, length, slice_get, refl, sym}
-use Rattle.std.proofs.Common.{ap, subst, arith, length-append, append-nil, if◌then◌else◌}
+use Rattle.std.proofs.Common.{false, Option, None, Some, IfSome, length, slice_get, refl, sym}
+use Rattle.std.proofs.Common.{ap, subst, arith, length-append, if◌then◌else◌}
 use Rattle.std.proofs.lemmas.Option.{slice_get_within, slice_get-get_or, get_or_from_slice_get}
 use Rattle.std.proofs.lemmas.Option.{unwrap_or-slice_get}
 use Rattle.std.proofs.lemmas.List.{get_or_append_left}
-use Rattle.std.proofs.lemmas.List.Elements.{All-get_or}
 use Rattle.host_script.specs.declared.script.Script.{Script}
 use Rattle.host_script.specs.declared.event.End.{End}
 use Rattle.host_script.specs.declared.event.End.TheVariants as end
@@ -73,19 +72,12 @@ use Rattle.meaning_laws.specs.NumbersAreInRange.{NumbersAreInRange, with_tables}
 use Rattle.meaning_laws.proofs.Besides.{beside, NameFits, SlotsFit, FramesFit, PlaceFits, HeldFits}
 use Rattle.meaning_laws.proofs.Besides.{AllHeldFit, Fits, Kept, front_get, through_fits}
 use Rattle.meaning_laws.proofs.Besides.{object_same}
-use Rattle.meaning_laws.proofs.Besides.{read_same, write_kept, copied_kept, whole_fits, made_kept}
-use Rattle.meaning_laws.proofs.Besides.{temporary_kept, cut_kept, switched_kept}
+use Rattle.meaning_laws.proofs.Besides.{refit, read_same, write_kept, copied_kept, whole_fits}
+use Rattle.meaning_laws.proofs.Besides.{made_kept, temporary_kept, cut_kept, switched_kept}
+use Rattle.meaning_laws.proofs.ValidParts.{if_there, past_none, scope, valid_body, next_pass}
 use Rattle.meaning_laws.proofs.NativeBesides.{CalledFits, native_fits, native_seen, writes_kept}
 
 -- ---- lists
-
--- what holds of all holds of one that is there
-if_there : {X : Type 0} (P : X → Type 0) (xs : List X) (i : ℕ) → All P xs
-    → (o : Option X) → slice_get xs i ≡ o → IfSome o P
-if_there P xs i all None e = tt
-if_there P xs i all (Some x) e =
-    subst P (get_or_from_slice_get xs i x x e)
-    (All-get_or P xs i x (slice_get_within xs i x e) all)
 
 -- what is there stays there with more behind it
 there_too : {X : Type 0} (xs ys : List X) (i : ℕ) (x : X) → slice_get xs i ≡ Some x
@@ -95,11 +87,6 @@ there_too xs ys i x e =
     let both = length-append xs ys in
     slice_get-get_or (xs ++ ys) i x (omega (arith, within, both))
     ∙ ap Some (get_or_append_left xs ys x i within ∙ get_or_from_slice_get xs i x x e)
-
--- below the length something is there
-past_none : {X : Type 0} (xs : List X) (i : ℕ) → i < length xs → slice_get xs i ≡ None → ⊥
-past_none [] i h e = absurd (omega (arith, h))
-past_none (x ∷ xs) i h e = absurd (cc (slice_get-get_or (x ∷ xs) i x h, e))
 
 -- ---- runs of a valid program, and of it with more behind its tables
 
@@ -246,11 +233,8 @@ module _ (program : Program) (valid : IsValid program) (extra : Program) (script
     at = λ w h. (
       refl,
       tt,
-      record {
-        objects_count = h.objects_count;
-        states_count = h.states_count;
-        frames_fit = (f, h.frames_fit);
-      },
+      refit count states behind_objects behind_states w.memory (frame ∷ w.memory.frames)
+          (f, h.frames_fit) h,
     );
   }
 
@@ -265,11 +249,8 @@ module _ (program : Program) (valid : IsValid program) (extra : Program) (script
     at = λ w h. (
       refl,
       tt,
-      record {
-        objects_count = h.objects_count;
-        states_count = h.states_count;
-        frames_fit = but_first_fits w.memory.frames h.frames_fit;
-      },
+      refit count states behind_objects behind_states w.memory (but_first w.memory.frames)
+          (but_first_fits w.memory.frames h.frames_fit) h,
     );
   }
 
@@ -380,33 +361,13 @@ module _ (program : Program) (valid : IsValid program) (extra : Program) (script
   frame_fit (Value v ∷ held) n f = (tt, frame_fit held n f.1)
   frame_fit (Refers r ∷ held) n f = (f.0, frame_fit held n f.1)
 
-  abbrev scope : List Slot → ℕ → List ℕ → Scope
-  scope slots params made =
-      record { program = program; slots = slots; params = params; made = made }
-
   -- valid statements with one turn less do the same
   abbrev Again : Fewer → Fewer → Type 0
   Again fewer fewer' = (slots : List Slot) (params : ℕ) (made : List ℕ) (in_loop in_list : Bool)
-      (s : Stmt) → IsValidStmt (scope slots params made) in_loop in_list s
+      (s : Stmt) → IsValidStmt (scope program slots params made) in_loop in_list s
       → Same Free (fewer s) (fewer' s)
 
   -- ---- bodies
-
-  valid_routed : (bodies : List Body) (function : Function) (params : List Slot)
-      (number : Option ℕ) → All (IsValidBody program params) function.bodies
-      → IfSome (body_at function number) (IsValidBody program params)
-  valid_routed bodies function params None all = tt
-  valid_routed bodies function params (Some n) all =
-      if_there (IsValidBody program params) function.bodies n all (slice_get function.bodies n) refl
-
-  valid_body : (function : Function) (params : List Slot) (dispatch : Option Route) (m : Memory)
-      → All (IsValidBody program params) function.bodies
-      → IfSome (body_by function dispatch m) (IsValidBody program params)
-  valid_body function params None m all =
-      if_there (IsValidBody program params) function.bodies 0 all (slice_get function.bodies 0) refl
-  valid_body function params (Some route) m all =
-      valid_routed function.bodies function params
-      (routed route (slice_get m.states route.automaton)) all
 
   -- the same body serves the state
   body_same_by : (function : Function) (dispatch : Option Route) (m : Memory)
@@ -444,7 +405,7 @@ module _ (program : Program) (valid : IsValid program) (extra : Program) (script
           ((framed_same (frame_of f function held body)
           (frame_fit held (slots_of body - length held) fits)
           (body_same function.params body
-          (valid_body function function.params function.dispatch w.memory it.bodies))).at w h);
+          (valid_body program function function.params function.dispatch w.memory it.bodies))).at w h);
     }
 
     -- ---- calls
@@ -553,7 +514,7 @@ module _ (program : Program) (valid : IsValid program) (extra : Program) (script
 
     module _ (slots : List Slot) (params : ℕ) where
       abbrev here : List ℕ → Scope
-      here made = scope slots params made
+      here made = scope program slots params made
 
       converted_same : (made : List ℕ) (convert : Option ℕ) (v : ℤ)
           → IfSome convert (IsOperator (here made) 1)
@@ -708,17 +669,6 @@ module _ (program : Program) (valid : IsValid program) (extra : Program) (script
         perhaps_same Absent h = free done
         perhaps_same (Present e) h = after_same (value_same e h) (λ _ i. free done)
 
-      -- a loop's next pass, in the scope behind what it does first
-      next_pass : (made : List ℕ) (in_loop in_list : Bool) (c step : Perhaps) (s : Stmt)
-          → IsValidPerhaps (here made) c → IsValidPerhaps (here made) step
-          → IsValidStmt (here made) true false s
-          → IsValidStmt (here made) in_loop in_list (For no_stmts c step s)
-      next_pass made in_loop in_list c step s hc hstep hs =
-          let P : List ℕ → Type 0 = λ l. IsValidPerhaps (here l) c × IsValidPerhaps (here l) step
-          × IsValidStmt (here l) true false s in
-          let all = subst P (sym (append-nil made)) (hc, hstep, hs) in
-          (tt, all.0, all.1, all.2)
-
       mutual
         run_same : (made : List ℕ) (in_loop in_list : Bool) (s : Stmt)
             → IsValidStmt (here made) in_loop in_list s
@@ -759,7 +709,7 @@ module _ (program : Program) (valid : IsValid program) (extra : Program) (script
             (λ _ k. after_same (run_same inner true false s h.3)
             (λ way j. again_same way (after_same (perhaps_same inner step h.2)
             (λ _ k. behind slots params inner in_loop in_list (For no_stmts c step s)
-            (next_pass inner in_loop in_list c step s h.1 h.2 h.3)))))))))
+            (next_pass program slots params inner in_loop in_list c step s h.1 h.2 h.3)))))))))
         run_same made in_loop in_list (Switch e cases d) h =
             after_same (value_same made e h.0)
             (λ v i. run_case_same made in_loop cases (run_else_same made in_loop d h.2) v h.1)

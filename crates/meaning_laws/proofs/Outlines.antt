@@ -2,11 +2,12 @@
 -- may change xs they like.
 use Rattle.std.proofs.Common.{◌≡◌, ◌∙◌, ◌++◌, ◌==◌, ℕ, zero, suc}
 use Rattle.std.proofs.Common.{List, [], ◌∷◌, Bool, true, false, Option, None, Some, length}
-use Rattle.std.proofs.Common.{slice_get, take}
+use Rattle.std.proofs.Common.{slice_get, take, map}
 use Rattle.std.proofs.Common.{refl, sym, ap, subst}
 use Rattle.std.proofs.Common.{if◌then◌else◌}
 use Rattle.std.specs.Prelude.{slice_set}
 use Rattle.pawn_arrays.specs.Sizes.{elements_in}
+use Rattle.pawn_meaning.specs.Program.{StaticObject, Program}
 use Rattle.pawn_meaning.specs.Memory.{Object, Name, Static, Local, Temporary, Reference, Holds}
 use Rattle.pawn_meaning.specs.Memory.{Owns}
 use Rattle.pawn_meaning.specs.Memory.{PointsTo, Unmade, Frame, Memory, frame_at, with_frame_at}
@@ -189,9 +190,18 @@ frame_put (d ∷ drawn) (frame ∷ frames) below other h =
     (put_by (length drawn == below) d drawn (frame_in drawn below) other frame frames
     (with_frame_at frames below other) h.0 h.1 (frame_put drawn frames below other h.1))
 
--- ---- memories of an outline: a program has objects of these sizes, and so many automata
+-- ---- memories of an outline: with a program's objects and automata
 
-module _ (objects : List (List ℕ)) (states : ℕ) where
+abbrev pub sizes_of : StaticObject → List ℕ
+sizes_of it = it.sizes
+
+module _ (program : Program) where
+  abbrev pub objects : List (List ℕ)
+  objects = map sizes_of program.objects
+
+  abbrev pub states : ℕ
+  states = length program.automata
+
   abbrev pub sizes_at : Outline → Name → Option (List ℕ)
   sizes_at l (Static o) = slice_get objects o
   sizes_at l (Local below s) = kept_in (drawn_in (frame_in l.frames below) s)

@@ -10,9 +10,8 @@ use Rattle.std.proofs.Common.{append_assoc}
 use Rattle.std.proofs.lemmas.Option.{slice_get_within, slice_get-map}
 use Rattle.host_script.specs.declared.event.End.TheVariants as end
 use Rattle.host_script.specs.declared.event.Event.TheVariants as event
-use Rattle.host_script.specs.NativeCall.{Trap}
 use Rattle.pawn_cells.specs.Cells.{cell_of, is_zero}
-use Rattle.pawn_meaning.specs.Program.{Perhaps, Stmt, Block, Local}
+use Rattle.pawn_meaning.specs.Program.{Stmt, Block, Local}
 use Rattle.pawn_meaning.specs.Program.{LocalArray, Do, If, While, DoWhile, For, Switch, Return}
 use Rattle.pawn_meaning.specs.Program.{Break, Continue, Exit, Sleep, Assert, State, Empty, Else}
 use Rattle.pawn_meaning.specs.Program.{no_else, otherwise, Cases, no_cases, then_case, Stmts}
@@ -24,17 +23,16 @@ use Rattle.pawn_meaning.specs.Memory.{Memory, Static}
 use Rattle.pawn_meaning.specs.Memory.{one_cell}
 use Rattle.pawn_meaning.specs.Memory.{made}
 use Rattle.pawn_meaning.specs.Memory.{switched, object_at}
-use Rattle.pawn_meaning.specs.Run.{Outcome, Run, ◌>>=◌}
+use Rattle.pawn_meaning.specs.Run.{Run, ◌>>=◌}
 use Rattle.pawn_meaning.specs.Run.{give}
 use Rattle.pawn_meaning.specs.Run.{change}
 use Rattle.pawn_meaning.specs.Calls.{Way, Through, Broke, Continued, Returned, pass, again}
 use Rattle.pawn_meaning.specs.Calls.{enter_of, entry_for}
-use Rattle.pawn_meaning.specs.Meaning.{Scene, Fewer, in_ranges}
+use Rattle.pawn_meaning.specs.Meaning.{in_ranges}
 use Rattle.pawn_meaning.specs.Meaning.{call_entry}
 use Rattle.pawn_meaning.specs.Meaning.{run, run_else, run_case, run_all}
 use Rattle.pawn_meaning.specs.Scope.{Scope}
 use Rattle.pawn_meaning.specs.ValidExprs.{Takes}
-use Rattle.pawn_meaning.specs.ValidExprs.{IsValidPerhaps}
 use Rattle.pawn_meaning.specs.ValidStmts.{IsValidStmt, IsValidElse, AreValidCases, AreValidStmts}
 use Rattle.pawn_meaning.specs.ValidStmts.{slots_made, slots_made_by}
 use Rattle.pawn_meaning.specs.Valid.{IsValidAutomaton}
@@ -42,7 +40,7 @@ use Rattle.meaning_laws.specs.Missing.{change_or}
 use Rattle.meaning_laws.specs.MeaningWith as gone
 use Rattle.meaning_laws.proofs.Outlines.{Drawn, Keeps, ObjectIs}
 use Rattle.meaning_laws.proofs.Outlines.{Outline}
-use Rattle.meaning_laws.proofs.Outlines.{Has, alive}
+use Rattle.meaning_laws.proofs.Outlines.{alive}
 use Rattle.meaning_laws.proofs.Accesses as found
 use Rattle.meaning_laws.proofs.Accesses.{lay}
 use Rattle.meaning_laws.proofs.Typings.{LocalFits}
@@ -50,43 +48,18 @@ use Rattle.meaning_laws.proofs.Typings.{Here}
 use Rattle.meaning_laws.proofs.Typings.{here_weaker}
 use Rattle.meaning_laws.proofs.Typings.{within}
 use Rattle.meaning_laws.proofs.Typings.{here_made}
-use Rattle.meaning_laws.proofs.CallNodes.{objects, states, sizes_of, scope, Left, made_by, if_there, Setting}
+use Rattle.meaning_laws.proofs.Outlines.{objects, sizes_of}
+use Rattle.meaning_laws.proofs.ValidParts.{if_there, scope, next_pass}
+use Rattle.meaning_laws.proofs.CallNodes.{Left, made_by, Setting}
 use Rattle.meaning_laws.proofs.CallNodes.{entry_to}
 use Rattle.meaning_laws.proofs.Nodes.{value_to, condition_to, perhaps_to}
-use Rattle.meaning_laws.proofs.Steps.{RelIn, AlikeIn, then_on, after, give_on, stop_on, relax}
+use Rattle.meaning_laws.proofs.Steps.{AlikeIn, then_on, after, give_on, stop_on, relax}
 use Rattle.meaning_laws.proofs.Steps.{choose_on, turn_to, say_to, look_to, change_to}
 
 module _ (set : Setting) (slots : List Slot) (params : ℕ)
     (outer : List (List Drawn)) (heap : List (List ℕ)) where
   abbrev program : Program
-  program = set.program
-
-  abbrev missing : Trap
-  missing = set.missing
-
-  abbrev fewer : Fewer
-  fewer = set.fewer
-
-  abbrev fewer' : Fewer
-  fewer' = set.fewer'
-
-  abbrev scene : Scene
-  scene = record { program = set.program; script = set.script; limit = set.limit }
-
-  abbrev objects_here : List (List ℕ)
-  objects_here = objects program
-
-  abbrev states_here : ℕ
-  states_here = states program
-
-  abbrev Known : Outline → Memory → Type 0
-  Known l m = Has objects_here states_here l m
-
-  abbrev Rel : {A : Type 0} → (Outline → A → Type 0) → Outcome A → Outcome A → Type 0
-  Rel Out o r = RelIn objects_here states_here Out o r
-
-  abbrev Alike : {A : Type 0} → Outline → (Outline → A → Type 0) → Run A → Run A → Type 0
-  Alike l Out c d = AlikeIn objects_here states_here l Out c d
+  program = set.scene.program
 
   abbrev here_scope : List ℕ → Scope
   here_scope made = scope program slots params made
@@ -95,12 +68,12 @@ module _ (set : Setting) (slots : List Slot) (params : ℕ)
   IsLeft made new k way = Left program slots params made new outer heap k way
 
   abbrev IsFrame : List ℕ → List Drawn → Type 0
-  IsFrame made current = Here objects_here states_here slots params made current outer heap
+  IsFrame made current = Here program slots params made current outer heap
 
   weaker : (made new : List ℕ) (current : List Drawn) → IsFrame (made ++ new) current
       → IsFrame made current
   weaker made new current h =
-      here_weaker objects_here states_here slots params made new current outer heap h
+      here_weaker program slots params made new current outer heap h
 
   weaker_by : (made new : List ℕ) (current : List Drawn) (way : Way)
       → IsFrame (made_by made new way) current → IsFrame made current
@@ -122,7 +95,7 @@ module _ (set : Setting) (slots : List Slot) (params : ℕ)
   left_still made current way h = (current, refl, still made current way h)
 
   give_still : (made : List ℕ) (current : List Drawn) (way : Way) → IsFrame made current
-      → Alike (lay current outer heap) (IsLeft made []) (give way) (give way)
+      → AlikeIn program (lay current outer heap) (IsLeft made []) (give way) (give way)
   give_still made current way h = give_on way (left_still made current way h)
 
   -- what a block made is out of force behind it
@@ -156,26 +129,27 @@ module _ (set : Setting) (slots : List Slot) (params : ℕ)
   joined made new more k way h = (h.0, h.1, joined_by made new more h.0 way h.2)
 
   then_left : {B : Type 0} {l : Outline} {Out : Outline → B → Type 0} (made new : List ℕ)
-      {c d : Run Way} {go go' : Way → Run B} → Alike l (IsLeft made new) c d
+      {c d : Run Way} {go go' : Way → Run B} → AlikeIn program l (IsLeft made new) c d
       → ((way : Way) (current : List Drawn) → IsFrame (made_by made new way) current
-      → Alike (lay current outer heap) Out (go way) (go' way))
-      → Alike l Out (c >>= go) (d >>= go')
+      → AlikeIn program (lay current outer heap) Out (go way) (go' way))
+      → AlikeIn program l Out (c >>= go) (d >>= go')
   then_left {Out = Out} made new {go = go} {go' = go'} first rest =
-      then_on first (λ k way i. subst (λ z. Alike z Out (go way) (go' way)) (sym i.1)
+      then_on first (λ k way i. subst (λ z. AlikeIn program z Out (go way) (go' way)) (sym i.1)
       (rest way i.0 i.2))
 
   pass_left : (made new more : List ℕ) (way : Way) (current : List Drawn)
       → IsFrame (made_by made new way) current → {c d : Run Way}
-      → (IsFrame (made ++ new) current → Alike (lay current outer heap) (IsLeft made more) c d)
-      → Alike (lay current outer heap) (IsLeft made more) (pass way c) (pass way d)
+      → (IsFrame (made ++ new) current
+      → AlikeIn program (lay current outer heap) (IsLeft made more) c d)
+      → AlikeIn program (lay current outer heap) (IsLeft made more) (pass way c) (pass way d)
   pass_left made new more Through current h s = s h
   pass_left made new more Broke current h s = give_on Broke (current, refl, h)
   pass_left made new more Continued current h s = give_on Continued (current, refl, h)
   pass_left made new more (Returned v) current h s = give_on (Returned v) (current, refl, h)
 
   again_left : (made : List ℕ) (way : Way) (current : List Drawn) → IsFrame made current
-      → {c d : Run Way} → Alike (lay current outer heap) (IsLeft made []) c d
-      → Alike (lay current outer heap) (IsLeft made []) (again way c) (again way d)
+      → {c d : Run Way} → AlikeIn program (lay current outer heap) (IsLeft made []) c d
+      → AlikeIn program (lay current outer heap) (IsLeft made []) (again way c) (again way d)
   again_left made Through current h s = s
   again_left made Broke current h s = give_still made current Through h
   again_left made Continued current h s = s
@@ -189,37 +163,27 @@ module _ (set : Setting) (slots : List Slot) (params : ℕ)
   -- a slot is made
   made_left : (made : List ℕ) (current : List Drawn) → IsFrame made current → (s : ℕ) (kind : Slot)
       (z : List ℕ) → slice_get slots s ≡ Some kind → params ≤ s
-      → LocalFits objects_here states_here kind (Keeps z) → (object : memory.Object) → ObjectIs z object
-      → Alike (lay current outer heap) (IsLeft made (s ∷ []))
+      → LocalFits program kind (Keeps z) → (object : memory.Object) → ObjectIs z object
+      → AlikeIn program (lay current outer heap) (IsLeft made (s ∷ []))
       (change (memory.made s object) >>= (λ _. give Through))
-      (change_or missing (memory.made s object) >>= (λ _. give Through))
+      (change_or set.missing (memory.made s object) >>= (λ _. give Through))
   made_left made current h s kind z is low fits object it =
-      after (change_to missing (lay (slice_set current s (Keeps z)) outer heap) (memory.made s object)
-      (λ m g. found.is_made objects_here states_here current outer heap m s z object g
-      (within objects_here states_here slots params made current outer heap h s kind z is low fits) it))
+      after (change_to set.missing (lay (slice_set current s (Keeps z)) outer heap)
+      (memory.made s object)
+      (λ m g. found.is_made program current outer heap m s z object g
+      (within program slots params made current outer heap h s kind z is low fits) it))
       (λ x i. give_on Through (
         slice_set current s (Keeps z),
         refl,
-        here_made objects_here states_here slots params made current outer heap h s kind z is low fits,
+        here_made program slots params made current outer heap h s kind z is low fits,
       ))
-
-  -- a loop's next pass, in the scope behind what it does first
-  next_pass : (made : List ℕ) (in_loop in_list : Bool) (c step : Perhaps) (s : Stmt)
-      → IsValidPerhaps (here_scope made) c → IsValidPerhaps (here_scope made) step
-      → IsValidStmt (here_scope made) true false s
-      → IsValidStmt (here_scope made) in_loop in_list (For no_stmts c step s)
-  next_pass made in_loop in_list c step s hc hstep hs =
-      let P : List ℕ → Type 0 = λ l. IsValidPerhaps (here_scope l) c × IsValidPerhaps (here_scope l) step
-      × IsValidStmt (here_scope l) true false s in
-      let all = subst P (sym (append-nil made)) (hc, hstep, hs) in
-      (tt, all.0, all.1, all.2)
 
   entered_by : (automaton state : ℕ) (made : List ℕ) (current : List Drawn) → IsFrame made current
       → (it : Automaton) → slice_get program.automata automaton ≡ Some it
-      → Alike (lay current outer heap) (IsLeft made [])
-      (call_entry scene fewer (entry_for program automaton state
+      → AlikeIn program (lay current outer heap) (IsLeft made [])
+      (call_entry set.scene set.fewer (entry_for program automaton state
       (enter_of (slice_get program.automata automaton))))
-      (gone.call_entry missing scene fewer' (entry_for program automaton state
+      (gone.call_entry set.missing set.scene set.fewer' (entry_for program automaton state
       (enter_of (slice_get program.automata automaton))))
   entered_by automaton state made current h it e =
       relax (entry_to set (lay current outer heap) automaton state
@@ -234,8 +198,8 @@ module _ (set : Setting) (slots : List Slot) (params : ℕ)
     pub run_to : (made : List ℕ) (in_loop in_list : Bool) (s : Stmt)
         → IsValidStmt (here_scope made) in_loop in_list s → (current : List Drawn)
         → IsFrame made current
-        → Alike (lay current outer heap) (IsLeft made (slots_made s))
-        (run scene fewer s) (gone.run missing scene fewer' s)
+        → AlikeIn program (lay current outer heap) (IsLeft made (slots_made s))
+        (run set.scene set.fewer s) (gone.run set.missing set.scene set.fewer' s)
     run_to made in_loop in_list (Block stmts) h current here =
         relax (run_all_to made in_loop stmts h current here) (forget made (slots_made_by stmts))
     run_to made in_loop in_list (Local s e) h current here =
@@ -244,10 +208,10 @@ module _ (set : Setting) (slots : List Slot) (params : ℕ)
         (refl, refl))
     run_to made in_loop in_list (LocalArray s o) h current here =
         let z = h.1.object.sizes in
-        let there : slice_get objects_here o ≡ Some z =
-        slice_get-map (sizes_of program) program.objects o ∙ ap (option_map (sizes_of program)) h.1.there in
-        after (look_to missing {In = ObjectIs z} (λ m. object_at m (Static o))
-        (λ m g. alive objects_here states_here (lay current outer heap) m (Static o) z g there))
+        let there : slice_get (objects program) o ≡ Some z =
+        slice_get-map (sizes_of) program.objects o ∙ ap (option_map (sizes_of)) h.1.there in
+        after (look_to set.missing {In = ObjectIs z} (λ m. object_at m (Static o))
+        (λ m g. alive program (lay current outer heap) m (Static o) z g there))
         (λ object i. made_left made current here s (ArraySlot z) z h.1.slot h.1.local refl object i)
     run_to made in_loop in_list (Do e) h current here =
         after (value_to set slots params made current outer heap here e h)
@@ -259,13 +223,13 @@ module _ (set : Setting) (slots : List Slot) (params : ℕ)
     run_to made in_loop in_list (While c s) h current here =
         after (value_to set slots params made current outer heap here c h.0)
         (λ v i. choose_on (is_zero v) (give_still made current Through here)
-        (after (turn_to set.limit) (λ x k. then_left made (slots_made s)
+        (after (turn_to set.scene.limit) (λ x k. then_left made (slots_made s)
         (run_to made true false s h.1 current here)
         (λ way next g. let now = weaker_by made (slots_made s) next way g in
         again_left made way next now
         (set.behind slots params made in_loop in_list (While c s) h next outer heap now)))))
     run_to made in_loop in_list (DoWhile s c) h current here =
-        after (turn_to set.limit) (λ x k. then_left made (slots_made s)
+        after (turn_to set.scene.limit) (λ x k. then_left made (slots_made s)
         (run_to made true false s h.0 current here)
         (λ way next g. let now = weaker_by made (slots_made s) next way g in
         again_left made way next now
@@ -279,13 +243,14 @@ module _ (set : Setting) (slots : List Slot) (params : ℕ)
         (λ way next g. pass_left made new [] way next g
         (λ now. after (condition_to set slots params inner next outer heap now c h.1)
         (λ v i. choose_on (is_zero v) (give_still made next Through (weaker made new next now))
-        (after (turn_to set.limit) (λ x k. then_left inner (slots_made s)
+        (after (turn_to set.scene.limit) (λ x k. then_left inner (slots_made s)
         (run_to inner true false s h.3 next now)
         (λ end_way last f. let then_now = weaker_by inner (slots_made s) last end_way f in
         again_left made end_way last (weaker made new last then_now)
         (after (perhaps_to set slots params inner last outer heap then_now step h.2)
         (λ y j. relax (set.behind slots params inner in_loop in_list (For no_stmts c step s)
-        (next_pass inner in_loop in_list c step s h.1 h.2 h.3) last outer heap then_now)
+        (next_pass program slots params inner in_loop in_list c step s h.1 h.2 h.3) last outer heap
+        then_now)
         (forget_more made new [])))))))))
     run_to made in_loop in_list (Switch e cases d) h current here =
         after (value_to set slots params made current outer heap here e h.0)
@@ -311,26 +276,27 @@ module _ (set : Setting) (slots : List Slot) (params : ℕ)
         let l = lay current outer heap in
         after (condition_to set slots params made current outer heap here c h.1)
         (λ v i. choose_on (is_zero v) (give_still made current Through here)
-        (after (change_to missing l (switched automaton state)
-        (λ m g. found.switches objects_here states_here l m automaton state
+        (after (change_to set.missing l (switched automaton state)
+        (λ m g. found.switches program l m automaton state
         (slice_get_within program.automata automaton h.0.it h.0.there) g))
         (λ x k. entered_by automaton state made current here h.0.it h.0.there)))
     run_to made in_loop in_list Empty h current here = give_still made current Through here
 
     run_else_to : (made : List ℕ) (in_loop : Bool) (b : Else)
         → IsValidElse (here_scope made) in_loop b → (current : List Drawn) → IsFrame made current
-        → Alike (lay current outer heap) (IsLeft made [])
-        (run_else scene fewer b) (gone.run_else missing scene fewer' b)
+        → AlikeIn program (lay current outer heap) (IsLeft made [])
+        (run_else set.scene set.fewer b) (gone.run_else set.missing set.scene set.fewer' b)
     run_else_to made in_loop no_else h current here = give_still made current Through here
     run_else_to made in_loop (otherwise s) h current here =
         relax (run_to made in_loop false s h current here) (forget made (slots_made s))
 
     run_case_to : (made : List ℕ) (in_loop : Bool) (cases : Cases) (current : List Drawn)
         → IsFrame made current → {d d' : Run Way}
-        → Alike (lay current outer heap) (IsLeft made []) d d' → (v : ℤ)
+        → AlikeIn program (lay current outer heap) (IsLeft made []) d d' → (v : ℤ)
         → AreValidCases (here_scope made) in_loop cases
-        → Alike (lay current outer heap) (IsLeft made [])
-        (run_case scene fewer cases d v) (gone.run_case missing scene fewer' cases d' v)
+        → AlikeIn program (lay current outer heap) (IsLeft made [])
+        (run_case set.scene set.fewer cases d v)
+        (gone.run_case set.missing set.scene set.fewer' cases d' v)
     run_case_to made in_loop no_cases current here s v h = s
     run_case_to made in_loop (then_case ranges s cases) current here other v h =
         choose_on (in_ranges ranges v)
@@ -340,8 +306,8 @@ module _ (set : Setting) (slots : List Slot) (params : ℕ)
     run_all_to : (made : List ℕ) (in_loop : Bool) (stmts : Stmts)
         → AreValidStmts (here_scope made) in_loop stmts → (current : List Drawn)
         → IsFrame made current
-        → Alike (lay current outer heap) (IsLeft made (slots_made_by stmts))
-        (run_all scene fewer stmts) (gone.run_all missing scene fewer' stmts)
+        → AlikeIn program (lay current outer heap) (IsLeft made (slots_made_by stmts))
+        (run_all set.scene set.fewer stmts) (gone.run_all set.missing set.scene set.fewer' stmts)
     run_all_to made in_loop no_stmts h current here = give_still made current Through here
     run_all_to made in_loop (then_stmt s stmts) h current here =
         then_left made (slots_made s) (run_to made in_loop true s h.0 current here)

@@ -10,7 +10,8 @@ use Rattle.std.proofs.lemmas.Bool.{cases_lt}
 use Rattle.std.proofs.lemmas.Nat.{mul-le}
 use Rattle.std.proofs.lemmas.Option.{slice_get_within}
 use Rattle.pawn_arrays.specs.Sizes.{elements_in}
-use Rattle.pawn_meaning.specs.Program.{Slot, ScalarSlot, ReferenceSlot, ArraySlot, OpenSlot}
+use Rattle.pawn_meaning.specs.Program.{Program, Slot, ScalarSlot, ReferenceSlot, ArraySlot}
+use Rattle.pawn_meaning.specs.Program.{OpenSlot}
 use Rattle.pawn_meaning.specs.Memory.{Static, Local, Temporary, Reference}
 use Rattle.pawn_meaning.specs.References.{first_size, other_sizes, row_at, rest_from, cell_at}
 use Rattle.pawn_meaning.specs.References.{character_at}
@@ -127,12 +128,12 @@ rest_fits None r i h = absurd h
 rest_fits (Some whole) r i h =
     (first_size r.sizes - i, ap (λ z. (first_size r.sizes - i) ∷ other_sizes z) h.1, tt)
 
-module _ (objects : List (List ℕ)) (states : ℕ) where
+module _ (program : Program) where
   abbrev Fine : Outline → Reference → Type 0
-  Fine l r = IsFine objects states l r
+  Fine l r = IsFine program l r
 
   pub line_cell : (l : Outline) (r : Reference) (size i : ℕ) → r.sizes ≡ size ∷ [] → Fine l r
-      → i < first_size r.sizes → IsPlaceOf objects states l (cell_at r i)
+      → i < first_size r.sizes → IsPlaceOf program l (cell_at r i)
   line_cell l r size i e f h =
       let inside = f.inside in
       let first : first_size r.sizes ≡ size = ap first_size e in
@@ -141,7 +142,7 @@ module _ (objects : List (List ℕ)) (states : ℕ) where
       record { sizes = f.sizes; there = f.there; inside = omega (arith, inside, first, all, h) }
 
   pub line_character : (l : Outline) (r : Reference) (size i : ℕ) → r.sizes ≡ size ∷ [] → Fine l r
-      → i < 4 * first_size r.sizes → IsPlaceOf objects states l (character_at r i)
+      → i < 4 * first_size r.sizes → IsPlaceOf program l (character_at r i)
   line_character l r size i e f h =
       let inside = f.inside in
       let first : first_size r.sizes ≡ size = ap first_size e in
@@ -174,7 +175,7 @@ module _ (objects : List (List ℕ)) (states : ℕ) where
       record { sizes = f.sizes; there = f.there; inside = omega (arith, inside, first, all, few, h) }
 
   pub single_cell : (l : Outline) (r : Reference) → r.sizes ≡ [] → Fine l r
-      → IsPlaceOf objects states l (cell_at r 0)
+      → IsPlaceOf program l (cell_at r 0)
   single_cell l r e f =
       let inside = f.inside in
       let one : elements_in r.sizes ≡ 1 = ap elements_in e in
@@ -188,14 +189,14 @@ module _ (objects : List (List ℕ)) (states : ℕ) where
   ParamFits l ScalarSlot (Leads r) = ⊥
   ParamFits l ScalarSlot Blank = ⊥
   ParamFits l ReferenceSlot (Keeps sizes) = ⊥
-  ParamFits l ReferenceSlot (Leads r) = (r.sizes ≡ []) × IsFine objects states l r
+  ParamFits l ReferenceSlot (Leads r) = (r.sizes ≡ []) × IsFine program l r
   ParamFits l ReferenceSlot Blank = ⊥
   ParamFits l (ArraySlot z) (Keeps sizes) = ⊥
-  ParamFits l (ArraySlot z) (Leads r) = (r.sizes ≡ z) × IsFine objects states l r
+  ParamFits l (ArraySlot z) (Leads r) = (r.sizes ≡ z) × IsFine program l r
   ParamFits l (ArraySlot z) Blank = ⊥
   ParamFits l (OpenSlot inner) (Keeps sizes) = ⊥
   ParamFits l (OpenSlot inner) (Leads r) =
-      ((size : ℕ) × (r.sizes ≡ size ∷ inner)) × IsFine objects states l r
+      ((size : ℕ) × (r.sizes ≡ size ∷ inner)) × IsFine program l r
   ParamFits l (OpenSlot inner) Blank = ⊥
 
   -- a local
@@ -226,22 +227,22 @@ module _ (objects : List (List ℕ)) (states : ℕ) where
         → SlotIs (lay current outer heap) params s kind (slice_get current s)
     pub owned : (s : ℕ) → IsIn s made → (sizes : List ℕ) × (slice_get current s ≡ Some (Keeps sizes))
 
-  param_stays : (l k : Outline) (kind : Slot) (drawn : Drawn) → Stays objects states l k
+  param_stays : (l k : Outline) (kind : Slot) (drawn : Drawn) → Stays program l k
       → ParamFits l kind drawn → ParamFits k kind drawn
   param_stays l k ScalarSlot (Keeps sizes) stays h = h
   param_stays l k ScalarSlot (Leads r) stays h = h
   param_stays l k ScalarSlot Blank stays h = h
   param_stays l k ReferenceSlot (Keeps sizes) stays h = h
-  param_stays l k ReferenceSlot (Leads r) stays h = (h.0, fine_stays objects states l k r stays h.1)
+  param_stays l k ReferenceSlot (Leads r) stays h = (h.0, fine_stays program l k r stays h.1)
   param_stays l k ReferenceSlot Blank stays h = h
   param_stays l k (ArraySlot z) (Keeps sizes) stays h = h
-  param_stays l k (ArraySlot z) (Leads r) stays h = (h.0, fine_stays objects states l k r stays h.1)
+  param_stays l k (ArraySlot z) (Leads r) stays h = (h.0, fine_stays program l k r stays h.1)
   param_stays l k (ArraySlot z) Blank stays h = h
   param_stays l k (OpenSlot inner) (Keeps sizes) stays h = h
-  param_stays l k (OpenSlot inner) (Leads r) stays h = (h.0, fine_stays objects states l k r stays h.1)
+  param_stays l k (OpenSlot inner) (Leads r) stays h = (h.0, fine_stays program l k r stays h.1)
   param_stays l k (OpenSlot inner) Blank stays h = h
 
-  slot_stays : (l k : Outline) (params s : ℕ) (kind : Slot) (o : Option Drawn) → Stays objects states l k
+  slot_stays : (l k : Outline) (params s : ℕ) (kind : Slot) (o : Option Drawn) → Stays program l k
       → SlotIs l params s kind o → SlotIs k params s kind o
   slot_stays l k params s kind o stays h = record {
     drawn = h.drawn;
@@ -253,7 +254,7 @@ module _ (objects : List (List ℕ)) (states : ℕ) where
   -- with more temporary arguments
   pub here_stays : (slots : List Slot) (params : ℕ) (made : List ℕ) (current : List Drawn)
       (outer : List (List Drawn)) (heap more : List (List ℕ))
-      → Stays objects states (lay current outer heap) (lay current outer more)
+      → Stays program (lay current outer heap) (lay current outer more)
       → Here slots params made current outer heap → Here slots params made current outer more
   here_stays slots params made current outer heap more stays h = record {
     typed = λ s kind e.
@@ -302,7 +303,7 @@ module _ (objects : List (List ℕ)) (states : ℕ) where
     l = lay current outer heap
 
     pub name_sizes : (s : ℕ) (sizes : List ℕ) → slice_get current s ≡ Some (Keeps sizes)
-        → sizes_at objects states l (Local (length outer) s) ≡ Some sizes
+        → sizes_at program l (Local (length outer) s) ≡ Some sizes
     name_sizes s sizes e =
         ap (λ d. kept_in (drawn_in d s)) (innermost current outer) ∙ ap kept_in e
 
@@ -399,7 +400,7 @@ module _ (objects : List (List ℕ)) (states : ℕ) where
       local_next true o t z e = kept_next t z e
       local_next false o t z e = e
 
-      pub made_stays : Stays objects states l (lay next outer heap)
+      pub made_stays : Stays program l (lay next outer heap)
       made_stays (Static o) z e = e
       made_stays (Local below t) z e = local_next (length outer == below) (frame_in outer below) t z e
       made_stays (Temporary n) z e = e
