@@ -1,8 +1,7 @@
 -- What a draft of a whole text is refused for is what the text is refused for; where it isn't, its
 -- file is listed with the text.
-use Rattle.std.proofs.Common.{◌≡◌, ◌∙◌, ◌==◌, ℕ, List, [], ◌∷◌, Bool, true, false}
-use Rattle.std.proofs.Common.{Option, None, Some, Result, Ok, Err, length, refl, sym, ap, subst}
-use Rattle.std.proofs.Common.{eqb-true}
+use Rattle.std.proofs.Common.{◌≡◌, ◌∙◌, ℕ, List, [], ◌∷◌, Bool, true, false}
+use Rattle.std.proofs.Common.{Option, None, Some, Result, Ok, Err, refl, sym, ap, subst}
 use Rattle.std.specs.List.{flat_map}
 use Rattle.std.specs.Option.{option_or}
 use Rattle.std.specs.Prelude.{if◌then◌else◌, option_map}
@@ -22,8 +21,8 @@ use Rattle.amx_text.specs.Forms.{Line, HeaderLine, RecordLine, CodeLine, Instruc
 use Rattle.amx_text.specs.Forms.{CellsLine, EndLine, Fits, may_follow}
 use Rattle.amx_text.specs.Texts.{are_in_order, AreLines}
 use Rattle.amx_text.specs.Faults.{fault_of, limit_fault, count_fault, invalid_fault, address_fault}
-use Rattle.amx_text.specs.Faults.{is_within, amx_of, code_in, store_in, fault_line, number_where}
-use Rattle.amx_text.specs.Faults.{is_data, is_end, HasFault}
+use Rattle.amx_text.specs.Faults.{is_within, amx_of, code_in, fault_line}
+use Rattle.amx_text.specs.Faults.{HasFault}
 use Rattle.amx_text.specs.Assembles.{IsAssembled, Assembles}
 use Rattle.amx_text.specs.Drafts.{puts, empty_draft, fault_by, Finishes, ReadsAll, ReadsLines}
 use Rattle.amx_text.proofs.LinesOf.{lines_behind}
@@ -31,7 +30,8 @@ use Rattle.amx_text.proofs.SaidLaws.{code_of_lines}
 use Rattle.amx_text.proofs.PlacedLaws.{are_placed_at}
 use Rattle.amx_text.proofs.WholeLaws.{Tail}
 use Rattle.amx_text.proofs.TableLines.{parts_of}
-use Rattle.amx_text.proofs.FileLaws.{addresses_placed, file_by, listed_of_lines}
+use Rattle.amx_text.proofs.FileLaws.{addresses_placed, file_by, header_counts}
+use Rattle.amx_text.proofs.FileLaws.{listed_of_lines}
 use Rattle.amx_text.proofs.GatherLaws.{amx_put}
 use Rattle.amx_text.proofs.FinishLaws.{faults_are}
 
@@ -122,34 +122,14 @@ valid_by : (o : Option Fault) (f : Fault → ℕ)
 valid_by None f e = refl
 valid_by (Some x) f e = absurd (let no : ⊥ = cc in no)
 
-pub counted : (a b : Bool) (x y : AsmFault) → (if a then (if b then None else Some x) else Some y) ≡ None
-    → (a ≡ true) × (b ≡ true)
-counted true true x y e = (refl, refl)
-counted true false x y e = absurd (let no : ⊥ = cc in no)
-counted false b x y e = absurd (let no : ⊥ = cc in no)
-
 assembled : (text : List ℕ) (it : Header) (others : List Line)
     → AreLines text (HeaderLine it ∷ others) → fault_of it (HeaderLine it ∷ others) ≡ None
     → IsAssembled text (amx_of it (HeaderLine it ∷ others))
 assembled text it others are e =
-    let lines : List Line = HeaderLine it ∷ others in
     let none = faultless it (HeaderLine it ∷ others) e in
-    let counts = counted (length (code_in (HeaderLine it ∷ others)) == it.code)
-    (length (store_in (HeaderLine it ∷ others)) == it.store)
-    (asm.Count (number_where is_end (HeaderLine it ∷ others)))
-    (asm.Count (number_where is_data (HeaderLine it ∷ others))) none.count in
-    let code : length (code_in (HeaderLine it ∷ others)) ≡ it.code =
-    eqb-true (length (code_in (HeaderLine it ∷ others))) it.code counts.0 in
-    let store : length (store_in (HeaderLine it ∷ others)) ≡ it.store =
-    eqb-true (length (store_in (HeaderLine it ∷ others))) it.store counts.1 in
-    let head : header_of (amx_of it (HeaderLine it ∷ others)) ≡ it = λ i. record {
-      flags = it.flags;
-      version = it.version;
-      code = code i;
-      store = store i;
-      room = it.room;
-      entry = it.entry;
-    } in
+    let counts = header_counts it (HeaderLine it ∷ others) none.count in
+    let head : header_of (amx_of it (HeaderLine it ∷ others)) ≡ it =
+    λ i. record it { code = counts.0 i; store = counts.1 i } in
     record {
       listed = listed_of_lines text it others are none.address none.count;
       within =

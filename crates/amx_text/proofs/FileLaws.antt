@@ -56,11 +56,22 @@ addresses_placed before (line ∷ lines) h =
     (one_more store_cells before line)
     ∙ addresses_placed (before ++ (line ∷ [])) lines both.1)
 
-counts_by : (a b : Bool) (x y : AsmFault)
+pub counted : (a b : Bool) (x y : AsmFault)
     → (if a then (if b then None else Some x) else Some y) ≡ None → (a ≡ true) × (b ≡ true)
-counts_by true true x y e = (refl, refl)
-counts_by true false x y e = absurd (let no : ⊥ = cc in no)
-counts_by false b x y e = absurd (let no : ⊥ = cc in no)
+counted true true x y e = (refl, refl)
+counted true false x y e = absurd (let no : ⊥ = cc in no)
+counted false b x y e = absurd (let no : ⊥ = cc in no)
+
+-- the header counts the cells of its lines
+pub header_counts : (it : Header) (lines : List Line) → count_fault it lines ≡ None
+    → (length (code_in lines) ≡ it.code) × (length (store_in lines) ≡ it.store)
+header_counts it lines e =
+    let both =
+    counted (length (code_in lines) == it.code) (length (store_in lines) == it.store)
+    (asm.Count (number_where is_end lines)) (asm.Count (number_where is_data lines)) e in (
+      eqb-true (length (code_in lines)) it.code both.0,
+      eqb-true (length (store_in lines)) it.store both.1,
+    )
 
 -- ---- fields of the lines
 
@@ -227,30 +238,16 @@ of_file it others tail counts =
     let amx = file_by it others parts in
     let lines : HeaderLine it ∷ others ≡ HeaderLine it ∷ lines_behind amx parts.its =
     ap (λ list. HeaderLine it ∷ list) parts.is in
-    let both =
-    counts_by (length (code_in (HeaderLine it ∷ others)) == it.code)
-    (length (store_in (HeaderLine it ∷ others)) == it.store)
-    (asm.Count (number_where is_end (HeaderLine it ∷ others)))
-    (asm.Count (number_where is_data (HeaderLine it ∷ others))) counts in
+    let both = header_counts it (HeaderLine it ∷ others) counts in
     let code : length amx.code ≡ it.code =
-    sym (ap length (ap code_in lines ∙ code_of_lines amx parts.its))
-    ∙ eqb-true (length (code_in (HeaderLine it ∷ others))) it.code both.0 in
+    sym (ap length (ap code_in lines ∙ code_of_lines amx parts.its)) ∙ both.0 in
     let store : length amx.store ≡ it.store =
-    sym (ap length (ap store_in lines ∙ store_of_lines amx parts.its))
-    ∙ eqb-true (length (store_in (HeaderLine it ∷ others))) it.store both.1 in
+    sym (ap length (ap store_in lines ∙ store_of_lines amx parts.its)) ∙ both.1 in
     record {
       amx = amx;
       its = parts.its;
       code = code_is_instructions.read parts.its parts.written;
-      header =
-          λ i. record {
-            flags = it.flags;
-            version = it.version;
-            code = code i;
-            store = store i;
-            room = it.room;
-            entry = it.entry;
-          };
+      header = λ i. record it { code = code i; store = store i };
       is = parts.is;
     }
 

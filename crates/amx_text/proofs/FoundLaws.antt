@@ -31,7 +31,8 @@ use Rattle.amx_text.specs.Faults.{is_within}
 use Rattle.amx_text.specs.Drafts.{header_by, limit_by, address_by, counts_by, lines_fault_by}
 use Rattle.amx_text.specs.Drafts.{invalid_by}
 use Rattle.amx_text.specs.Drafts.{fault_by, line_at, line_by, Finishes, Verifies, IsTold, IsSmall}
-use Rattle.amx_text.proofs.AssembleLaws.{or_none, within_by, counted}
+use Rattle.amx_text.proofs.AssembleLaws.{or_none, within_by}
+use Rattle.amx_text.proofs.FileLaws.{counted}
 
 -- ---- where the code begins
 

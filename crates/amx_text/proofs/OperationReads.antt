@@ -1,5 +1,5 @@
 -- An instruction's name and its row: what is spelled is read, and what is read is spelled.
-use Rattle.std.proofs.Common.{◌≡◌, ◌∙◌, ◌+◌, ◌==◌, ◌||◌, ◌++◌, ℕ, zero, suc, ℤ, pos, List, [], ◌∷◌}
+use Rattle.std.proofs.Common.{◌≡◌, ◌∙◌, ◌+◌, ◌==◌, ◌||◌, ◌++◌, ℕ, zero, suc, pos, List, [], ◌∷◌}
 use Rattle.std.proofs.Common.{Bool, true, false, cond, not, Option, None, Some, length, take, drop}
 use Rattle.std.proofs.Common.{map, refl, sym, ap, subst, arith, codes, nat_lt}
 use Rattle.std.proofs.Common.{take-append-drop, lt-ltb, length-append, ◌⊎◌, inl, inr}

@@ -1,5 +1,5 @@
 -- A line that is taken is put into the draft; where none is, none that may follow stands there.
-use Rattle.std.proofs.Common.{◌≡◌, ◌∙◌, ◌+◌, ◌<◌, ◌≤◌, ◌++◌, ℕ, ℤ, pos, List, [], ◌∷◌, Bool}
+use Rattle.std.proofs.Common.{◌≡◌, ◌∙◌, ◌+◌, ◌-◌, ◌<◌, ◌≤◌, ◌++◌, ℕ, ℤ, pos, List, [], ◌∷◌, Bool}
 use Rattle.std.proofs.Common.{true, false}
 use Rattle.std.proofs.Common.{Option, None, Some, Result, Ok, Err, length, drop, refl, sym, ap}
 use Rattle.std.proofs.Common.{subst, arith, ◌⊎◌, inl, inr}
@@ -220,6 +220,24 @@ pub record CodeRead (text : List ℕ) (at : ℕ) (old code : List ℤ) (number :
   pub first : pushed ≡ old ++ (pos number ∷ [])
   pub cells : PutsCells others pushed code rest
 
+-- it, where the number was put as a cell
+pub code_read : {text behind others : List ℕ} {at number : ℕ} {old pushed code : List ℤ}
+    {kind : Operand} {rest : Option (Bor (List ℕ))} {cell : ℤ}
+    → address_at text ≡ Some (at, behind)
+    → operation_at behind ≡ Some ((number, kind), others)
+    → pushed ≡ old ++ (to_z w32 (of_z w32 cell) ∷ []) → cell ≡ pos number → FitsSigned w32 cell
+    → PutsCells others pushed code rest → CodeRead text at old code number kind rest
+code_read {behind = behind} {others = others} {old = old} {pushed = pushed} {cell = cell} address
+    operation first is fits cells = record {
+      behind = behind;
+      others = others;
+      pushed = pushed;
+      address = address;
+      operation = operation;
+      first = first ∙ ap (λ z. old ++ (z ∷ [])) (to_z-of_z w32 cell fits ∙ is);
+      cells = cells;
+    }
+
 pub no_line_put : (text : List ℕ) (at : ℕ) (old code : List ℤ) (number : ℕ) (kind : Operand)
     → CodeRead text at old code number kind None → Nothing is_instruction text
 no_line_put text at old code number kind h =
@@ -295,34 +313,34 @@ no_row_line text at old store h =
     (no_row_end text at h.behind h.address h.cells.cells h.cells.end h.cells.whole h.cells.leaves)
 
 -- so many cells
-pub row_many : (text : List ℕ) (at count : ℕ) (old store : List ℤ) (rest : Option (Bor (List ℕ)))
-    → (h : RowRead text at old store rest) → length old + count ≡ length store
-    → length h.cells.cells ≡ count
-row_many text at count old store rest h size =
-    omega (arith, size, ap length h.cells.put, length-append old h.cells.cells)
+row_many : {text : List ℕ} {at before after : ℕ} {old store : List ℤ}
+    {rest : Option (Bor (List ℕ))} → (h : RowRead text at old store rest) → before ≡ length old
+    → after ≡ length store → length h.cells.cells ≡ after - before
+row_many {old = old} h start stop =
+    omega (arith, start, stop, ap length h.cells.put, length-append old h.cells.cells)
 
 -- one of two, where the second is told behind the first
 pub one_of : {A B N : Type 0} → A ⊎ (N × B) → A ⊎ B
 one_of (inl a) = inl a
 one_of (inr b) = inr b.1
 
-pub no_row_width : (text : List ℕ) (at count : ℕ) (old store : List ℤ)
-    (rest : Option (Bor (List ℕ))) → RowRead text at old store rest
-    → length old + count ≡ length store → (count ≡ 0) ⊎ (8 < count) → Nothing is_row text
-no_row_width text at count old store rest h size bad =
+pub no_row_width : (text : List ℕ) (at before after : ℕ) (old store : List ℤ)
+    (rest : Option (Bor (List ℕ))) → RowRead text at old store rest → before ≡ length old
+    → after ≡ length store → (after - before ≡ 0) ⊎ (8 < after - before) → Nothing is_row text
+no_row_width text at before after old store rest h start stop bad =
     no_row text
     (no_width text at h.behind h.address h.cells.cells h.cells.end h.cells.whole
-    (subst (λ n. (n ≡ 0) ⊎ (8 < n)) (sym (row_many text at count old store rest h size)) bad))
+    (subst (λ n. (n ≡ 0) ⊎ (8 < n)) (sym (row_many h start stop)) bad))
 
-pub row_put : (text : List ℕ) (rest : Bor (List ℕ)) (at before count : ℕ) (store : List ℤ)
-    (after : Last) (old mid new : Draft) → RowRead text at old.amx.store store (Some rest)
-    → before ≡ length old.amx.store → before + count ≡ length store → 1 ≤ count → count ≤ 8
+pub row_put : (text : List ℕ) (rest : Bor (List ℕ)) (at before after : ℕ) (store : List ℤ)
+    (last : Last) (old mid new : Draft) → RowRead text at old.amx.store store (Some rest)
+    → before ≡ length old.amx.store → after ≡ length store → 1 ≤ after - before
+    → after - before ≤ 8
     → mid ≡ placed_draft at before (record old { amx = record old.amx { store = store } })
-    → after ≡ row_last count → new ≡ ended after mid → TakesLine is_row text rest.now old new
-row_put text rest at before count store after old mid new h start size some few mid_is after_is
-    is =
-    let many : length h.cells.cells ≡ count =
-    row_many text at count old.amx.store store (Some rest) h (omega (arith, start, size)) in
+    → last ≡ row_last (after - before) → new ≡ ended last mid
+    → TakesLine is_row text rest.now old new
+row_put text rest at before after store last old mid new h start stop some few mid_is last_is is =
+    let many = row_many h start stop in
     let row =
     a_row text at h.behind h.address h.cells.cells h.cells.end h.cells.whole rest.now h.cells.leaves
     (omega (arith, many, some)) (omega (arith, many, few)) in
@@ -330,7 +348,7 @@ row_put text rest at before count store after old mid new h start size some few 
       line = CellsLine at h.cells.cells;
       begins = record { fits = row.fits; follows = refl; is = row.is };
       put =
-          is ∙ ap (λ (l : Last). ended l mid) (after_is ∙ ap row_last (sym many))
+          is ∙ ap (λ (l : Last). ended l mid) (last_is ∙ ap row_last (sym many))
           ∙ ap (λ (d : Draft). ended (row_last (length h.cells.cells)) d) (mid_is
           ∙ ap (λ n. placed_draft at n (record old { amx = record old.amx { store = store } }))
           start

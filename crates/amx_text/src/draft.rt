@@ -16,6 +16,9 @@ use amx_ops::{Amx, Record};
 use pawn_base::{Cells, List, Memory, Names};
 use std::alloc::Global;
 
+/// What stands behind a line that was taken, or nothing where none was, or want of memory.
+pub type Taken<'t> = Result<Option<&'t [u8]>, Memory>;
+
 /// What was read of a text so far, line by line.
 #[derive(Debug, Drop)]
 pub struct Draft {
@@ -55,12 +58,7 @@ impl Draft {
 
     /// Takes the line with which a text begins, and tells what stands behind it; or nothing, where
     /// no line begins it that may follow the last one.
-    pub fn take<'t>(
-        &mut self,
-        alloc: Global,
-        names: &Names,
-        text: &'t [u8],
-    ) -> Result<Option<&'t [u8]>, Memory>
+    pub fn take<'t>(&mut self, alloc: Global, names: &Names, text: &'t [u8]) -> Taken<'t>
         requires names { names.now ≡ names_of }
         requires room { self.old.lines + 1 < 2 ^ 63 }
         ensures line { Takes (follows self.old.last) text.now self.old self.new result }
@@ -94,12 +92,7 @@ impl Draft {
     }
 
     /// The line before the code, or a record of this table or of a later one.
-    fn take_table_line<'t>(
-        &mut self,
-        alloc: Global,
-        from: Kind,
-        text: &'t [u8],
-    ) -> Result<Option<&'t [u8]>, Memory>
+    fn take_table_line<'t>(&mut self, alloc: Global, from: Kind, text: &'t [u8]) -> Taken<'t>
         requires { self.old.lines + 1 < 2 ^ 63 }
         ensures { Takes (follows (last.Tables from)) text.now self.old self.new result }
     {
@@ -111,12 +104,7 @@ impl Draft {
         self.take_record(alloc, from, text)
     }
 
-    fn take_record<'t>(
-        &mut self,
-        alloc: Global,
-        from: Kind,
-        text: &'t [u8],
-    ) -> Result<Option<&'t [u8]>, Memory>
+    fn take_record<'t>(&mut self, alloc: Global, from: Kind, text: &'t [u8]) -> Taken<'t>
         requires { self.old.lines + 1 < 2 ^ 63 }
         ensures { Takes (is_record from) text.now self.old self.new result }
     {
@@ -144,11 +132,7 @@ impl Draft {
     }
 
     /// The line before the data, or an instruction.
-    fn take_code_line<'t>(
-        &mut self,
-        names: &Names,
-        text: &'t [u8],
-    ) -> Result<Option<&'t [u8]>, Memory>
+    fn take_code_line<'t>(&mut self, names: &Names, text: &'t [u8]) -> Taken<'t>
         requires names { names.now ≡ names_of }
         requires room { self.old.lines + 1 < 2 ^ 63 }
         ensures { Takes (follows last.Code) text.now self.old self.new result }
@@ -161,11 +145,7 @@ impl Draft {
         self.take_instruction(names, text)
     }
 
-    fn take_instruction<'t>(
-        &mut self,
-        names: &Names,
-        text: &'t [u8],
-    ) -> Result<Option<&'t [u8]>, Memory>
+    fn take_instruction<'t>(&mut self, names: &Names, text: &'t [u8]) -> Taken<'t>
         requires names { names.now ≡ names_of }
         requires room { self.old.lines + 1 < 2 ^ 63 }
         ensures { Takes is_instruction text.now self.old self.new result }
@@ -191,7 +171,7 @@ impl Draft {
     }
 
     /// The last line, or a row of cells.
-    fn take_data_line<'t>(&mut self, text: &'t [u8]) -> Result<Option<&'t [u8]>, Memory>
+    fn take_data_line<'t>(&mut self, text: &'t [u8]) -> Taken<'t>
         requires { self.old.lines + 1 < 2 ^ 63 }
         ensures { Takes (follows last.Data) text.now self.old self.new result }
     {
@@ -202,7 +182,7 @@ impl Draft {
         self.take_row(text)
     }
 
-    fn take_row<'t>(&mut self, text: &'t [u8]) -> Result<Option<&'t [u8]>, Memory>
+    fn take_row<'t>(&mut self, text: &'t [u8]) -> Taken<'t>
         requires { self.old.lines + 1 < 2 ^ 63 }
         ensures { Takes is_row text.now self.old self.new result }
     {

@@ -1,12 +1,12 @@
-use Rattle.std.proofs.Common.{◌∙◌, ◌+◌, ◌++◌, ◌∷◌, [], drop, length, length-append, arith}
+use Rattle.std.proofs.Common.{◌∙◌, ◌+◌, ◌∷◌, [], drop, length, length-append, arith}
 use Rattle.std.proofs.Common.{refl, sym, ap, subst}
 use Rattle.std.proofs.Common.{FitsSigned, w32, to_z, of_z, rules, Some}
-use Rattle.std.proofs.lemmas.Int.{to_z-of_z}
 use Rattle.std.proofs.lemmas.Result.{err_from_is_err_and}
 use Rattle.amx_text.specs.Readers.{has_operands}
 use Rattle.amx_text.proofs.CodeReads.{no_start, no_operation}
 use Rattle.amx_text.proofs.TakeLaws.{no_instruction}
-use Rattle.amx_text.proofs.PutLaws.{no_line_put, no_operands_put, instruction_put}
+use Rattle.amx_text.proofs.PutLaws.{code_read, no_line_put, no_operands_put}
+use Rattle.amx_text.proofs.PutLaws.{instruction_put}
 use Rattle.amx_text.proofs.draft.Draft.take_instruction.Goals as goal
 
 pub returns-in_default : goal.returns-in_default
@@ -52,18 +52,8 @@ returns-in_default-2 c =
       none =
           no_line_put c.args.text.now c.in-Some.address c.args.self.now.amx.code
           c.read_cells.new.cells c.in-Some-operation_at.number c.in-Some-operation_at.operand
-          (record {
-            behind = c.in-Some.rest.now;
-            others = c.in-Some-operation_at.rest.now;
-            pushed = c.push.new.self;
-            address = c.in-Some.ensures;
-            operation = c.in-Some-operation_at.ensures;
-            first =
-                c.in_ok-push.ensures.ok
-                ∙ ap (λ z. c.args.self.now.amx.code ++ (z ∷ []))
-                (to_z-of_z w32 c.from.result fits ∙ c.from.ensures);
-            cells = cells;
-          });
+          (code_read c.in-Some.ensures c.in-Some-operation_at.ensures
+          c.in_ok-push.ensures.ok c.from.ensures fits cells);
       lines = refl;
       last = refl;
     }
@@ -90,18 +80,8 @@ returns-then-not-has_operands c =
       none =
           no_operands_put c.args.text.now c.in-Some.address c.len-before.result
           c.args.self.now.amx.code c.read_cells.new.cells c.in-Some-operation_at.number kind
-          (Some c.in-Some-2.rest) (record {
-            behind = c.in-Some.rest.now;
-            others = c.in-Some-operation_at.rest.now;
-            pushed = c.push.new.self;
-            address = c.in-Some.ensures;
-            operation = c.in-Some-operation_at.ensures;
-            first =
-                c.in_ok-push.ensures.ok
-                ∙ ap (λ z. c.args.self.now.amx.code ++ (z ∷ []))
-                (to_z-of_z w32 c.from.result fits ∙ c.from.ensures);
-            cells = cells;
-          }) c.len-before.ensures
+          (Some c.in-Some-2.rest) (code_read c.in-Some.ensures c.in-Some-operation_at.ensures
+          c.in_ok-push.ensures.ok c.from.ensures fits cells) c.len-before.ensures
           (ap (λ cs. has_operands kind (drop (c.len-before.result + 1) cs))
           (sym c.as_slice.ensures.cells)
           ∙ ap (has_operands kind) (sym c.cells_behind.ensures)
@@ -117,18 +97,9 @@ returns c =
     let kind = c.in-Some-operation_at.operand in
     instruction_put c.args.text.now c.in-Some-2.rest c.in-Some.address c.len-before.result
     c.read_cells.new.cells c.push-2.new.self c.in-Some-operation_at.number kind c.args.self.now
-    c.place.new.self _ (record {
-      behind = c.in-Some.rest.now;
-      others = c.in-Some-operation_at.rest.now;
-      pushed = c.push.new.self;
-      address = c.in-Some.ensures;
-      operation = c.in-Some-operation_at.ensures;
-      first =
-          c.in_ok-push.ensures.ok
-          ∙ ap (λ z. c.args.self.now.amx.code ++ (z ∷ []))
-          (to_z-of_z w32 c.from.result fits ∙ c.from.ensures);
-      cells = cells;
-    }) c.len-before.ensures (subst (FitsSigned w32) c.from.ensures fits)
+    c.place.new.self _ (code_read c.in-Some.ensures c.in-Some-operation_at.ensures
+    c.in_ok-push.ensures.ok c.from.ensures fits cells) c.len-before.ensures
+    (subst (FitsSigned w32) c.from.ensures fits)
     (ap (λ cs. has_operands kind (drop (c.len-before.result + 1) cs))
     (sym c.as_slice.ensures.cells)
     ∙ ap (has_operands kind) (sym c.cells_behind.ensures)

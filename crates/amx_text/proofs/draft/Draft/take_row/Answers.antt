@@ -1,4 +1,4 @@
-use Rattle.std.proofs.Common.{◌≡◌, ◌+◌, ◌-◌, length, length-append, arith, refl, ap, Some}
+use Rattle.std.proofs.Common.{length, length-append, arith, refl, ap, Some}
 use Rattle.std.proofs.lemmas.Result.{err_from_is_err_and}
 use Rattle.amx_text.proofs.CodeReads.{no_row_start}
 use Rattle.amx_text.proofs.TakeLaws.{no_row}
@@ -45,24 +45,14 @@ overflow_sub-count c =
 pub returns-then-count-eq0 : goal.returns-then-count-eq0
 returns-then-count-eq0 c =
     let cells = rw c.in-Some-2.is at c.in_ok-rest.ensures in
-    let old = c.args.self.now.amx.store in
-    let new = c.read_cells.new.cells in
-    let size : length old + (c.len.result - c.len-before.result) ≡ length new =
-    omega (
-      arith,
-      c.len-before.ensures,
-      c.len.ensures,
-      ap length cells.put,
-      length-append old cells.cells,
-    ) in
     record {
       none =
-          no_row_width c.args.text.now c.in-Some.address (c.len.result - c.len-before.result) old
-          new (Some c.in-Some-2.rest) (record {
+          no_row_width c.args.text.now c.in-Some.address c.len-before.result c.len.result
+          c.args.self.now.amx.store c.read_cells.new.cells (Some c.in-Some-2.rest) (record {
             behind = c.in-Some.rest.now;
             address = c.in-Some.ensures;
             cells = cells;
-          }) size (one_of c.then-count-eq0.either);
+          }) c.len-before.ensures c.len.ensures (one_of c.then-count-eq0.either);
       lines = refl;
       last = refl;
     }
@@ -70,19 +60,8 @@ returns-then-count-eq0 c =
 pub returns : goal.returns
 returns c =
     let cells = rw c.in-Some-2.is at c.in_ok-rest.ensures in
-    let old = c.args.self.now.amx.store in
-    let new = c.read_cells.new.cells in
-    let count = c.len.result - c.len-before.result in
-    let size : c.len-before.result + (c.len.result - c.len-before.result) ≡ length new =
-    omega (
-      arith,
-      c.len-before.ensures,
-      c.len.ensures,
-      ap length cells.put,
-      length-append old cells.cells,
-    ) in
-    row_put c.args.text.now c.in-Some-2.rest c.in-Some.address c.len-before.result
-    (c.len.result - c.len-before.result) new c.row_last.result c.args.self.now c.place.new.self _
+    row_put c.args.text.now c.in-Some-2.rest c.in-Some.address c.len-before.result c.len.result
+    c.read_cells.new.cells c.row_last.result c.args.self.now c.place.new.self _
     (record { behind = c.in-Some.rest.now; address = c.in-Some.ensures; cells = cells })
-    c.len-before.ensures size (omega (arith, c.if-count-eq0.false)) c.if-count-gt-WIDTH.false
-    c.place.ensures c.row_last.ensures c.end_line.ensures
+    c.len-before.ensures c.len.ensures (omega (arith, c.if-count-eq0.false))
+    c.if-count-gt-WIDTH.false c.place.ensures c.row_last.ensures c.end_line.ensures
