@@ -24,21 +24,34 @@ fn sum(alloc: Global) -> Result<Box<Expr>, Fail> {
     Ok(Box::new(alloc, both)?)
 }
 
-/// An index comes first, then its test, and then an instruction sets the array's address.
-#[test]
-fn read_elements(rt: HostRuntime) -> Result<(), Fail> {
-    let alloc = rt.alloc();
-    let line = Expr::Read(of_line(alloc)?);
-    let wanted = [
+/// The index that is the first parameter, its test, and the address of the array of three cells;
+/// then what is done with both, and what stands behind that.
+fn indexed(alloc: Global, op: Op, tail: &[i32]) -> Result<List<i32>, Fail> {
+    let mut wanted = List::new(alloc);
+    for cell in [
         n(Op::LoadSPri),
         12,
         n(Op::Bounds),
         2,
         n(Op::LoadSAlt),
         20,
-        n(Op::Lidx),
-    ];
-    assert!(rt; is_code(alloc, line, &wanted)?);
+        n(op),
+    ] {
+        wanted.push(cell)?;
+    }
+    for cell in tail {
+        wanted.push(*cell)?;
+    }
+    Ok(wanted)
+}
+
+/// An index comes first, then its test, and then an instruction sets the array's address.
+#[test]
+fn read_elements(rt: HostRuntime) -> Result<(), Fail> {
+    let alloc = rt.alloc();
+    let line = Expr::Read(of_line(alloc)?);
+    let wanted = indexed(alloc, Op::Lidx, &[])?;
+    assert!(rt; is_code(alloc, line, wanted.as_slice())?);
     let object = Expr::Read(element(alloc, Array::Object(0))?);
     let wanted = [n(Op::LoadSPri), 12, n(Op::ConstAlt), 0, n(Op::Lidx)];
     assert!(rt; is_code(alloc, object, &wanted)?);
@@ -105,14 +118,7 @@ fn read_rows(rt: HostRuntime) -> Result<(), Fail> {
 fn assigned_elements(rt: HostRuntime) -> Result<(), Fail> {
     let alloc = rt.alloc();
     let assigned = Expr::Assign(of_line(alloc)?, sum(alloc)?);
-    let wanted = [
-        n(Op::LoadSPri),
-        12,
-        n(Op::Bounds),
-        2,
-        n(Op::LoadSAlt),
-        20,
-        n(Op::Idxaddr),
+    let tail = [
         n(Op::PushPri),
         n(Op::LoadSPri),
         12,
@@ -121,7 +127,8 @@ fn assigned_elements(rt: HostRuntime) -> Result<(), Fail> {
         n(Op::PopAlt),
         n(Op::StorI),
     ];
-    assert!(rt; is_code(alloc, assigned, &wanted)?);
+    let wanted = indexed(alloc, Op::Idxaddr, &tail)?;
+    assert!(rt; is_code(alloc, assigned, wanted.as_slice())?);
     Ok(())
 }
 
@@ -132,17 +139,8 @@ fn unused_steps_of_elements(rt: HostRuntime) -> Result<(), Fail> {
     let alloc = rt.alloc();
     for (delta, op) in [(1, Op::IncI), (-1, Op::DecI)] {
         let step = Expr::Step(of_line(alloc)?, delta, false);
-        let wanted = [
-            n(Op::LoadSPri),
-            12,
-            n(Op::Bounds),
-            2,
-            n(Op::LoadSAlt),
-            20,
-            n(Op::Idxaddr),
-            n(op),
-        ];
-        assert!(rt; is_effect(alloc, step, &wanted)?);
+        let wanted = indexed(alloc, Op::Idxaddr, &[n(op)])?;
+        assert!(rt; is_effect(alloc, step, wanted.as_slice())?);
     }
     let object = Box::new(alloc, Array::Object(0))?;
     let character = Expr::Step(Scalar::Char(object, one(alloc)?), 1, false);
@@ -166,38 +164,17 @@ fn unused_steps_of_elements(rt: HostRuntime) -> Result<(), Fail> {
     Ok(())
 }
 
-/// The address of an element whose index is the first parameter, in the array of three cells, and
-/// what stands behind it.
-fn behind_address(alloc: Global, tail: &[i32]) -> Result<List<i32>, Fail> {
-    let mut wanted = List::new(alloc);
-    for cell in [
-        n(Op::LoadSPri),
-        12,
-        n(Op::Bounds),
-        2,
-        n(Op::LoadSAlt),
-        20,
-        n(Op::Idxaddr),
-    ] {
-        wanted.push(cell)?;
-    }
-    for cell in tail {
-        wanted.push(*cell)?;
-    }
-    Ok(wanted)
-}
-
 /// A value that is known or stands at a direct place is stored with no push.
 #[test]
 fn quiet_values(rt: HostRuntime) -> Result<(), Fail> {
     let alloc = rt.alloc();
     let known = Expr::Assign(of_line(alloc)?, constant(alloc, 5)?);
     let tail = [n(Op::MoveAlt), n(Op::ConstPri), 5, n(Op::StorI)];
-    let wanted = behind_address(alloc, &tail)?;
+    let wanted = indexed(alloc, Op::Idxaddr, &tail)?;
     assert!(rt; is_code(alloc, known, wanted.as_slice())?);
     let placed = Expr::Assign(of_line(alloc)?, one(alloc)?);
     let tail = [n(Op::MoveAlt), n(Op::LoadSPri), 12, n(Op::StorI)];
-    let wanted = behind_address(alloc, &tail)?;
+    let wanted = indexed(alloc, Op::Idxaddr, &tail)?;
     assert!(rt; is_code(alloc, placed, wanted.as_slice())?);
     Ok(())
 }
@@ -209,7 +186,7 @@ fn updated_by_known_ones(rt: HostRuntime) -> Result<(), Fail> {
     let alloc = rt.alloc();
     let sum = Expr::Update(of_line(alloc)?, Operator::Add, constant(alloc, 2)?);
     let tail = [n(Op::MoveAlt), n(Op::LoadI), n(Op::AddC), 2, n(Op::StorI)];
-    let wanted = behind_address(alloc, &tail)?;
+    let wanted = indexed(alloc, Op::Idxaddr, &tail)?;
     assert!(rt; is_code(alloc, sum, wanted.as_slice())?);
     let quotient = Expr::Update(of_line(alloc)?, Operator::Divide, constant(alloc, 2)?);
     let tail = [
@@ -221,7 +198,7 @@ fn updated_by_known_ones(rt: HostRuntime) -> Result<(), Fail> {
         n(Op::PopAlt),
         n(Op::StorI),
     ];
-    let wanted = behind_address(alloc, &tail)?;
+    let wanted = indexed(alloc, Op::Idxaddr, &tail)?;
     assert!(rt; is_code(alloc, quotient, wanted.as_slice())?);
     Ok(())
 }
@@ -241,7 +218,7 @@ fn updated_by_others(rt: HostRuntime) -> Result<(), Fail> {
         n(Op::PopAlt),
         n(Op::StorI),
     ];
-    let wanted = behind_address(alloc, &tail)?;
+    let wanted = indexed(alloc, Op::Idxaddr, &tail)?;
     assert!(rt; is_code(alloc, placed, wanted.as_slice())?);
     let made = Expr::Update(of_line(alloc)?, Operator::Subtract, sum(alloc)?);
     let tail = [
@@ -258,7 +235,7 @@ fn updated_by_others(rt: HostRuntime) -> Result<(), Fail> {
         n(Op::PopAlt),
         n(Op::StorI),
     ];
-    let wanted = behind_address(alloc, &tail)?;
+    let wanted = indexed(alloc, Op::Idxaddr, &tail)?;
     assert!(rt; is_code(alloc, made, wanted.as_slice())?);
     let direct = Expr::Update(Scalar::Slot(0), Operator::Add, constant(alloc, 2)?);
     let wanted = [n(Op::LoadSPri), 12, n(Op::AddC), 2, n(Op::StorSPri), 12];
